@@ -7,7 +7,7 @@ use Rattle.std.proofs.lemmas.List.Elements.{All-head, All-tail}
 use Rattle.capture_reader.specs.declared.fault.CaptureField.{CaptureField}
 use Rattle.capture_reader.specs.declared.fault.CaptureField.TheVariants.{HeadCut}
 use Rattle.capture_reader.specs.declared.fault.CaptureFault.{CaptureFault}
-use Rattle.capture_reader.specs.Front.{Front, Packet, Wrong, Cut, Begins, Other, Af, Pft, IsWhole}
+use Rattle.capture_reader.specs.Front.{Front, Packet, Wrong, Cut, BytesBegin, Other, Af, Pft, IsWhole}
 use Rattle.capture_reader.specs.Capture.{Ending, End, Fault, TooLong, EndsWith, IsCaptureOf, most_bytes}
 use Rattle.capture_reader.specs.Laws.{ReadOneWay}
 use Rattle.capture_reader.proofs.FrontLaws.{one_front, packet_in_front, packet_alone, packet_size}
@@ -21,26 +21,26 @@ pub record Behind (at : ℕ) (bytes : List ℕ) (packets : List (List ℕ)) (end
   pub ends : EndsWith (at + length bytes) (at + length (concat packets)) rest ending
 
 -- no bytes begin neither wrongly nor with a packet
-pub none_begin : Begins [] (Cut HeadCut)
+pub none_begin : BytesBegin [] (Cut HeadCut)
 none_begin = Other (λ e. cc) (λ e. cc) (inl refl)
 
 -- what begins wrongly, with a packet, or is cut, is one of these alone
-wrong_cut : (bytes : List ℕ) (f g : CaptureField) → Begins bytes (Wrong f) → Begins bytes (Cut g) → ⊥
+wrong_cut : (bytes : List ℕ) (f g : CaptureField) → BytesBegin bytes (Wrong f) → BytesBegin bytes (Cut g) → ⊥
 wrong_cut bytes f g a b = let e : Wrong f ≡ Cut g = one_front bytes (Wrong f) (Cut g) a b in cc
 
-packet_wrong : (bytes : List ℕ) (n : ℕ) (g : CaptureField) → Begins bytes (Packet n) → Begins bytes (Wrong g) → ⊥
+packet_wrong : (bytes : List ℕ) (n : ℕ) (g : CaptureField) → BytesBegin bytes (Packet n) → BytesBegin bytes (Wrong g) → ⊥
 packet_wrong bytes n g a b = let e : Packet n ≡ Wrong g = one_front bytes (Packet n) (Wrong g) a b in cc
 
-packet_cut : (bytes : List ℕ) (n : ℕ) (g : CaptureField) → Begins bytes (Packet n) → Begins bytes (Cut g) → ⊥
+packet_cut : (bytes : List ℕ) (n : ℕ) (g : CaptureField) → BytesBegin bytes (Packet n) → BytesBegin bytes (Cut g) → ⊥
 packet_cut bytes n g a b = let e : Packet n ≡ Cut g = one_front bytes (Packet n) (Cut g) a b in cc
 
-same_wrong : (bytes : List ℕ) (f g : CaptureField) → Begins bytes (Wrong f) → Begins bytes (Wrong g) → f ≡ g
+same_wrong : (bytes : List ℕ) (f g : CaptureField) → BytesBegin bytes (Wrong f) → BytesBegin bytes (Wrong g) → f ≡ g
 same_wrong bytes f g a b = let e : Wrong f ≡ Wrong g = one_front bytes (Wrong f) (Wrong g) a b in cc
 
-same_cut : (bytes : List ℕ) (f g : CaptureField) → Begins bytes (Cut f) → Begins bytes (Cut g) → f ≡ g
+same_cut : (bytes : List ℕ) (f g : CaptureField) → BytesBegin bytes (Cut f) → BytesBegin bytes (Cut g) → f ≡ g
 same_cut bytes f g a b = let e : Cut f ≡ Cut g = one_front bytes (Cut f) (Cut g) a b in cc
 
-same_packet : (bytes : List ℕ) (m n : ℕ) → Begins bytes (Packet m) → Begins bytes (Packet n) → m ≡ n
+same_packet : (bytes : List ℕ) (m n : ℕ) → BytesBegin bytes (Packet m) → BytesBegin bytes (Packet n) → m ≡ n
 same_packet bytes m n a b = let e : Packet m ≡ Packet n = one_front bytes (Packet m) (Packet n) a b in cc
 
 -- all that is left lies among the bytes that are looked at
@@ -53,7 +53,7 @@ fault_with f g at a b same = ap₂ (λ (n : ℕ) (field : CaptureField). Fault (
 ended : (size at : ℕ) (rest : List ℕ) (f : CaptureFault) → EndsWith size at rest End → EndsWith size at rest (Fault f) → ⊥
 ended size at rest f a b = elim b.1 [
   | inl wrong ↦
-      let P : List ℕ → Type 0 = λ l. Begins l (Wrong f.field) in
+      let P : List ℕ → Type 0 = λ l. BytesBegin l (Wrong f.field) in
       wrong_cut [] f.field HeadCut (subst P (ap (λ l. take (most_bytes - at) l) a.0 ∙ take_all (most_bytes - at) [] (omega arith)) wrong) none_begin
   | inr cut ↦ cut.1 a.0
 ]
@@ -65,11 +65,11 @@ too_long size at rest f a b = elim b.1 [
 ]
 
 abbrev IsFaulty : ℕ → ℕ → List ℕ → CaptureField → Type 0
-IsFaulty size at rest field = Begins (take (most_bytes - at) rest) (Wrong field) ⊎ ((size ≤ most_bytes) × (rest ≢ []) × Begins rest (Cut field))
+IsFaulty size at rest field = BytesBegin (take (most_bytes - at) rest) (Wrong field) ⊎ ((size ≤ most_bytes) × (rest ≢ []) × BytesBegin rest (Cut field))
 
-wrong_and_cut : (size at : ℕ) (rest : List ℕ) (f g : CaptureField) → size ≡ at + length rest → Begins (take (most_bytes - at) rest) (Wrong f) → (size ≤ most_bytes) × (rest ≢ []) × Begins rest (Cut g) → ⊥
+wrong_and_cut : (size at : ℕ) (rest : List ℕ) (f g : CaptureField) → size ≡ at + length rest → BytesBegin (take (most_bytes - at) rest) (Wrong f) → (size ≤ most_bytes) × (rest ≢ []) × BytesBegin rest (Cut g) → ⊥
 wrong_and_cut size at rest f g is a b =
-    let P : List ℕ → Type 0 = λ l. Begins l (Wrong f) in
+    let P : List ℕ → Type 0 = λ l. BytesBegin l (Wrong f) in
     wrong_cut rest f g (subst P (looked_at size at rest is b.0) a) b.2
 
 same_fields : (size at : ℕ) (rest : List ℕ) (f g : CaptureField) → size ≡ at + length rest → IsFaulty size at rest f → IsFaulty size at rest g → f ≡ g
@@ -91,7 +91,7 @@ one_ending size at rest (Fault f) TooLong is a b = absurd (too_long size at rest
 one_ending size at rest (Fault f) (Fault g) is a b = fault_with f g at a.0 b.0 (same_fields size at rest f.field g.field is a.1 b.1)
 
 -- no ending where a packet is
-no_ending : (size at n : ℕ) (rest : List ℕ) (e : Ending) → at + n ≤ most_bytes → Begins rest (Packet n) → EndsWith size at rest e → ⊥
+no_ending : (size at n : ℕ) (rest : List ℕ) (e : Ending) → at + n ≤ most_bytes → BytesBegin rest (Packet n) → EndsWith size at rest e → ⊥
 no_ending size at n rest End few packet ends =
     let some = packet_size rest n packet in
     omega (arith, some.0, some.2, ap length ends.0)
@@ -106,13 +106,13 @@ no_ending size at n rest TooLong few packet ends =
     packet_cut (take (most_bytes - at) rest) n ends.1.0 front ends.1.1
 
 -- the first packet is at the front
-first_packet : (at : ℕ) (bytes p : List ℕ) (ps : List (List ℕ)) (e : Ending) → Behind at bytes (p ∷ ps) e → Begins bytes (Packet (length p)) × (at + length p ≤ most_bytes) × (bytes ≡ p ++ drop (length p) bytes) × Behind (at + length p) (drop (length p) bytes) ps e
+first_packet : (at : ℕ) (bytes p : List ℕ) (ps : List (List ℕ)) (e : Ending) → Behind at bytes (p ∷ ps) e → BytesBegin bytes (Packet (length p)) × (at + length p ≤ most_bytes) × (bytes ≡ p ++ drop (length p) bytes) × Behind (at + length p) (drop (length p) bytes) ps e
 first_packet at bytes p ps e b =
     let is : bytes ≡ p ++ (concat ps ++ b.rest) = b.is ∙ append_assoc p (concat ps) b.rest in
     let front : take (length p) bytes ≡ p = ap (λ l. take (length p) l) is ∙ take_at p (concat ps ++ b.rest) (length p) refl in
     let behind : drop (length p) bytes ≡ concat ps ++ b.rest = ap (λ l. drop (length p) l) is ∙ drop_at p (concat ps ++ b.rest) (length p) refl in
     let few : at + (length p + length (concat ps)) ≤ most_bytes = omega (arith, b.few, length-append p (concat ps)) in
-    let P : List ℕ → Type 0 = λ l. Begins l (Packet (length p)) in
+    let P : List ℕ → Type 0 = λ l. BytesBegin l (Packet (length p)) in
     let place : at + length (p ++ concat ps) ≡ at + length p + length (concat ps) = omega (arith, length-append p (concat ps)) in
     let size : at + length bytes ≡ at + length p + length (drop (length p) bytes) = omega (arith, ap length is, ap length behind, length-append p (concat ps ++ b.rest)) in
     let Q : ℕ → Type 0 = λ n. EndsWith n (at + length (p ++ concat ps)) b.rest e in

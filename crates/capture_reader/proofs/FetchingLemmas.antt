@@ -1,15 +1,15 @@
 -- One read of an input.
 use Rattle.std.proofs.Common.{◌≡◌, ℕ, ◌+◌, ◌-◌, ◌<◌, ◌≤◌, List, ◌++◌, length, take, min, max, Err, sym, subst, ap, ◌∙◌, arith, append_assoc, length-append}
 use Rattle.std.proofs.lemmas.List.{take-take, take_all, take-append-le, length-take-le}
-use Rattle.drm_links.specs.Told.{Known, WhileTold, CountsCall}
-use Rattle.drm_links.specs.Source.{Input, Takes}
+use Rattle.drm_links.specs.Told.{Known, IfBothKnown, CountsCall}
+use Rattle.drm_links.specs.Source.{Input, SourceTakes}
 use Rattle.drm_links.specs.declared.source.ReadOut.TheVariants.{Got}
 use Rattle.drm_links.proofs.ToldLemmas.{Inputs-got, Inputs-then, Inputs-weaker}
 use Rattle.capture_reader.specs.Capture.{most_bytes}
 use Rattle.capture_reader.specs.Walking.{WalkerState, IsCut, after_put}
 use Rattle.capture_reader.specs.declared.packets.CaptureStop.{CaptureStop}
 use Rattle.capture_reader.specs.declared.packets.CaptureStop.TheVariants as stop
-use Rattle.capture_reader.specs.Fetching.{Fetched, IsFull, Fetches, Finds}
+use Rattle.capture_reader.specs.Fetching.{Fetched, IsFull, FetchesBytes, FindsPacket}
 use Rattle.capture_reader.proofs.FrontLaws.{cut_size}
 
 -- the front of a room that was written
@@ -20,7 +20,7 @@ front_same n len lent buf more is low short = ap (λ l. take n l) is ∙ (take-t
 pub fetch_got : (old new : WalkerState) (a b : Known Input) (n put left : ℕ) (buf lent : List ℕ) → IsCut old → old.at + length old.held + left ≡ most_bytes
     → 0 < n → n ≤ length buf → n ≤ 65536 → n ≤ max left 1 → (left ≡ 0 → ⊥) → take n lent ≡ take n buf → b.faults ≡ a.faults
     → put ≡ min (length (take n lent)) (131072 - length old.held) → new ≡ after_put (take put (take n lent)) old
-    → WhileTold a b (Takes (Got n) buf) → CountsCall (λ (i : Input). i.calls) a b
+    → IfBothKnown a b (SourceTakes (Got n) buf) → CountsCall (λ (i : Input). i.calls) a b
     → Fetched old new a b × (length old.held < length new.held)
 fetch_got old new a b n put left buf lent cut size some whole room few more same still count is told counts =
     let long : length (take n buf) ≡ n = length-take-le n buf whole in
@@ -42,7 +42,7 @@ fetch_got old new a b n put left buf lent cut size some whole room few more same
 
 -- bytes came, and there is no place for them in a capture
 pub fetch_long : (old new : WalkerState) (a b : Known Input) (n taken : ℕ) (buf : List ℕ) → new ≡ old → taken ≡ new.at + length new.held → most_bytes - taken ≡ 0 → new.at + length new.held ≤ most_bytes
-    → 0 < n → n ≤ length buf → b.faults ≡ a.faults → WhileTold a b (Takes (Got n) buf) → CountsCall (λ (i : Input). i.calls) a b
+    → 0 < n → n ≤ length buf → b.faults ≡ a.faults → IfBothKnown a b (SourceTakes (Got n) buf) → CountsCall (λ (i : Input). i.calls) a b
     → (new ≡ old) × IsFull old new a b
 fetch_long old new a b n taken buf same count none few some whole still told counts =
     let long : length (take n buf) ≡ n = length-take-le n buf whole in (
@@ -76,7 +76,7 @@ full_then old mid new a b c first second = record {
 }
 
 -- the last one fails
-pub finds_broken : (old mid new : WalkerState) (a b c : Known Input) (why : CaptureStop) → Fetched old mid a b → IsCut mid → Fetches (Err why) mid new b c → Finds (Err why) old new a c
+pub finds_broken : (old mid new : WalkerState) (a b c : Known Input) (why : CaptureStop) → Fetched old mid a b → IsCut mid → FetchesBytes (Err why) mid new b c → FindsPacket (Err why) old new a c
 finds_broken old mid new a b c stop.Read first cut (same, second) = (fetched_then old mid new a b c first second, subst IsCut (sym same) cut)
 finds_broken old mid new a b c (stop.Capture fault) first cut never = absurd never
 finds_broken old mid new a b c stop.TooLong first cut (same, second) = (full_then old mid new a b c first second, subst IsCut (sym same) cut)

@@ -7,7 +7,7 @@ use Rattle.dcp_af.specs.Faults as af_head
 use Rattle.dcp_pft.specs.Faults.{head_size, checked_size, described, marks}
 use Rattle.capture_reader.specs.declared.fault.CaptureField.{CaptureField}
 use Rattle.capture_reader.specs.declared.fault.CaptureField.TheVariants.{Sync, HeadCrc, TooLarge, HeadCut, BodyCut}
-use Rattle.capture_reader.specs.Front.{Front, Packet, Wrong, Cut, AfFront, PftFront, OtherFront, Begins, Af, Pft, Other, IsWhole, fragment_size}
+use Rattle.capture_reader.specs.Front.{Front, Packet, Wrong, Cut, AfFront, PftFront, OtherFront, BytesBegin, Af, Pft, Other, IsWhole, fragment_size}
 use Rattle.capture_reader.specs.Laws.{OneFront}
 use Rattle.capture_reader.proofs.FrontParts.{range_part, size_part, same_head_in, checked_size_small, checked_size_least, check_part, check_whole, IsSameHead}
 
@@ -30,7 +30,7 @@ same_in bytes n whole =
     same_head_in bytes n low (omega (arith, whole, length-take n bytes, size_part bytes n low))
 
 -- a packet at the front of some of the bytes is one of all of them
-pub packet_in_front : (bytes : List ℕ) (n size : ℕ) → Begins (take n bytes) (Packet size) → Begins bytes (Packet size)
+pub packet_in_front : (bytes : List ℕ) (n size : ℕ) → BytesBegin (take n bytes) (Packet size) → BytesBegin bytes (Packet size)
 packet_in_front bytes n size (Af sync is) =
     let long : length (take n bytes) ≡ min n (length bytes) = length-take n bytes in
     Af (sym (two_part bytes n (omega (arith, is.0, long))) ∙ sync) (omega (arith, is.0, long), is.1 ∙ af_part bytes n (omega (arith, is.0, long)), is.2, omega (arith, is.3, long))
@@ -47,7 +47,7 @@ packet_in_front bytes n size (Pft sync is) =
 packet_in_front bytes n size (Other no_af no_pft is) = absurd is
 
 -- and what is wrong there stays wrong
-pub wrong_in_front : (bytes : List ℕ) (n : ℕ) (field : CaptureField) → Begins (take n bytes) (Wrong field) → Begins bytes (Wrong field)
+pub wrong_in_front : (bytes : List ℕ) (n : ℕ) (field : CaptureField) → BytesBegin (take n bytes) (Wrong field) → BytesBegin bytes (Wrong field)
 wrong_in_front bytes n Sync (Other no_af no_pft is) =
     let long : length (take n bytes) ≡ min n (length bytes) = length-take n bytes in
     let same : take 2 (take n bytes) ≡ take 2 bytes = two_part bytes n (omega (arith, is, long)) in
@@ -74,7 +74,7 @@ wrong_in_front bytes n BodyCut (Pft sync is) = absurd is
 wrong_in_front bytes n BodyCut (Other no_af no_pft is) = absurd is
 
 -- a packet needs no byte behind it
-pub packet_alone : (bytes : List ℕ) (n size : ℕ) → size ≤ n → Begins bytes (Packet size) → Begins (take n bytes) (Packet size)
+pub packet_alone : (bytes : List ℕ) (n size : ℕ) → size ≤ n → BytesBegin bytes (Packet size) → BytesBegin (take n bytes) (Packet size)
 packet_alone bytes n size within (Af sync is) =
     let long : length (take n bytes) ≡ min n (length bytes) = length-take n bytes in
     let low : 12 ≤ n = omega (arith, within, is.1) in
@@ -96,7 +96,7 @@ described_small : (bytes : List ℕ) → described bytes < 16384
 described_small bytes = omega arith
 
 -- how long packets are
-pub packet_size : (bytes : List ℕ) (size : ℕ) → Begins bytes (Packet size) → (12 ≤ size) × (size ≤ 65536) × (size ≤ length bytes)
+pub packet_size : (bytes : List ℕ) (size : ℕ) → BytesBegin bytes (Packet size) → (12 ≤ size) × (size ≤ 65536) × (size ≤ length bytes)
 packet_size bytes size (Af sync is) = (omega (arith, is.1), is.2, is.3)
 packet_size bytes size (Pft sync is) =
     (omega (arith, is.2, twelve bytes), omega (arith, is.2, checked_size_small bytes, described_small bytes), is.3)
@@ -108,7 +108,7 @@ half bytes (inr (inl one)) = omega (arith, ap length one)
 half bytes (inr (inr one)) = omega (arith, ap length one)
 
 -- and what is cut
-pub cut_size : (bytes : List ℕ) (field : CaptureField) → Begins bytes (Cut field) → length bytes < 65536
+pub cut_size : (bytes : List ℕ) (field : CaptureField) → BytesBegin bytes (Cut field) → length bytes < 65536
 cut_size bytes Sync (Other no_af no_pft is) = omega (arith, is.0)
 cut_size bytes HeadCut (Af sync is) = omega (arith, is)
 cut_size bytes HeadCut (Pft sync is) = omega (arith, is, checked_size_small bytes)

@@ -5,7 +5,7 @@ use Rattle.std.specs.List.{concat}
 use Rattle.std.proofs.lemmas.List.{append-nil, take-take, take_at, length-take-le, take-append-drop}
 use Rattle.std.proofs.lemmas.List.Elements.{All-push}
 use Rattle.std.proofs.lemmas.List.Folds.{concat-append}
-use Rattle.drm_links.specs.Told.{Known, ToldThrough}
+use Rattle.drm_links.specs.Told.{Known, Throughout}
 use Rattle.drm_links.specs.Source.{Input, Inputs, LeftBy}
 use Rattle.drm_links.proofs.ToldLemmas.{Inputs-then, Inputs-weaker, Inputs-both}
 use Rattle.capture_reader.specs.declared.fault.CaptureField.{CaptureField}
@@ -13,11 +13,11 @@ use Rattle.capture_reader.specs.declared.fault.CaptureFault.{CaptureFault}
 use Rattle.capture_reader.specs.declared.packet.Packet.{Packet as Given}
 use Rattle.capture_reader.specs.declared.packets.CaptureStop.{CaptureStop}
 use Rattle.capture_reader.specs.declared.packets.CaptureStop.TheVariants as stop
-use Rattle.capture_reader.specs.Front.{Packet, Wrong, Cut, Begins, IsWhole}
+use Rattle.capture_reader.specs.Front.{Packet, Wrong, Cut, BytesBegin, IsWhole}
 use Rattle.capture_reader.specs.Capture.{most_bytes, End, Fault, TooLong, EndsWith, IsCaptureOf}
-use Rattle.capture_reader.specs.Walking.{WalkerState, IsCut, after_packet, Leaves}
-use Rattle.capture_reader.specs.Reading.{HasRead, HasNext, Breaks, Stops, Gave}
-use Rattle.capture_reader.specs.Fetching.{Fetched, IsFull, IsAtEnd, Finds}
+use Rattle.capture_reader.specs.Walking.{WalkerState, IsCut, after_packet, WalkerLeaves}
+use Rattle.capture_reader.specs.Reading.{HasRead, HasNext, ReadingBreaks, ReadingStops, Gave}
+use Rattle.capture_reader.specs.Fetching.{Fetched, IsFull, IsAtEnd, FindsPacket}
 use Rattle.capture_reader.proofs.FrontLaws.{wrong_in_front, packet_alone, packet_size}
 
 -- more bytes behind those that are held
@@ -56,11 +56,11 @@ capture_ended packets old new before a b read more none over =
     (λ x y z p q. end_of packets new.held x z read.whole (few_of packets new before b now) none (p ∙ ap (λ l. concat packets ++ l) q.0) q.1)
 
 -- a fault behind them, whatever comes
-pub wrong_of : (packets : List (List ℕ)) (at : ℕ) (held left rest : List ℕ) (f : CaptureFault) → All IsWhole packets → at ≡ length (concat packets) → at + length held ≤ most_bytes → f.at ≡ at → Begins held (Wrong f.field) → left ≡ concat packets ++ (held ++ rest)
+pub wrong_of : (packets : List (List ℕ)) (at : ℕ) (held left rest : List ℕ) (f : CaptureFault) → All IsWhole packets → at ≡ length (concat packets) → at + length held ≤ most_bytes → f.at ≡ at → BytesBegin held (Wrong f.field) → left ≡ concat packets ++ (held ++ rest)
     → IsCaptureOf left packets (Fault f)
 wrong_of packets at held left rest f whole place few is wrong all =
     let n : ℕ = most_bytes - length (concat packets) in
-    let P : List ℕ → Type 0 = λ l. Begins l (Wrong f.field) in
+    let P : List ℕ → Type 0 = λ l. BytesBegin l (Wrong f.field) in
     let front : take (length held) (take n (held ++ rest)) ≡ held = take-take (length held) n (held ++ rest) (omega (arith, place, few)) ∙ take_at held rest (length held) refl in
     record {
       whole = whole;
@@ -71,7 +71,7 @@ wrong_of packets at held left rest f whole place few is wrong all =
     }
 
 -- the input ends inside a packet
-pub cut_of : (packets : List (List ℕ)) (at : ℕ) (held left rest : List ℕ) (f : CaptureFault) → All IsWhole packets → at ≡ length (concat packets) → at + length held ≤ most_bytes → f.at ≡ at → held ≢ [] → Begins held (Cut f.field) → left ≡ concat packets ++ (held ++ rest) → rest ≡ []
+pub cut_of : (packets : List (List ℕ)) (at : ℕ) (held left rest : List ℕ) (f : CaptureFault) → All IsWhole packets → at ≡ length (concat packets) → at + length held ≤ most_bytes → f.at ≡ at → held ≢ [] → BytesBegin held (Cut f.field) → left ≡ concat packets ++ (held ++ rest) → rest ≡ []
     → IsCaptureOf left packets (Fault f)
 cut_of packets at held left rest f whole place few is some cut all over =
     let bytes : left ≡ concat packets ++ held = all ∙ ap (λ l. concat packets ++ l) (ap (λ l. held ++ l) over ∙ append-nil held) in
@@ -84,10 +84,10 @@ cut_of packets at held left rest f whole place few is some cut all over =
     }
 
 -- more bytes come than a capture may have
-long_of : (packets : List (List ℕ)) (at : ℕ) (held more left rest : List ℕ) (field : CaptureField) → All IsWhole packets → at ≡ length (concat packets) → at + length held ≡ most_bytes → Begins held (Cut field) → 0 < length more → left ≡ concat packets ++ (held ++ (more ++ rest))
+long_of : (packets : List (List ℕ)) (at : ℕ) (held more left rest : List ℕ) (field : CaptureField) → All IsWhole packets → at ≡ length (concat packets) → at + length held ≡ most_bytes → BytesBegin held (Cut field) → 0 < length more → left ≡ concat packets ++ (held ++ (more ++ rest))
     → IsCaptureOf left packets TooLong
 long_of packets at held more left rest field whole place full cut some all =
-    let P : List ℕ → Type 0 = λ l. Begins l (Cut field) in
+    let P : List ℕ → Type 0 = λ l. BytesBegin l (Cut field) in
     let front : take (most_bytes - length (concat packets)) (held ++ (more ++ rest)) ≡ held = take_at held (more ++ rest) (most_bytes - length (concat packets)) (omega (arith, place, full)) in
     record {
       whole = whole;
@@ -102,30 +102,30 @@ long_of packets at held more left rest field whole place full cut some all =
 
 -- ---- by how the reading goes on
 
-pub finds_more : (r : Result Bool CaptureStop) (old new : WalkerState) (a b : Known Input) → Finds r old new a b → (packets : List (List ℕ)) (before : Known Input) → HasRead packets old before a → (r ≡ Err stop.TooLong → ⊥) → HasRead packets new before b
+pub finds_more : (r : Result Bool CaptureStop) (old new : WalkerState) (a b : Known Input) → FindsPacket r old new a b → (packets : List (List ℕ)) (before : Known Input) → HasRead packets old before a → (r ≡ Err stop.TooLong → ⊥) → HasRead packets new before b
 finds_more (Ok true) old new a b finds packets before read other = read_on packets old new before a b read finds.0
 finds_more (Ok false) old new a b finds packets before read other = read_on packets old new before a b read finds.0
 finds_more (Err stop.Read) old new a b finds packets before read other = read_on packets old new before a b read finds.0
 finds_more (Err (stop.Capture f)) old new a b finds packets before read other = read_on packets old new before a b read finds.0
 finds_more (Err stop.TooLong) old new a b finds packets before read other = absurd (other refl)
 
-pub finds_next : (r : Result Bool CaptureStop) (old new : WalkerState) (a b : Known Input) → Finds r old new a b → r ≡ Ok true → HasNext new
+pub finds_next : (r : Result Bool CaptureStop) (old new : WalkerState) (a b : Known Input) → FindsPacket r old new a b → r ≡ Ok true → HasNext new
 finds_next r old new a b finds is =
-    let P : Result Bool CaptureStop → Type 0 = λ s. Finds s old new a b in
-    let found : Finds (Ok true) old new a b = subst P is finds in
+    let P : Result Bool CaptureStop → Type 0 = λ s. FindsPacket s old new a b in
+    let found : FindsPacket (Ok true) old new a b = subst P is finds in
     found.1
 
-pub finds_end : (r : Result Bool CaptureStop) (old new : WalkerState) (a b : Known Input) → Finds r old new a b → (packets : List (List ℕ)) (before : Known Input) → HasRead packets old before a → r ≡ Ok false → Inputs before b (λ left rest. IsCaptureOf left packets End)
+pub finds_end : (r : Result Bool CaptureStop) (old new : WalkerState) (a b : Known Input) → FindsPacket r old new a b → (packets : List (List ℕ)) (before : Known Input) → HasRead packets old before a → r ≡ Ok false → Inputs before b (λ left rest. IsCaptureOf left packets End)
 finds_end r old new a b finds packets before read is =
-    let P : Result Bool CaptureStop → Type 0 = λ s. Finds s old new a b in
-    let over : Finds (Ok false) old new a b = subst P is finds in
+    let P : Result Bool CaptureStop → Type 0 = λ s. FindsPacket s old new a b in
+    let over : FindsPacket (Ok false) old new a b = subst P is finds in
     capture_ended packets old new before a b read over.0 over.1 over.2
 
-pub finds_stop : (r : Result Bool CaptureStop) (old new : WalkerState) (a b : Known Input) → Finds r old new a b → (packets : List (List ℕ)) (before : Known Input) → HasRead packets old before a → IfErr r (λ stop. Stops packets stop before b)
+pub finds_stop : (r : Result Bool CaptureStop) (old new : WalkerState) (a b : Known Input) → FindsPacket r old new a b → (packets : List (List ℕ)) (before : Known Input) → HasRead packets old before a → IfErr r (λ stop. ReadingStops packets stop before b)
 finds_stop (Ok found) old new a b finds packets before read = tt
 finds_stop (Err stop.Read) old new a b finds packets before read =
     let now = read_on packets old new before a b read finds.0 in
-    Inputs-weaker (λ left rest. left ≡ concat packets ++ (new.held ++ rest)) (Breaks packets) before b now.bytes (λ x y is. (new.held, finds.1.0, is, finds.1.1))
+    Inputs-weaker (λ left rest. left ≡ concat packets ++ (new.held ++ rest)) (ReadingBreaks packets) before b now.bytes (λ x y is. (new.held, finds.1.0, is, finds.1.1))
 finds_stop (Err (stop.Capture f)) old new a b finds packets before read =
     let now = read_on packets old new before a b read finds.0 in
     elim finds.2 [
@@ -164,14 +164,14 @@ pub record GaveOf (start : ℕ) (packet : List ℕ) (old new : WalkerState) : Ty
   pub front : old.held ≡ packet ++ drop (length packet) old.held
   pub gave : Gave packet old new
 
-pub gave_one : (at n : ℕ) (packet : List ℕ) (old new : WalkerState) → at ≡ old.at → Begins old.held (Packet n) → packet ≡ take n old.held → new ≡ after_packet (length packet) old → GaveOf at packet old new
+pub gave_one : (at n : ℕ) (packet : List ℕ) (old new : WalkerState) → at ≡ old.at → BytesBegin old.held (Packet n) → packet ≡ take n old.held → new ≡ after_packet (length packet) old → GaveOf at packet old new
 gave_one at n packet old new place begins is after =
     let few = packet_size old.held n begins in
     let size : length packet ≡ n = ap length is ∙ length-take-le n old.held few.2 in
     let front : packet ≡ take (length packet) old.held = is ∙ ap (λ k. take k old.held) (sym size) in
     let split : old.held ≡ packet ++ drop (length packet) old.held = sym (ap (λ l. l ++ drop (length packet) old.held) front ∙ take-append-drop (length packet) old.held) in
-    let P : List ℕ → Type 0 = λ l. Begins l (Packet n) in
-    let Q : ℕ → Type 0 = λ k. Begins packet (Packet k) in
+    let P : List ℕ → Type 0 = λ l. BytesBegin l (Packet n) in
+    let Q : ℕ → Type 0 = λ k. BytesBegin packet (Packet k) in
     let whole : IsWhole packet = subst Q (sym size) (subst P (sym is) (packet_alone old.held n n (omega arith) begins)) in
     let held : old.held ≡ packet ++ new.held = split ∙ ap (λ (w : WalkerState). packet ++ w.held) (sym after) in
     let behind : new.at ≡ old.at + length packet = ap (λ (w : WalkerState). w.at) after in
@@ -183,9 +183,9 @@ gave_one at n packet old new place begins is after =
     }
 
 -- what is left behind a packet that was given
-pub leaves_one : (r : Result (Option Given) CaptureFault) (o : Option Given) (packet : Given) (old new : WalkerState) → r ≡ Ok o → o ≡ Some packet → Leaves r old new → new ≡ after_packet (length packet.bytes.now) old
+pub leaves_one : (r : Result (Option Given) CaptureFault) (o : Option Given) (packet : Given) (old new : WalkerState) → r ≡ Ok o → o ≡ Some packet → WalkerLeaves r old new → new ≡ after_packet (length packet.bytes.now) old
 leaves_one r o packet old new is some leaves =
-    let P : Result (Option Given) CaptureFault → Type 0 = λ s. Leaves s old new in
-    let Q : Option Given → Type 0 = λ s. Leaves (Ok s) old new in
-    let left : Leaves (Ok (Some packet)) old new = subst Q some (subst P is leaves) in
+    let P : Result (Option Given) CaptureFault → Type 0 = λ s. WalkerLeaves s old new in
+    let Q : Option Given → Type 0 = λ s. WalkerLeaves (Ok s) old new in
+    let left : WalkerLeaves (Ok (Some packet)) old new = subst Q some (subst P is leaves) in
     left

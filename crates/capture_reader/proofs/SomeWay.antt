@@ -17,7 +17,7 @@ use Rattle.dcp_pft.specs.Head as pft
 use Rattle.dcp_pft.specs.Faults as pft_head
 use Rattle.capture_reader.specs.declared.fault.CaptureField.{CaptureField}
 use Rattle.capture_reader.specs.declared.fault.CaptureField.TheVariants.{Sync, HeadCrc, TooLarge, HeadCut, BodyCut}
-use Rattle.capture_reader.specs.Front.{Front, Packet, Wrong, Cut, AfFront, PftFront, OtherFront, IsHalfSync, Begins, Af, Pft, Other, IsWhole, IsChecked, fragment_size}
+use Rattle.capture_reader.specs.Front.{Front, Packet, Wrong, Cut, AfFront, PftFront, OtherFront, IsHalfSync, BytesBegin, Af, Pft, Other, IsWhole, IsChecked, fragment_size}
 use Rattle.capture_reader.specs.Capture.{Ending, End, Fault, TooLong, EndsWith, IsCaptureOf, most_bytes}
 use Rattle.capture_reader.specs.Laws.{ReadSomeWay}
 use Rattle.capture_reader.proofs.FrontLaws.{packet_in_front, packet_alone, packet_size}
@@ -99,7 +99,7 @@ other_some (a ∷ []) = elim (same_or_not (a ∷ []) (take 1 af.sync)) [
 other_some (a ∷ b ∷ rest) = (Wrong Sync, omega arith)
 
 -- any bytes begin in some way
-pub some_front : (bytes : List ℕ) → (f : Front) × Begins bytes f
+pub some_front : (bytes : List ℕ) → (f : Front) × BytesBegin bytes f
 some_front bytes = elim (same_or_not (take 2 bytes) af.sync) [
   | inl sync ↦ let some = af_some bytes in (some.0, Af sync some.1)
   | inr no_af ↦ elim (same_or_not (take 2 bytes) pft.sync) [
@@ -117,12 +117,12 @@ last_one at bytes e few ends =
     record { whole = All-nil IsWhole; few = omega (arith, few); rest = bytes; is = refl; ends = subst P (omega arith) ends }
 
 -- a packet, and what follows it
-one_more : (at n : ℕ) (bytes : List ℕ) (ps : List (List ℕ)) (e : Ending) → Begins bytes (Packet n) → Behind (at + n) (drop n bytes) ps e → Behind at bytes (take n bytes ∷ ps) e
+one_more : (at n : ℕ) (bytes : List ℕ) (ps : List (List ℕ)) (e : Ending) → BytesBegin bytes (Packet n) → Behind (at + n) (drop n bytes) ps e → Behind at bytes (take n bytes ∷ ps) e
 one_more at n bytes ps e packet b =
     let few = packet_size bytes n packet in
     let p : List ℕ = take n bytes in
     let size : length (take n bytes) ≡ n = length-take-le n bytes few.2 in
-    let P : ℕ → Type 0 = λ k. Begins (take n bytes) (Packet k) in
+    let P : ℕ → Type 0 = λ k. BytesBegin (take n bytes) (Packet k) in
     let all : bytes ≡ take n bytes ++ drop n bytes = sym (take-append-drop n bytes) in
     let place : at + n + length (concat ps) ≡ at + length (take n bytes ++ concat ps) = omega (arith, size, length-append (take n bytes) (concat ps)) in
     let long : at + n + length (drop n bytes) ≡ at + length bytes = omega (arith, few.2, length-drop n bytes) in
@@ -137,13 +137,13 @@ one_more at n bytes ps e packet b =
     }
 
 -- bytes that are cut, where all of them are looked at or more come
-cut_end : (at : ℕ) (bytes : List ℕ) (field : CaptureField) → at ≤ most_bytes → Begins (take (most_bytes - at) bytes) (Cut field) → (e : Ending) × EndsWith (at + length bytes) at bytes e
+cut_end : (at : ℕ) (bytes : List ℕ) (field : CaptureField) → at ≤ most_bytes → BytesBegin (take (most_bytes - at) bytes) (Cut field) → (e : Ending) × EndsWith (at + length bytes) at bytes e
 cut_end at bytes field few cut = elim (cases_lt most_bytes (at + length bytes)) [
   | inl long ↦ (TooLong, (long, (field, cut)))
   | inr short ↦ elim (same_or_not bytes []) [
     | inl none ↦ (End, (none, short))
     | inr some ↦
-        let P : List ℕ → Type 0 = λ l. Begins l (Cut field) in
+        let P : List ℕ → Type 0 = λ l. BytesBegin l (Cut field) in
         (Fault (record { at = at; field = field }), (refl, inr (short, some, subst P (looked_at (at + length bytes) at bytes refl short) cut)))
   ]
 ]
@@ -152,8 +152,8 @@ cut_end at bytes field few cut = elim (cases_lt most_bytes (at + length bytes)) 
 abbrev BehindOf : ℕ → List ℕ → Type 0
 BehindOf at bytes = (packets : List (List ℕ)) × (ending : Ending) × Behind at bytes packets ending
 
-by_front : (at : ℕ) (bytes : List ℕ) (f : Front) → at ≤ most_bytes → Begins (take (most_bytes - at) bytes) f
-    → ((n : ℕ) → Begins bytes (Packet n) → at + n ≤ most_bytes → BehindOf (at + n) (drop n bytes)) → BehindOf at bytes
+by_front : (at : ℕ) (bytes : List ℕ) (f : Front) → at ≤ most_bytes → BytesBegin (take (most_bytes - at) bytes) f
+    → ((n : ℕ) → BytesBegin bytes (Packet n) → at + n ≤ most_bytes → BehindOf (at + n) (drop n bytes)) → BehindOf at bytes
 by_front at bytes (Wrong field) most front rest =
     ([], Fault (record { at = at; field = field }), last_one at bytes (Fault (record { at = at; field = field })) most (refl, inl front))
 by_front at bytes (Cut field) most front rest =

@@ -8,8 +8,8 @@ use Rattle.std.proofs.lemmas.List.Folds.{concat-append}
 use Rattle.capture_reader.specs.declared.fault.CaptureField.{CaptureField}
 use Rattle.capture_reader.specs.declared.fault.CaptureFault.{CaptureFault}
 use Rattle.capture_reader.specs.declared.packet.Packet.{Packet as Given}
-use Rattle.capture_reader.specs.Front.{Front, Packet, Wrong, Cut, Begins, IsWhole}
-use Rattle.capture_reader.specs.Walking.{WalkerState, Gives, IsDue, HasWalked, new_walker, after_packet}
+use Rattle.capture_reader.specs.Front.{Front, Packet, Wrong, Cut, BytesBegin, IsWhole}
+use Rattle.capture_reader.specs.Walking.{WalkerState, WalkerGives, IsDue, HasWalked, new_walker, after_packet}
 use Rattle.capture_reader.specs.Laws.{FrontsStay, WalksCaptures}
 use Rattle.capture_reader.proofs.FrontLaws.{one_front, packet_in_front, wrong_in_front, packet_alone, packet_size}
 use Rattle.capture_reader.proofs.ReadingLemmas.{wrong_of, cut_of, end_of}
@@ -22,20 +22,20 @@ front_of_more bytes more = take_at bytes more (length bytes) refl
 pub fronts_stay : FrontsStay
 fronts_stay bytes more = (
   λ n front.
-      let P : List ℕ → Type 0 = λ l. Begins l (Packet n) in
+      let P : List ℕ → Type 0 = λ l. BytesBegin l (Packet n) in
       packet_in_front (bytes ++ more) (length bytes) n (subst P (sym (front_of_more bytes more)) front),
   λ field front.
-      let P : List ℕ → Type 0 = λ l. Begins l (Wrong field) in
+      let P : List ℕ → Type 0 = λ l. BytesBegin l (Wrong field) in
       wrong_in_front (bytes ++ more) (length bytes) field (subst P (sym (front_of_more bytes more)) front),
 )
 
 -- ---- a walk
 
-walked_one : (bytes : List ℕ) (packets : List (List ℕ)) (walker : WalkerState) (n : ℕ) → HasWalked bytes packets walker → Begins walker.held (Packet n) → HasWalked bytes (packets ++ take n walker.held ∷ []) (after_packet n walker)
+walked_one : (bytes : List ℕ) (packets : List (List ℕ)) (walker : WalkerState) (n : ℕ) → HasWalked bytes packets walker → BytesBegin walker.held (Packet n) → HasWalked bytes (packets ++ take n walker.held ∷ []) (after_packet n walker)
 walked_one bytes packets walker n walked front =
     let p : List ℕ = take n walker.held in
     let size : length (take n walker.held) ≡ n = length-take-le n walker.held (packet_size walker.held n front).2 in
-    let P : ℕ → Type 0 = λ k. Begins (take n walker.held) (Packet k) in
+    let P : ℕ → Type 0 = λ k. BytesBegin (take n walker.held) (Packet k) in
     let all : concat (packets ++ take n walker.held ∷ []) ≡ concat packets ++ take n walker.held = concat-append packets (take n walker.held ∷ []) ∙ ap (λ l. concat packets ++ l) (append-nil (take n walker.held)) in
     record {
       whole = All-push IsWhole packets (take n walker.held) walked.whole (subst P (sym size) (packet_alone walker.held n n (omega arith) front));

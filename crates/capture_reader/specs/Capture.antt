@@ -3,7 +3,7 @@ use Rattle.std.specs.Prelude.{ℕ, ◌≡◌, ◌≢◌, ◌-◌, ◌<◌, ◌�
 use Rattle.std.specs.List.{concat}
 use Rattle.capture_reader.specs.declared.fault.CaptureField.{CaptureField}
 use Rattle.capture_reader.specs.declared.fault.CaptureFault.{CaptureFault}
-use Rattle.capture_reader.specs.Front.{Wrong, Cut, Begins, IsWhole}
+use Rattle.capture_reader.specs.Front.{Wrong, Cut, BytesBegin, IsWhole}
 
 -- the most bytes of a capture
 abbrev pub most_bytes : ℕ
@@ -21,9 +21,9 @@ abbrev pub EndsWith : ℕ → ℕ → List ℕ → Ending → Type 0
 EndsWith size at rest End = (rest ≡ []) × (size ≤ most_bytes)
 EndsWith size at rest (Fault fault) =
     (fault.at ≡ at)
-    × (Begins (take (most_bytes - at) rest) (Wrong fault.field)
-    ⊎ ((size ≤ most_bytes) × (rest ≢ []) × Begins rest (Cut fault.field)))
-EndsWith size at rest TooLong = (most_bytes < size) × ((field : CaptureField) × Begins (take (most_bytes - at) rest) (Cut field))
+    × (BytesBegin (take (most_bytes - at) rest) (Wrong fault.field)
+    ⊎ ((size ≤ most_bytes) × (rest ≢ []) × BytesBegin rest (Cut fault.field)))
+EndsWith size at rest TooLong = (most_bytes < size) × ((field : CaptureField) × BytesBegin (take (most_bytes - at) rest) (Cut field))
 
 -- The bytes are these packets, and then they end so.
 pub record IsCaptureOf (bytes : List ℕ) (packets : List (List ℕ)) (ending : Ending) : Type 0 where

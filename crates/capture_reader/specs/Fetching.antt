@@ -6,7 +6,7 @@ use Rattle.drm_links.specs.declared.source.ReadOut.{ReadOut}
 use Rattle.drm_links.specs.declared.source.ReadOut.TheVariants as read
 use Rattle.capture_reader.specs.declared.packets.CaptureStop.{CaptureStop}
 use Rattle.capture_reader.specs.declared.packets.CaptureStop.TheVariants as stop
-use Rattle.capture_reader.specs.Front.{Wrong, Cut, Begins}
+use Rattle.capture_reader.specs.Front.{Wrong, Cut, BytesBegin}
 use Rattle.capture_reader.specs.Capture.{most_bytes}
 use Rattle.capture_reader.specs.Walking.{WalkerState, most_held, IsCut}
 use Rattle.capture_reader.specs.Reading.{HasNext}
@@ -29,12 +29,12 @@ abbrev pub IsAtEnd : Known Input → Known Input → Type 0
 IsAtEnd before after = Inputs before after (λ left rest. rest ≡ [])
 
 -- one read: whether bytes came
-abbrev pub Fetches : Result Bool CaptureStop → WalkerState → WalkerState → Known Input → Known Input → Type 0
-Fetches (Ok true) old new before after = Fetched old new before after × (length old.held < length new.held)
-Fetches (Ok false) old new before after = (new ≡ old) × Fetched old new before after × IsAtEnd before after
-Fetches (Err stop.Read) old new before after = (new ≡ old) × Fetched old new before after
-Fetches (Err (stop.Capture fault)) old new before after = ⊥
-Fetches (Err stop.TooLong) old new before after = (new ≡ old) × IsFull old new before after
+abbrev pub FetchesBytes : Result Bool CaptureStop → WalkerState → WalkerState → Known Input → Known Input → Type 0
+FetchesBytes (Ok true) old new before after = Fetched old new before after × (length old.held < length new.held)
+FetchesBytes (Ok false) old new before after = (new ≡ old) × Fetched old new before after × IsAtEnd before after
+FetchesBytes (Err stop.Read) old new before after = (new ≡ old) × Fetched old new before after
+FetchesBytes (Err (stop.Capture fault)) old new before after = ⊥
+FetchesBytes (Err stop.TooLong) old new before after = (new ≡ old) × IsFull old new before after
 
 -- no more than this, but one byte where it is none
 abbrev pub ReadsFew : ReadOut → ℕ → Type 0
@@ -46,16 +46,16 @@ ReadsFew read.Failed most = Unit {0}
 abbrev pub EndsReading : Result Bool CaptureStop → WalkerState → Type 0
 EndsReading (Ok true) reader = ⊥
 EndsReading (Ok false) reader = reader.held ≡ []
-EndsReading (Err (stop.Capture fault)) reader = (reader.held ≢ []) × (fault.at ≡ reader.at) × Begins reader.held (Cut fault.field)
+EndsReading (Err (stop.Capture fault)) reader = (reader.held ≢ []) × (fault.at ≡ reader.at) × BytesBegin reader.held (Cut fault.field)
 EndsReading (Err other) reader = ⊥
 
 -- many reads: whether the next packet is whole
-abbrev pub Finds : Result Bool CaptureStop → WalkerState → WalkerState → Known Input → Known Input → Type 0
-Finds (Ok true) old new before after = Fetched old new before after × HasNext new
-Finds (Ok false) old new before after = Fetched old new before after × (new.held ≡ []) × IsAtEnd before after
-Finds (Err stop.Read) old new before after = Fetched old new before after × IsCut new
-Finds (Err (stop.Capture fault)) old new before after =
+abbrev pub FindsPacket : Result Bool CaptureStop → WalkerState → WalkerState → Known Input → Known Input → Type 0
+FindsPacket (Ok true) old new before after = Fetched old new before after × HasNext new
+FindsPacket (Ok false) old new before after = Fetched old new before after × (new.held ≡ []) × IsAtEnd before after
+FindsPacket (Err stop.Read) old new before after = Fetched old new before after × IsCut new
+FindsPacket (Err (stop.Capture fault)) old new before after =
     Fetched old new before after
     × (fault.at ≡ new.at)
-    × (Begins new.held (Wrong fault.field) ⊎ ((new.held ≢ []) × Begins new.held (Cut fault.field) × IsAtEnd before after))
-Finds (Err stop.TooLong) old new before after = IsFull old new before after × IsCut new
+    × (BytesBegin new.held (Wrong fault.field) ⊎ ((new.held ≢ []) × BytesBegin new.held (Cut fault.field) × IsAtEnd before after))
+FindsPacket (Err stop.TooLong) old new before after = IsFull old new before after × IsCut new

@@ -73,11 +73,11 @@ OtherFront bytes other = ⊥
 -- ---- all
 
 -- The bytes begin so.
-pub data Begins (bytes : List ℕ) (front : Front) : Type 0 where
-  Af : take 2 bytes ≡ af.sync → AfFront bytes front → Begins bytes front
-  Pft : take 2 bytes ≡ pft.sync → PftFront bytes front → Begins bytes front
-  Other : take 2 bytes ≢ af.sync → take 2 bytes ≢ pft.sync → OtherFront bytes front → Begins bytes front
+pub data BytesBegin (bytes : List ℕ) (front : Front) : Type 0 where
+  Af : take 2 bytes ≡ af.sync → AfFront bytes front → BytesBegin bytes front
+  Pft : take 2 bytes ≡ pft.sync → PftFront bytes front → BytesBegin bytes front
+  Other : take 2 bytes ≢ af.sync → take 2 bytes ≢ pft.sync → OtherFront bytes front → BytesBegin bytes front
 
 -- The bytes are a packet, all of them.
 abbrev pub IsWhole : List ℕ → Type 0
-IsWhole packet = Begins packet (Packet (length packet))
+IsWhole packet = BytesBegin packet (Packet (length packet))

@@ -1,20 +1,20 @@
 -- The laws of captures.
 use Rattle.std.specs.Prelude.{◌≡◌, ◌≢◌, ◌≤◌, ℕ, List, [], ◌∷◌, ◌++◌, length, take}
 use Rattle.capture_reader.specs.declared.fault.CaptureField.{CaptureField}
-use Rattle.capture_reader.specs.Front.{Front, Packet, Wrong, Cut, Begins}
+use Rattle.capture_reader.specs.Front.{Front, Packet, Wrong, Cut, BytesBegin}
 use Rattle.capture_reader.specs.Capture.{Ending, End, Fault, IsCaptureOf, most_bytes}
 use Rattle.capture_reader.specs.Walking.{WalkerState, HasWalked, new_walker, after_put, after_packet}
 
 -- Bytes begin in one way.
 abbrev pub OneFront : Type 0
-OneFront = (bytes : List ℕ) (f g : Front) → Begins bytes f → Begins bytes g → f ≡ g
+OneFront = (bytes : List ℕ) (f g : Front) → BytesBegin bytes f → BytesBegin bytes g → f ≡ g
 
 -- A packet stands there whatever comes behind, and so does what is wrong.
 abbrev pub FrontsStay : Type 0
 FrontsStay =
     (bytes more : List ℕ)
-    → ((n : ℕ) → Begins bytes (Packet n) → Begins (bytes ++ more) (Packet n))
-    × ((field : CaptureField) → Begins bytes (Wrong field) → Begins (bytes ++ more) (Wrong field))
+    → ((n : ℕ) → BytesBegin bytes (Packet n) → BytesBegin (bytes ++ more) (Packet n))
+    × ((field : CaptureField) → BytesBegin bytes (Wrong field) → BytesBegin (bytes ++ more) (Wrong field))
 
 -- Bytes are read in one way.
 abbrev pub ReadOneWay : Type 0
@@ -33,12 +33,12 @@ pub record WalksCaptures : Type 0 where
   pub puts : (bytes more : List ℕ) (packets : List (List ℕ)) (walker : WalkerState)
       → HasWalked bytes packets walker → HasWalked (bytes ++ more) packets (after_put more walker)
   pub gives : (bytes : List ℕ) (packets : List (List ℕ)) (walker : WalkerState) (n : ℕ)
-      → HasWalked bytes packets walker → Begins walker.held (Packet n) → HasWalked bytes (packets ++ take n walker.held ∷ []) (after_packet n walker)
+      → HasWalked bytes packets walker → BytesBegin walker.held (Packet n) → HasWalked bytes (packets ++ take n walker.held ∷ []) (after_packet n walker)
   pub wrong : (bytes more : List ℕ) (packets : List (List ℕ)) (walker : WalkerState) (field : CaptureField)
-      → HasWalked bytes packets walker → length bytes ≤ most_bytes → Begins walker.held (Wrong field)
+      → HasWalked bytes packets walker → length bytes ≤ most_bytes → BytesBegin walker.held (Wrong field)
       → IsCaptureOf (bytes ++ more) packets (Fault (record { at = walker.at; field = field }))
   pub cut : (bytes : List ℕ) (packets : List (List ℕ)) (walker : WalkerState) (field : CaptureField)
-      → HasWalked bytes packets walker → length bytes ≤ most_bytes → walker.held ≢ [] → Begins walker.held (Cut field)
+      → HasWalked bytes packets walker → length bytes ≤ most_bytes → walker.held ≢ [] → BytesBegin walker.held (Cut field)
       → IsCaptureOf bytes packets (Fault (record { at = walker.at; field = field }))
   pub ends : (bytes : List ℕ) (packets : List (List ℕ)) (walker : WalkerState)
       → HasWalked bytes packets walker → length bytes ≤ most_bytes → walker.held ≡ [] → IsCaptureOf bytes packets End

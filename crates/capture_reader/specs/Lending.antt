@@ -6,12 +6,12 @@ use Rattle.capture_reader.specs.declared.fault.CaptureFault.{CaptureFault}
 use Rattle.capture_reader.specs.declared.packet.Packet.{Packet}
 use Rattle.capture_reader.specs.contracts.walker.Walker as walker
 use Rattle.capture_reader.specs.contracts.packets.Packets as packets
-use Rattle.capture_reader.specs.Walking.{WalkerState, Leaves}
+use Rattle.capture_reader.specs.Walking.{WalkerState, WalkerLeaves}
 use Rattle.capture_reader.specs.Reading.{Gave}
 
 -- the walker after `next_packet`
-abbrev pub Walks : Result (Option Packet) CaptureFault → MutBor WalkerState → Fml
-Walks result w = Rests walker.the_row w (Leaves result w.now)
+abbrev pub WalkerAfterNext : Result (Option Packet) CaptureFault → MutBor WalkerState → Fml
+WalkerAfterNext result w = Rests walker.the_row w (WalkerLeaves result w.now)
 
 -- the reader after `next`
 abbrev pub GivesOne : Packet → MutBor WalkerState → Fml

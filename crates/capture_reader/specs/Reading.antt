@@ -6,7 +6,7 @@ use Rattle.drm_links.specs.Source.{Input, Inputs}
 use Rattle.capture_reader.specs.declared.fault.CaptureField.{CaptureField}
 use Rattle.capture_reader.specs.declared.packets.CaptureStop.{CaptureStop}
 use Rattle.capture_reader.specs.declared.packets.CaptureStop.TheVariants as stop
-use Rattle.capture_reader.specs.Front.{Packet, Cut, Begins, IsWhole}
+use Rattle.capture_reader.specs.Front.{Packet, Cut, BytesBegin, IsWhole}
 use Rattle.capture_reader.specs.Capture.{most_bytes, Fault, TooLong, IsCaptureOf}
 use Rattle.capture_reader.specs.Walking.{WalkerState, most_held}
 
@@ -21,18 +21,18 @@ pub record HasRead (packets : List (List ℕ)) (reader : WalkerState) (before af
 
 -- The next packet is whole in what the reader holds.
 abbrev pub HasNext : WalkerState → Type 0
-HasNext reader = (n : ℕ) × Begins reader.held (Packet n)
+HasNext reader = (n : ℕ) × BytesBegin reader.held (Packet n)
 
 -- The packets are those that are whole in the bytes taken.
-abbrev pub Breaks : List (List ℕ) → List ℕ → List ℕ → Type 0
-Breaks packets left rest =
-    (held : List ℕ) × (field : CaptureField) × (left ≡ concat packets ++ (held ++ rest)) × Begins held (Cut field)
+abbrev pub ReadingBreaks : List (List ℕ) → List ℕ → List ℕ → Type 0
+ReadingBreaks packets left rest =
+    (held : List ℕ) × (field : CaptureField) × (left ≡ concat packets ++ (held ++ rest)) × BytesBegin held (Cut field)
 
 -- The reading stops behind these packets.
-abbrev pub Stops : List (List ℕ) → CaptureStop → Known Input → Known Input → Type 0
-Stops packets stop.Read before after = Inputs before after (Breaks packets)
-Stops packets (stop.Capture fault) before after = Inputs before after (λ left rest. IsCaptureOf left packets (Fault fault))
-Stops packets stop.TooLong before after = Inputs before after (λ left rest. IsCaptureOf left packets TooLong)
+abbrev pub ReadingStops : List (List ℕ) → CaptureStop → Known Input → Known Input → Type 0
+ReadingStops packets stop.Read before after = Inputs before after (ReadingBreaks packets)
+ReadingStops packets (stop.Capture fault) before after = Inputs before after (λ left rest. IsCaptureOf left packets (Fault fault))
+ReadingStops packets stop.TooLong before after = Inputs before after (λ left rest. IsCaptureOf left packets TooLong)
 
 -- A packet is given: it stands at the front of what was held.
 pub record Gave (packet : List ℕ) (before after : WalkerState) : Type 0 where

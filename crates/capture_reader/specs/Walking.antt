@@ -4,7 +4,7 @@ use Rattle.std.specs.List.{concat}
 use Rattle.capture_reader.specs.declared.fault.CaptureField.{CaptureField}
 use Rattle.capture_reader.specs.declared.fault.CaptureFault.{CaptureFault}
 use Rattle.capture_reader.specs.declared.packet.Packet.{Packet as Given}
-use Rattle.capture_reader.specs.Front.{Front, Packet, Wrong, Cut, Begins, IsWhole}
+use Rattle.capture_reader.specs.Front.{Front, Packet, Wrong, Cut, BytesBegin, IsWhole}
 
 -- the place of the next packet in the capture, and the bytes that were put and are in no packet given
 pub record WalkerState : Type 0 where
@@ -27,13 +27,13 @@ after_packet n walker = record { at = walker.at + n; held = drop n walker.held }
 
 -- The bytes held end inside or before the next packet.
 abbrev pub IsCut : WalkerState → Type 0
-IsCut walker = (field : CaptureField) × Begins walker.held (Cut field)
+IsCut walker = (field : CaptureField) × BytesBegin walker.held (Cut field)
 
 -- what a walker gives of what it holds
-abbrev pub Gives : Result (Option Given) CaptureFault → WalkerState → Type 0
-Gives (Ok (Some packet)) walker = (packet.at ≡ walker.at) × ((n : ℕ) × Begins walker.held (Packet n) × (packet.bytes.now ≡ take n walker.held))
-Gives (Ok None) walker = IsCut walker
-Gives (Err fault) walker = (fault.at ≡ walker.at) × Begins walker.held (Wrong fault.field)
+abbrev pub WalkerGives : Result (Option Given) CaptureFault → WalkerState → Type 0
+WalkerGives (Ok (Some packet)) walker = (packet.at ≡ walker.at) × ((n : ℕ) × BytesBegin walker.held (Packet n) × (packet.bytes.now ≡ take n walker.held))
+WalkerGives (Ok None) walker = IsCut walker
+WalkerGives (Err fault) walker = (fault.at ≡ walker.at) × BytesBegin walker.held (Wrong fault.field)
 
 -- which answer is due where the bytes held begin so
 abbrev pub IsDue : Front → Result (Option Given) CaptureFault → WalkerState → Type 0
@@ -43,15 +43,15 @@ IsDue (Wrong field) (Err fault) walker = fault ≡ record { at = walker.at; fiel
 IsDue front result walker = ⊥
 
 -- and how it is afterwards
-abbrev pub Leaves : Result (Option Given) CaptureFault → WalkerState → WalkerState → Type 0
-Leaves (Ok (Some packet)) before after = after ≡ after_packet (length packet.bytes.now) before
-Leaves (Ok None) before after = after ≡ before
-Leaves (Err fault) before after = after ≡ before
+abbrev pub WalkerLeaves : Result (Option Given) CaptureFault → WalkerState → WalkerState → Type 0
+WalkerLeaves (Ok (Some packet)) before after = after ≡ after_packet (length packet.bytes.now) before
+WalkerLeaves (Ok None) before after = after ≡ before
+WalkerLeaves (Err fault) before after = after ≡ before
 
 -- how a walk ends where no more bytes come
-abbrev pub Ends : Result (Unit {0}) CaptureFault → WalkerState → Type 0
-Ends (Ok _) walker = walker.held ≡ []
-Ends (Err fault) walker = (walker.held ≡ [] → ⊥) × (fault.at ≡ walker.at) × Begins walker.held (Cut fault.field)
+abbrev pub WalkEnds : Result (Unit {0}) CaptureFault → WalkerState → Type 0
+WalkEnds (Ok _) walker = walker.held ≡ []
+WalkEnds (Err fault) walker = (walker.held ≡ [] → ⊥) × (fault.at ≡ walker.at) × BytesBegin walker.held (Cut fault.field)
 
 -- These bytes were put, the packets were given, and the rest is held.
 pub record HasWalked (bytes : List ℕ) (packets : List (List ℕ)) (walker : WalkerState) : Type 0 where

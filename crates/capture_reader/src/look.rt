@@ -3,7 +3,7 @@
 ghost use Rattle.std.specs.Prelude.{ℕ, List, ◌≡◌, ◌≢◌, length, take};
 ghost use Rattle.dcp_af.specs.Packet as af;
 ghost use Rattle.dcp_pft.specs.Head as pft;
-ghost use Rattle.capture_reader.specs.Front.{Begins, AfFront, PftFront, OtherFront};
+ghost use Rattle.capture_reader.specs.Front.{BytesBegin, AfFront, PftFront, OtherFront};
 ghost use Rattle.capture_reader.specs.Looking.{front_of, front_within, IsFrontPart, found_by};
 
 use crate::CaptureField;
@@ -30,7 +30,7 @@ pub(crate) enum Found {
 
 /// What `count` bytes begin with, of which the first ones are in `head`.
 pub(crate) fn look(head: &[u8], count: usize) -> Found
-    ensures { (bytes : List ℕ) → IsFrontPart head.now count bytes → Begins bytes (front_of result) }
+    ensures { (bytes : List ℕ) → IsFrontPart head.now count bytes → BytesBegin bytes (front_of result) }
 {
     if head.starts_with(b"AF") {
         look_at_af(head, count)

@@ -2,13 +2,13 @@
 
 ghost use Rattle.std.specs.Prelude.{◌≡◌, ◌≤◌, ◌<◌, ◌+◌, ◌-◌, ◌^◌, ◌++◌, ◌∷◌, ℕ, List, [], true, false, length, take, drop, min, IfOk, IfErr};
 ghost use Rattle.std.specs.Borrow.{sem};
-ghost use Rattle.drm_links.specs.Told.{Known, HasCause, CountsCall, WhileTold};
-ghost use Rattle.drm_links.specs.Source.{Input, Inputs, ReadsSome, Takes};
-ghost use Rattle.capture_reader.specs.Front.{Begins, IsWhole};
+ghost use Rattle.drm_links.specs.Told.{Known, HasCause, CountsCall, IfBothKnown};
+ghost use Rattle.drm_links.specs.Source.{Input, Inputs, ReadsSome, SourceTakes};
+ghost use Rattle.capture_reader.specs.Front.{BytesBegin, IsWhole};
 ghost use Rattle.capture_reader.specs.Capture.{End, IsCaptureOf};
 ghost use Rattle.capture_reader.specs.Walking.{new_walker, IsCut};
-ghost use Rattle.capture_reader.specs.Reading.{HasRead, HasNext, Stops};
-ghost use Rattle.capture_reader.specs.Fetching.{Fetches, Finds, EndsReading, ReadsFew};
+ghost use Rattle.capture_reader.specs.Reading.{HasRead, HasNext, ReadingStops};
+ghost use Rattle.capture_reader.specs.Fetching.{FetchesBytes, FindsPacket, EndsReading, ReadsFew};
 ghost use Rattle.capture_reader.specs.Lending.{GivesOne};
 
 use crate::look::Found;
@@ -74,7 +74,7 @@ impl Packets {
         ensures ended { (packets : List (List ℕ)) (before : Known Input) → HasRead packets self.old before (I.known input.old)
             → result ≡ Ok false → Inputs before (I.known input.new) (λ left rest. IsCaptureOf left packets End) }
         ensures stops { (packets : List (List ℕ)) (before : Known Input) → HasRead packets self.old before (I.known input.old)
-            → IfErr result (λ stop. Stops packets stop before (I.known input.new)) }
+            → IfErr result (λ stop. ReadingStops packets stop before (I.known input.new)) }
         ensures cause { HasCause (I.known input.old) (I.known input.new) (result ≡ Err CaptureStop.Read) }
     {
         self.seek(input)
@@ -96,7 +96,7 @@ impl Packets {
 
     // Reads until it is known what becomes of the bytes held.
     fn seek<I: Source>(&mut self, input: &mut I) -> Result<bool, CaptureStop>
-        ensures finds { Finds result self.old self.new (I.known input.old) (I.known input.new) }
+        ensures finds { FindsPacket result self.old self.new (I.known input.old) (I.known input.new) }
         ensures still { HasNext self.old → (result ≡ Ok true) × (self.new ≡ self.old) × (input.new ≡ input.old) }
         ensures cause { HasCause (I.known input.old) (I.known input.new) (result ≡ Err CaptureStop.Read) }
     {
@@ -119,7 +119,7 @@ impl Packets {
     // Reads more bytes: whether any came.
     fn fetch<I: Source>(&mut self, input: &mut I) -> Result<bool, CaptureStop>
         requires cut { IsCut self.old }
-        ensures fetches { Fetches result self.old self.new (I.known input.old) (I.known input.new) }
+        ensures fetches { FetchesBytes result self.old self.new (I.known input.old) (I.known input.new) }
         ensures cause { HasCause (I.known input.old) (I.known input.new) (result ≡ Err CaptureStop.Read) }
     {
         let left = MOST_BYTES - self.walker.taken();
@@ -149,9 +149,9 @@ impl Packets {
 // Reads at most so many bytes, or where that is none, one.
 fn read_some<I: Source>(input: &mut I, room: &mut [u8], most: u64) -> ReadOut
     requires { length room.old ≡ 65536 }
-    ensures some { ReadsSome result room.new }
-    ensures few { ReadsFew result most }
-    ensures bytes { WhileTold (I.known input.old) (I.known input.new) (Takes result room.new) }
+    ensures moves_bytes { ReadsSome result room.new }
+    ensures within_limit { ReadsFew result most }
+    ensures bytes { IfBothKnown (I.known input.old) (I.known input.new) (SourceTakes result room.new) }
     ensures told { CountsCall (λ told. told.calls) (I.known input.old) (I.known input.new) }
     ensures cause { HasCause (I.known input.old) (I.known input.new) (result ≡ ReadOut.Failed) }
 {

@@ -3,10 +3,10 @@
 ghost use Rattle.std.specs.Prelude.{◌≡◌, ◌≤◌, ◌<◌, ◌+◌, ◌-◌, ◌^◌, ◌++◌, ℕ, [], length, take, drop, min, IfOk};
 ghost use Rattle.std.specs.Borrow.{sem};
 ghost use Rattle.circular_buffer.specs.Buffer.{Buffer, buffer};
-ghost use Rattle.capture_reader.specs.Front.{Front, Packet as PacketFront, Begins};
+ghost use Rattle.capture_reader.specs.Front.{Front, Packet as PacketFront, BytesBegin};
 ghost use Rattle.capture_reader.specs.Looking.{front_of};
-ghost use Rattle.capture_reader.specs.Walking.{new_walker, after_put, most_held, IsCut, Gives, IsDue, Ends};
-ghost use Rattle.capture_reader.specs.Lending.{Walks};
+ghost use Rattle.capture_reader.specs.Walking.{new_walker, after_put, most_held, IsCut, WalkerGives, IsDue, WalkEnds};
+ghost use Rattle.capture_reader.specs.Lending.{WalkerAfterNext};
 
 use crate::look::{Found, MOST_HEAD, look};
 use crate::{CaptureFault, CaptureField, Packet};
@@ -34,7 +34,7 @@ pub struct Walker {
 
 impl Model for Walker {
     ghost use Rattle.std.specs.Prelude.{◌≡◌, ◌<◌, ◌+◌, ◌^◌, length, IfSome};
-    ghost use Rattle.capture_reader.specs.Front.{Packet, Begins};
+    ghost use Rattle.capture_reader.specs.Front.{Packet, BytesBegin};
     ghost use Rattle.capture_reader.specs.Walking.{WalkerState, most_held};
 
     ghost Value = { WalkerState };
@@ -42,7 +42,7 @@ impl Model for Walker {
     ghost view = { λ w. record { at = w.at; held = w.pipe.items } };
 
     ghost invariant = { λ w. (w.pipe.capacity ≡ most_held) × (length w.packet.items ≡ 65536) × (w.at + length w.pipe.items < 2 ^ 62)
-        × IfSome w.found (λ size. Begins w.pipe.items (Packet size)) };
+        × IfSome w.found (λ size. BytesBegin w.pipe.items (Packet size)) };
 }
 
 impl Walker {
@@ -72,9 +72,9 @@ impl Walker {
 
     /// The next packet, or none where the bytes end before it does. What is wrong stays wrong.
     pub fn next_packet(&mut self) -> Result<Option<Packet<'_>>, CaptureFault>
-        ensures gives { Gives result self.old }
-        ensures due { (front : Front) → Begins self.old.held front → IsDue front result self.old }
-        ensures* after { sem 𝓛 (Walks result self.entry) }
+        ensures gives { WalkerGives result self.old }
+        ensures due { (front : Front) → BytesBegin self.old.held front → IsDue front result self.old }
+        ensures* after { sem 𝓛 (WalkerAfterNext result self.entry) }
     {
         match self.front() {
             Found::Packet(size) => {
@@ -95,7 +95,7 @@ impl Walker {
     /// Whether the capture may end here. No packet was left to be given, and no byte was put since.
     pub fn end(&self) -> Result<(), CaptureFault>
         requires { IsCut self.now }
-        ensures { Ends result self.now }
+        ensures { WalkEnds result self.now }
     {
         if self.pipe.is_empty() {
             return Ok(());
@@ -108,7 +108,7 @@ impl Walker {
 
     /// What the bytes held begin with.
     pub(crate) fn front(&self) -> Found
-        ensures { Begins self.now.held (front_of result) }
+        ensures { BytesBegin self.now.held (front_of result) }
     {
         match self.found {
             Some(size) => Found::Packet(size),
@@ -118,7 +118,7 @@ impl Walker {
 
     /// Keeps in mind that a packet of so many bytes is next, so that its head isn't looked at again.
     pub(crate) fn remember(&mut self, size: usize)
-        requires { Begins self.old.held (PacketFront size) }
+        requires { BytesBegin self.old.held (PacketFront size) }
         ensures { self.new ≡ self.old }
     {
         self.found = Some(size);
@@ -126,7 +126,7 @@ impl Walker {
 
     // Looks at the first bytes that are held.
     fn look(&self) -> Found
-        ensures { Begins self.now.held (front_of result) }
+        ensures { BytesBegin self.now.held (front_of result) }
     {
         let mut head = [0; MOST_HEAD];
         let len = copy_front(&self.pipe, &mut head);

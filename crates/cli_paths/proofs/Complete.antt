@@ -4,7 +4,7 @@ use Rattle.std.specs.List.{AllByRecursion}
 use Rattle.std.specs.Str.{bytes_eq}
 use Rattle.std.proofs.lemmas.List.{append_assoc}
 use Rattle.std.proofs.lemmas.Slice.Eq.{bytes_eq-Decides}
-use Rattle.cli_syntax.specs.Spelling.{Argument, Plain as PlainWord, Named, Begins, plain as plain_word, in_one, in_two, Spells, none, more, behind, IsPlain, texts, options}
+use Rattle.cli_syntax.specs.Spelling.{Argument, Plain as PlainWord, Named, WordsBegin, plain as plain_word, in_one, in_two, WordsSpell, none, more, behind, IsPlain, texts, options}
 use Rattle.cli_paths.specs.Uses.{Use, names, Idle, is_known, plain, has_use, trailed, run}
 use Rattle.cli_paths.specs.Told.{told}
 use Rattle.cli_paths.specs.Table.{Options, AreOf}
@@ -25,7 +25,7 @@ trailed_is [] done h = ap Some (sym (append_none done))
     append_none (u ∷ us) = ap (λ (l : List Use). u ∷ l) (append_none us)
 trailed_is (word ∷ rest) done h = rw h.0 (trailed_is rest (done ++ (plain, word) ∷ []) h.1 ∙ ap Some (append_assoc done ((plain, word) ∷ []) (uses_of (map PlainWord rest))))
 
-begun : {argument : Argument} {words rest : List (List ℕ)} (others : List Argument) (done : List Use) → Begins argument words rest → Fresh done (uses_of (argument ∷ others)) → AllKnown (argument ∷ others) → PlainValues (options (argument ∷ others))
+begun : {argument : Argument} {words rest : List (List ℕ)} (others : List Argument) (done : List Use) → WordsBegin argument words rest → Fresh done (uses_of (argument ∷ others)) → AllKnown (argument ∷ others) → PlainValues (options (argument ∷ others))
     → ((now : List Use) → Fresh now (uses_of others) → AllKnown others → PlainValues (options others) → run rest Idle now ≡ Some (now ++ uses_of others))
     → run words Idle done ≡ Some (done ++ uses_of (argument ∷ others))
 unfolding run
@@ -36,7 +36,7 @@ begun others done (in_one {name} {value} {word} {rest} is f) h k p later =
 begun others done (in_two {name} {value} {word} {rest} is some f other) h k p later =
     rw (f, sort-apart name is some) (rw (k.0, sort-plain value p.0, h.0) (later (done ++ (name, value) ∷ []) h.1 k.1 p.1 ∙ ap Some (append_assoc done ((name, value) ∷ []) (uses_of others))))
 
-pub run_is : {arguments : List Argument} {words : List (List ℕ)} → Spells arguments words → (done : List Use) → Fresh done (uses_of arguments) → AllKnown arguments → PlainValues (options arguments)
+pub run_is : {arguments : List Argument} {words : List (List ℕ)} → WordsSpell arguments words → (done : List Use) → Fresh done (uses_of arguments) → AllKnown arguments → PlainValues (options arguments)
     → run words Idle done ≡ Some (done ++ uses_of arguments)
 unfolding run
 run_is none done h k p = ap Some (sym (append_none done))

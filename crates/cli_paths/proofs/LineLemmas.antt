@@ -18,7 +18,7 @@ use Rattle.cli_paths.specs.Told.{Told, told, told_with, told_of, parse_of}
 use Rattle.cli_paths.specs.Table.{IsNumberOr, IsNumberOrNone}
 use Rattle.cli_paths.specs.Line.{IsPathsLine}
 use Rattle.cli_paths.specs.Asking.{if_several, several_of, number_or, number_or_none, request_of, line_of}
-use Rattle.cli_syntax.specs.Gives.{Gives}
+use Rattle.cli_syntax.specs.Gives.{ParserGives}
 use Rattle.cli_syntax.proofs.OptionLemmas.{stepped, mapped}
 use Rattle.cli_syntax.proofs.NumberLemmas.{within_fits, within_is}
 use Rattle.cli_syntax.proofs.AddressLemmas.{addresses_fit, addresses_are}
@@ -268,21 +268,21 @@ line_once words r other h k = same_Some r other (sym (line_is words r h) ∙ lin
 
 -- what an answer that gives what is read says of the requests that fit
 module _ (words : List (List ℕ)) where
-  pub found : (result : Result Request WordsFault) → Gives result (line_of words) → IfOk result (λ r. IsPathsLine words r)
+  pub found : (result : Result Request WordsFault) → ParserGives result (line_of words) → IfOk result (λ r. IsPathsLine words r)
   found (Ok r) h = line_fits words r h
   found (Err fault) h = tt
 
-  pub only : (result : Result Request WordsFault) → Gives result (line_of words) → (r : Request) → IsPathsLine words r → (result ≡ Ok r) ⊎ (result ≡ Err NoMemory)
+  pub only : (result : Result Request WordsFault) → ParserGives result (line_of words) → (r : Request) → IsPathsLine words r → (result ≡ Ok r) ⊎ (result ≡ Err NoMemory)
   only (Ok x) h r k = inl (ap Ok (same_Some x r (sym h ∙ line_is words r k)))
   only (Err Words) h r k = absurd (let e = line_is words r k in cc)
   only (Err NoMemory) h r k = inr refl
 
-  pub refused : (result : Result Request WordsFault) → Gives result (line_of words) → result ≡ Err Words → (r : Request) → IsPathsLine words r → ⊥
+  pub refused : (result : Result Request WordsFault) → ParserGives result (line_of words) → result ≡ Err Words → (r : Request) → IsPathsLine words r → ⊥
   refused (Ok x) h e r k = cc
   refused (Err Words) h e r k = let f = line_is words r k in cc
   refused (Err NoMemory) h e r k = cc
 
-  pub exact : (result : Result Request WordsFault) → Gives result (line_of words) → ((r : Request) → IsPathsLine words r → ⊥) → (result ≡ Err Words) ⊎ (result ≡ Err NoMemory)
+  pub exact : (result : Result Request WordsFault) → ParserGives result (line_of words) → ((r : Request) → IsPathsLine words r → ⊥) → (result ≡ Err Words) ⊎ (result ≡ Err NoMemory)
   exact (Ok x) h none = absurd (none x (line_fits words x h))
   exact (Err Words) h none = inl refl
   exact (Err NoMemory) h none = inr refl

@@ -2,14 +2,14 @@
 use Rattle.std.proofs.Common.{◌≡◌, ◌≢◌, inl, inr, ℕ, Bool, true, false, cond, List, [], ◌∷◌, ◌++◌, map, Some, None, refl, ap, sym, ◌∙◌, subst}
 use Rattle.std.proofs.lemmas.Option.{same_Some}
 use Rattle.std.proofs.lemmas.List.{append_assoc}
-use Rattle.cli_syntax.specs.Spelling.{Argument, Plain as PlainWord, Named, Begins, plain as plain_word, in_one, in_two, Spells, none, more, behind, IsPlain, IsName as HasName, dashes, joined}
+use Rattle.cli_syntax.specs.Spelling.{Argument, Plain as PlainWord, Named, WordsBegin, plain as plain_word, in_one, in_two, WordsSpell, none, more, behind, IsPlain, IsName as HasName, dashes, joined}
 use Rattle.cli_paths.specs.Uses.{Use, Sort, Dashes, Plain, Joined, Apart, Stray, sort_of, Idle, Value, is_known, plain, has_use, trailed, run, stepped}
 use Rattle.cli_paths.proofs.Fresh.{Fresh, uses_of, AllKnown, AllPlain, AllNamed}
 use Rattle.cli_paths.proofs.SortLemmas.{IsSort, sort_is}
 
 pub record IsSpelled (words : List (List ℕ)) (uses : List Use) : Type 0 where
   pub arguments : List Argument
-  pub spells : Spells arguments words
+  pub spells : WordsSpell arguments words
   pub same : uses_of arguments ≡ uses
   pub known : AllKnown arguments
 
@@ -44,7 +44,7 @@ pushed_text word rest done all e r = record {
   spelled = λ p. let s = r.spelled p.1 in record { arguments = PlainWord word ∷ s.arguments; spells = more (plain_word p.0) s.spells; same = ap (λ (l : List Use). (plain, word) ∷ l) s.same; known = s.known };
 }
 
-pushed_option : (words rest : List (List ℕ)) (name value : List ℕ) (done all : List Use) → is_known name ≡ true → (IsPlain value → Begins (Named name value) words rest) → has_use name done ≡ false
+pushed_option : (words rest : List (List ℕ)) (name value : List ℕ) (done all : List Use) → is_known name ≡ true → (IsPlain value → WordsBegin (Named name value) words rest) → has_use name done ≡ false
     → Reads rest (done ++ (name, value) ∷ []) all → Reads words done all
 pushed_option words rest name value done all k begins e r = record {
   uses = (name, value) ∷ r.uses;
@@ -107,7 +107,7 @@ module _ (word : List ℕ) (rest : List (List ℕ)) (c : Sound rest) where
   text_by done all true f e = absurd cc
   text_by done all false f e = pushed_text word rest done all f (c.idles (done ++ (plain, word) ∷ []) all e)
 
-  option_by : (words : List (List ℕ)) (name value : List ℕ) (done all : List Use) → is_known name ≡ true → (IsPlain value → Begins (Named name value) words rest) → (u : Bool) → has_use name done ≡ u
+  option_by : (words : List (List ℕ)) (name value : List ℕ) (done all : List Use) → is_known name ≡ true → (IsPlain value → WordsBegin (Named name value) words rest) → (u : Bool) → has_use name done ≡ u
       → cond u None (run rest Idle (done ++ (name, value) ∷ [])) ≡ Some all → Reads words done all
   option_by words name value done all k begins true f e = absurd cc
   option_by words name value done all k begins false f e = pushed_option words rest name value done all k begins f (c.idles (done ++ (name, value) ∷ []) all e)

@@ -4,17 +4,17 @@ ghost use Rattle.std.specs.Prelude.{◌≡◌, ◌⊎◌, Err, IfOk, map, string
 ghost use Rattle.cli_paths.specs.Line.{IsPathsLine, HasOneRequest};
 ghost use Rattle.cli_paths.specs.Asking.{line_of, several_of, number_or, number_or_none, request_of};
 ghost use Rattle.cli_paths.specs.Said.{texts_said};
-ghost use Rattle.cli_syntax.specs.Gives.{Gives};
+ghost use Rattle.cli_syntax.specs.Gives.{ParserGives};
 ghost use Rattle.cli_syntax.specs.declared.fault.WordsFault.TheVariants as faults;
 ghost use Rattle.cli_paths.specs.declared.request.Request.{Request};
 
 use crate::numbers::{number_or, number_or_none};
 use crate::request::Request;
 use crate::texts::{Texts, read_texts};
+use cli_syntax::{WordsFault, read_addresses};
 use drm_links::Addresses;
 use drm_schedule::MOST_FRAMES;
 use std::alloc::Global;
-use cli_syntax::{WordsFault, read_addresses};
 
 /// The fewest paths of a run.
 const FEWEST_PATHS: usize = 2;
@@ -23,7 +23,7 @@ const MOST_PATHS: usize = 4;
 
 // Two to four addresses that a text spells, joined by commas.
 fn several(alloc: Global, text: &str) -> Result<Addresses, WordsFault>
-    ensures { Gives result (several_of text.now) }
+    ensures { ParserGives result (several_of text.now) }
 {
     let addresses = read_addresses(alloc, text)?;
     if addresses.len() < FEWEST_PATHS || MOST_PATHS < addresses.len() {
@@ -35,7 +35,7 @@ fn several(alloc: Global, text: &str) -> Result<Addresses, WordsFault>
 // The request of the texts.
 #[tactic(auto, unfolding(crate::specs::Asking::request_of))]
 fn request(alloc: Global, texts: Texts<'_>) -> Result<Request, WordsFault>
-    ensures { Gives result (request_of (texts_said texts.entry)) }
+    ensures { ParserGives result (request_of (texts_said texts.entry)) }
 {
     let addresses = several(alloc, texts.addresses)?;
     let Some(window) = number_or(8, 1, 64, texts.window) else {
@@ -68,7 +68,7 @@ fn request(alloc: Global, texts: Texts<'_>) -> Result<Request, WordsFault>
 }
 
 fn read_line(alloc: Global, words: &[String]) -> Result<Request, WordsFault>
-    ensures { Gives result (line_of (map string_bytes words.now)) }
+    ensures { ParserGives result (line_of (map string_bytes words.now)) }
 {
     let texts = read_texts(alloc, words)?;
     request(alloc, texts)

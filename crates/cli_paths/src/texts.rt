@@ -9,8 +9,8 @@ ghost use Rattle.cli_paths.specs.Said.{texts_said};
 use crate::command::command;
 use clap::Error;
 use clap::error::ErrorKind;
-use std::alloc::Global;
 use cli_syntax::WordsFault;
+use std::alloc::Global;
 
 /// The texts of a command line.
 #[derive(Clone, Copy)]

@@ -5,7 +5,7 @@ use Rattle.std.specs.Str.{bytes_eq}
 use Rattle.std.proofs.lemmas.Bool.Decides.{nat_tests}
 use Rattle.std.proofs.lemmas.Slice.Eq.{bytes_eq-Decides}
 use Rattle.std.proofs.lemmas.Option.{same_Some}
-use Rattle.cli_syntax.specs.Spelling.{Argument, Plain as PlainWord, Named, Begins, plain, in_one, in_two, Spells, none, more, behind, IsPlain, IsName, dashes, joined, texts, options}
+use Rattle.cli_syntax.specs.Spelling.{Argument, Plain as PlainWord, Named, WordsBegin, plain, in_one, in_two, WordsSpell, none, more, behind, IsPlain, IsName, dashes, joined, texts, options}
 use Rattle.cli_syntax.specs.Addressing.{cut}
 use Rattle.cli_syntax.specs.Arguing.{Kind, Dashes, Plain, Joined, Apart, Stray, kind_of, behind_one, behind_two, parted, read, read_last, read_before, Sorted, only_texts, with_text, with_option}
 use Rattle.cli_syntax.proofs.CutLemmas.{cut-none, cut-at, cut_is, lacks_by_cut}
@@ -57,7 +57,7 @@ sorted_of arguments = record { texts = texts arguments; options = options argume
 
 pub record IsRead (words : List (List ℕ)) (s : Sorted) : Type 0 where
   pub arguments : List Argument
-  pub spells : Spells arguments words
+  pub spells : WordsSpell arguments words
   pub same : sorted_of arguments ≡ s
 
 only_plain : (words : List (List ℕ)) → sorted_of (map PlainWord words) ≡ only_texts words
@@ -71,7 +71,7 @@ then_text word rest r s is later e =
     let q = later p.value p.is in
     record { arguments = PlainWord word ∷ q.arguments; spells = more (plain is) q.spells; same = ap (with_text word) q.same ∙ p.rest }
 
-then_option : (words rest : List (List ℕ)) (name value : List ℕ) (r : Option Sorted) (s : Sorted) → Begins (Named name value) words rest → ((t : Sorted) → r ≡ Some t → IsRead rest t) → option_map (with_option name value) r ≡ Some s → IsRead words s
+then_option : (words rest : List (List ℕ)) (name value : List ℕ) (r : Option Sorted) (s : Sorted) → WordsBegin (Named name value) words rest → ((t : Sorted) → r ≡ Some t → IsRead rest t) → option_map (with_option name value) r ≡ Some s → IsRead words s
 then_option words rest name value r s begins later e =
     let p = mapped r (with_option name value) s e in
     let q = later p.value p.is in
@@ -139,7 +139,7 @@ not_dashes value h = by_test (bytes_eq value dashes) refl
     by_test true e = absurd (h ((bytes_eq-Decides value dashes).0 e))
     by_test false e = refl
 
-begun : {argument : Argument} {words rest : List (List ℕ)} (others : List Argument) → Begins argument words rest → read rest ≡ Some (sorted_of others) → read words ≡ Some (sorted_of (argument ∷ others))
+begun : {argument : Argument} {words rest : List (List ℕ)} (others : List Argument) → WordsBegin argument words rest → read rest ≡ Some (sorted_of others) → read words ≡ Some (sorted_of (argument ∷ others))
 begun others (plain {text} {rest} is) e = read-plain text rest (kind-plain text is) ∙ ap (option_map (with_text text)) e
 begun others (in_one {name} {value} {word} {rest} is f) e =
     read-joined word rest name value (ap kind_of f ∙ kind-joined name value is) ∙ ap (option_map (with_option name value)) e
@@ -147,7 +147,7 @@ begun others (in_two {name} {value} {word} {rest} is some f other) e =
     read-apart word name value rest (ap kind_of f ∙ kind-apart name is some) (not_dashes value other) ∙ ap (option_map (with_option name value)) e
 
 -- what is spelled is read
-pub read_is : {arguments : List Argument} {words : List (List ℕ)} → Spells arguments words → read words ≡ Some (sorted_of arguments)
+pub read_is : {arguments : List Argument} {words : List (List ℕ)} → WordsSpell arguments words → read words ≡ Some (sorted_of arguments)
 unfolding read
 read_is none = refl
 read_is (more {argument} {others} begins spells) = begun others begins (read_is spells)

@@ -85,13 +85,13 @@ abbrev pub sorted : Arguments → Sorted
 sorted arguments = record { texts = map (λ text. text.now) arguments.texts.items; options = map option_said arguments.options.items }
 
 -- What stands first among the words, and what is read from the words by what is read from the rest.
-abbrev pub Follows : List (List ℕ) → Next → Type 0
-Follows words next.End = read words ≡ Some (only_texts [])
-Follows words (next.Text text rest) = (read words ≡ option_map (with_text text.now) (read (map string_bytes rest.now))) × (length rest.now < length words)
-Follows words (next.Option option rest) =
+abbrev pub ArgumentFollows : List (List ℕ) → Next → Type 0
+ArgumentFollows words next.End = read words ≡ Some (only_texts [])
+ArgumentFollows words (next.Text text rest) = (read words ≡ option_map (with_text text.now) (read (map string_bytes rest.now))) × (length rest.now < length words)
+ArgumentFollows words (next.Option option rest) =
     (read words ≡ option_map (with_option option.name.now option.value.now) (read (map string_bytes rest.now))) × (length rest.now < length words)
-Follows words (next.Behind rest) = read words ≡ Some (only_texts (map string_bytes rest.now))
-Follows words next.Refused = read words ≡ None
+ArgumentFollows words (next.Behind rest) = read words ≡ Some (only_texts (map string_bytes rest.now))
+ArgumentFollows words next.Refused = read words ≡ None
 
 -- the option has the next word as its value, unless that is `--` or there is none
 abbrev pub IsValued : List ℕ → List (List ℕ) → Next → Type 0

@@ -9,5 +9,5 @@ GivesBy view (Ok x) read = read ≡ Some (view x)
 GivesBy view (Err Words) read = read ≡ None
 GivesBy view (Err NoMemory) read = Unit {0}
 
-abbrev pub Gives : {A : Type 0} → Result A WordsFault → Option A → Type 0
-Gives result read = GivesBy (λ x. x) result read
+abbrev pub ParserGives : {A : Type 0} → Result A WordsFault → Option A → Type 0
+ParserGives result read = GivesBy (λ x. x) result read

@@ -4,7 +4,7 @@ ghost use Rattle.std.specs.Prelude.{◌≡◌, map};
 ghost use Rattle.std.specs.List.{list_any};
 ghost use Rattle.cli_syntax.specs.Reading.{within};
 ghost use Rattle.cli_syntax.specs.Addressing.{address_of, all_addresses, is_same, are_different, addresses_of};
-ghost use Rattle.cli_syntax.specs.Gives.{Gives};
+ghost use Rattle.cli_syntax.specs.Gives.{ParserGives};
 
 use crate::cuts::{cut, parts};
 use crate::fault::WordsFault;
@@ -65,7 +65,7 @@ fn are_different(addresses: &[Address]) -> bool
 }
 
 fn all_addresses(alloc: Global, parts: &[&str]) -> Result<Addresses, WordsFault>
-    ensures { Gives result (all_addresses (map (λ part. part.now) parts.now)) }
+    ensures { ParserGives result (all_addresses (map (λ part. part.now) parts.now)) }
 {
     let mut list = Addresses::new(alloc);
     for part in parts {
@@ -80,7 +80,7 @@ fn all_addresses(alloc: Global, parts: &[&str]) -> Result<Addresses, WordsFault>
 /// The addresses that a text spells, joined by commas.
 #[tactic(auto, unfolding(crate::specs::Addressing::addresses_of))]
 pub fn read_addresses(alloc: Global, text: &str) -> Result<Addresses, WordsFault>
-    ensures { Gives result (addresses_of text.now) }
+    ensures { ParserGives result (addresses_of text.now) }
 {
     let parts = parts(alloc, text)?;
     if parts.len() > MOST_ADDRESSES {

@@ -1,7 +1,7 @@
 //! The words behind a command, as plain words and options.
 
 ghost use Rattle.std.specs.Prelude.{◌≡◌, ◌++◌, map, string_bytes, OnOk, IfErr};
-ghost use Rattle.cli_syntax.specs.Arguing.{Follows, IsValued, read, sorted};
+ghost use Rattle.cli_syntax.specs.Arguing.{ArgumentFollows, IsValued, read, sorted};
 ghost use Rattle.cli_syntax.specs.Gives.{GivesBy};
 
 use crate::fault::WordsFault;
@@ -41,7 +41,7 @@ fn valued<'a>(name: &'a str, words: &'a [String]) -> Next<'a>
 }
 
 fn first_of(words: &[String]) -> Next<'_>
-    ensures { Follows (map string_bytes words.now) result }
+    ensures { ArgumentFollows (map string_bytes words.now) result }
 {
     let Some((word, rest)) = words.split_first() else {
         return Next::End;

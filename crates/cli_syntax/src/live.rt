@@ -2,7 +2,7 @@
 
 ghost use Rattle.std.specs.Prelude.{◌≡◌, map};
 ghost use Rattle.cli_syntax.specs.Streams.{live_from, live_of};
-ghost use Rattle.cli_syntax.specs.Gives.{Gives};
+ghost use Rattle.cli_syntax.specs.Gives.{ParserGives};
 
 use crate::cuts::parts;
 use crate::fault::WordsFault;
@@ -26,7 +26,7 @@ fn live_from(least: u64, parts: &[&str]) -> Option<Live>
 /// The streams whose numbers a text spells, joined by commas and rising.
 #[tactic(auto, unfolding(crate::specs::Streams::live_of))]
 pub fn read_live(alloc: Global, text: &str) -> Result<Live, WordsFault>
-    ensures { Gives result (live_of text.now) }
+    ensures { ParserGives result (live_of text.now) }
 {
     let parts = parts(alloc, text)?;
     match live_from(0, &parts) {

@@ -30,7 +30,7 @@ use Rattle.cmd_load.specs.Schedule.{schedule_named}
 use Rattle.cmd_load.specs.Scripts.{script_named}
 use Rattle.cmd_load.specs.Faults.{fault_of_schedule, fault_of_script}
 use Rattle.recv_report.specs.Jobs.{IsDone, NoneFailed}
-use Rattle.recv_report.specs.Settling.{Settles}
+use Rattle.recv_report.specs.Settling.{ReceiversSettle}
 use Rattle.recv_report.specs.declared.stop.Stop.{Stop}
 use Rattle.cmd_receive.specs.Receive.{WritesReports}
 use Rattle.cmd_receive.specs.Stopping.{ending_of}
@@ -137,7 +137,7 @@ module _ (plan : Plan) (window : ℕ) (valid : IsSchedule plan) (some : 1 ≤ wi
     | inr failed ↦ none_failed failed
   ]
 
-  pub kind_by : {O : Type 0} (stopped : Result Bool Stop) (known : O → Known Output) (out out' : O) → Settles after stopped known out out' → (fault : Fault) → ending_of stopped ≡ Err fault → (fault ≡ faults.NoMemory) ⊎ (fault ≡ faults.Write)
+  pub kind_by : {O : Type 0} (stopped : Result Bool Stop) (known : O → Known Output) (out out' : O) → ReceiversSettle after stopped known out out' → (fault : Fault) → ending_of stopped ≡ Err fault → (fault ≡ faults.NoMemory) ⊎ (fault ≡ faults.Write)
   kind_by stopped known out out' settled fault is =
       elim (ending_kind after stopped known out out' settled fault is) [
         | inl memory ↦ inl memory
@@ -147,7 +147,7 @@ module _ (plan : Plan) (window : ℕ) (valid : IsSchedule plan) (some : 1 ≤ wi
         ]
       ]
 
-  pub aired : OneRun → DeliveryLaws → {O : Type 0} (stopped : Result Bool Stop) (known : O → Known Output) (out out' : O) → Settles after stopped known out out'
+  pub aired : OneRun → DeliveryLaws → {O : Type 0} (stopped : Result Bool Stop) (known : O → Known Output) (out out' : O) → ReceiversSettle after stopped known out out'
       → WritesReports (AreAired plan window feeds) (ending_of stopped) known out out'
   aired one_run laws stopped known out out' settled = reports_written after stopped (AreAired plan window feeds) known out out' (are_aired one_run laws) settled
 

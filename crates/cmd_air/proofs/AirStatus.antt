@@ -3,7 +3,7 @@ use Rattle.std.proofs.Common.{◌≡◌, ℕ, ◌<◌, ◌⊎◌, inl, inr, Bool
 use Rattle.drm_schedule.specs.declared.plan.Plan.{Plan}
 use Rattle.plan_script.specs.declared.delivery.Delivery.{Delivery}
 use Rattle.drm_links.specs.Told.{HasFailed, HasCause, Known}
-use Rattle.drm_links.specs.Shelf.{Files, Supplies}
+use Rattle.drm_links.specs.Shelf.{Files, ShelfSupplies}
 use Rattle.drm_links.specs.Sink.{Output}
 use Rattle.drm_links.proofs.ToldLemmas.{Tells-then, Tells-weaker}
 use Rattle.cmd_load.specs.declared.loading.ScheduleFault.{ScheduleFault}
@@ -34,7 +34,7 @@ Ended window (Err fault) ending known out out' = ending ≡ Err fault
 -- Unless memory ran out, the files come to this, by which the run ends.
 record Came {S O : Type 0} (name script : List ℕ) (window : ℕ) (ending : Result Bool Fault) (shelf_known : S → Known Files) (shelf shelf' : S) (out_known : O → Known Output) (out out' : O) : Type 0 where
   pub both : Both
-  pub files : Supplies (shelf_known shelf) (shelf_known shelf') (λ x _. UnlessMemory ending (schedule_and_script name script x ≡ both))
+  pub files : ShelfSupplies (shelf_known shelf) (shelf_known shelf') (λ x _. UnlessMemory ending (schedule_and_script name script x ≡ both))
   pub ended : Ended window both ending out_known out out'
 
 module _ {S O : Type 0} (name script : List ℕ) (window : ℕ) (ending : Result Bool Fault) (shelf_known : S → Known Files) (out_known : O → Known Output) where
@@ -67,7 +67,7 @@ module _ {S O : Type 0} (name script : List ℕ) (window : ℕ) (ending : Result
   }
   came shelf between shelf' out out' (Err fault) first by = record {
     both = Err (fault_of_schedule fault);
-    files = subst (λ s. Supplies (shelf_known shelf) (shelf_known s) (λ x _. UnlessMemory ending (schedule_and_script name script x ≡ Err (fault_of_schedule fault)))) (sym by.1)
+    files = subst (λ s. ShelfSupplies (shelf_known shelf) (shelf_known s) (λ x _. UnlessMemory ending (schedule_and_script name script x ≡ Err (fault_of_schedule fault)))) (sym by.1)
         (Tells-weaker _ _ (shelf_known shelf) (shelf_known between) first (λ p q is. no_schedule fault p q by.0 is));
     ended = by.0;
   }
@@ -135,7 +135,7 @@ air_run {S} {O} name script window ending shelf_known shelf between shelf' out_k
     is = came name script window ending shelf_known out_known shelf between shelf' out out' came_is loaded runs
 
     all_wrote : (HasFailed (out_known out) (out_known out') → ⊥)
-        → Supplies (shelf_known shelf) (shelf_known shelf') (λ x _. (plan : Plan) (feeds : List (List Delivery)) → schedule_and_script name script x ≡ Ok (plan, feeds) → UnlessMemory ending (WroteReports ending (AreAired plan window feeds) out_known out out'))
+        → ShelfSupplies (shelf_known shelf) (shelf_known shelf') (λ x _. (plan : Plan) (feeds : List (List Delivery)) → schedule_and_script name script x ≡ Ok (plan, feeds) → UnlessMemory ending (WroteReports ending (AreAired plan window feeds) out_known out out'))
     all_wrote no_write =
         Tells-weaker _ _ (shelf_known shelf) (shelf_known shelf') is.files
         (λ x y files plan feeds gives. elim files [

@@ -8,18 +8,18 @@ use Rattle.law_collect.specs.Laws.{OneRun}
 use Rattle.dcp_collect.specs.State.{made}
 use Rattle.drm_schedule.specs.declared.plan.Plan.{Plan}
 use Rattle.drm_schedule.specs.Valid.{IsSchedule}
-use Rattle.mod_feed.specs.Feeding.{Feeds}
+use Rattle.mod_feed.specs.Feeding.{FeedAnswers}
 use Rattle.drm_reconfiguration.specs.Tracker.{new_tracker}
 use Rattle.drm_timeline.specs.Numbers.{frame_count}
-use Rattle.law_delivery.specs.Sent.{AreSent, Arrival, OfSchedule, pairs_in, IsFollowed, IsInTime}
+use Rattle.law_delivery.specs.Sent.{AreSent, Arrival, OfSchedule, pairs_in, IsDeliveryOf, IsInTime}
 use Rattle.law_delivery.specs.Given.{AreGiven}
 use Rattle.recv_reading.specs.declared.reason.EndWord.{EndWord}
 use Rattle.recv_reading.specs.declared.reason.EndWord.TheVariants as word
 use Rattle.drm_links.specs.Hearing.{AreNext}
 use Rattle.recv_reading.specs.declared.options.ReceiveOptions.{ReceiveOptions}
-use Rattle.recv_reading.specs.Ending.{datagrams, idles, Holds, IsOpen, IsSound, EndsBy}
+use Rattle.recv_reading.specs.Ending.{datagrams, idles, ReasonHolds, IsOpen, IsSound, EndsBy}
 use Rattle.report_text.specs.Reports.{refusals, report, Report}
-use Rattle.recv_report.specs.Headline.{strays_from, Modulates, ModulatesAll, untold, WouldBeRead}
+use Rattle.recv_report.specs.Headline.{strays_from, ReportsDelivery, ReportsAllFrames, untold, WouldBeRead}
 use Rattle.recv_report.specs.Ahead.{IsReportOf}
 use Rattle.cmd_air.specs.Air.{air_rules}
 use Rattle.recv_report.proofs.Composing.{DeliveryLaws, tells_switches, gives_in_time, prints_frames, strays_noted}
@@ -170,18 +170,18 @@ front_arrives (suc n) (p ∷ pairs) = ap (λ l. OfSchedule p ∷ l) (front_arriv
 -- ---- the report of a feed is that of its whole delivery
 
 module _ (one_run : OneRun) (laws : DeliveryLaws) (plan : Plan) (window number : ℕ) (base : ℤ) (pairs : List (ℕ × ℕ)) (brought : List (List ℕ)) (r : Report)
-    (valid : IsSchedule plan) (some : 1 ≤ window) (few : length brought < 4294967295) (followed : IsFollowed plan 32767 (Some plan.seq) base (map OfSchedule pairs) brought)
+    (valid : IsSchedule plan) (some : 1 ≤ window) (few : length brought < 4294967295) (followed : IsDeliveryOf plan 32767 (Some plan.seq) base (map OfSchedule pairs) brought)
     (of : IsReportOf (air_rules plan window) number (map Datagram brought) r) where
   abbrev arrivals : List Arrival
   arrivals = map OfSchedule pairs
 
   -- a reading that ended by the told number
-  early : Holds (air_rules plan window) of.answers word.Frames → Modulates plan (air_rules plan window) number base arrivals of.answers r.text r.clean
+  early : ReasonHolds (air_rules plan window) of.answers word.Frames → ReportsDelivery plan (air_rules plan window) number base arrivals of.answers r.text r.clean
   early holds =
       let is = of.is in
       let n : ℕ = frame_count plan in
       let came = front_came brought of.answers of.rest of.next in
-      let whole : IsFollowed plan 32767 (Some plan.seq) base arrivals (datagrams of.answers ++ came.0) = subst (λ l. IsFollowed plan 32767 (Some plan.seq) base arrivals l) came.1 followed in
+      let whole : IsDeliveryOf plan 32767 (Some plan.seq) base arrivals (datagrams of.answers ++ came.0) = subst (λ l. IsDeliveryOf plan 32767 (Some plan.seq) base arrivals l) came.1 followed in
       let same : is.run.during ≡ holds.1 = (one_run (made window 32767 (Some plan.seq)) holds.2 is.run.mid (datagrams of.answers) holds.0 is.taken holds.1 is.run.during holds.3 is.run.steps).1 in
       let many : n ≤ length is.run.during = subst (λ l. n ≤ length l) (sym same) holds.4 in
       let items : is.items ≡ take n is.run.during = is.run.are ∙ take-append-le n is.run.during is.run.rest many in
@@ -191,7 +191,7 @@ module _ (one_run : OneRun) (laws : DeliveryLaws) (plan : Plan) (window number :
       strays_noted 0 (take size arrivals) is.taken suit ∙ ap (strays_from 0) (front_arrives size pairs) ∙ no_strays 0 (take size pairs) ∙ sym (no_strays 0 pairs) in
       let given : AreGiven plan window base (Some n) (pairs_in arrivals) is.steps =
       laws.early plan window 32767 n (Some plan.seq) base arrivals (datagrams of.answers) came.0 is.taken is.run.during is.run.mid is.steps is.after
-      valid some whole is.run.steps many (subst (λ l. Feeds new_tracker l is.steps is.after) items is.feeds) in
+      valid some whole is.run.steps many (subst (λ l. FeedAnswers new_tracker l is.steps is.after) items is.feeds) in
       record {
         steps = is.steps;
         given = given;
@@ -204,7 +204,7 @@ module _ (one_run : OneRun) (laws : DeliveryLaws) (plan : Plan) (window number :
         clean_is = is.clean_is;
       }
 
-  headline_by : (w : EndWord) → EndsBy (air_rules plan window) of.answers w → Modulates plan (air_rules plan window) number base arrivals of.answers r.text r.clean
+  headline_by : (w : EndWord) → EndsBy (air_rules plan window) of.answers w → ReportsDelivery plan (air_rules plan window) number base arrivals of.answers r.text r.clean
   headline_by word.Frames ends = early ends
   headline_by word.Limit ends =
       let came = front_came brought of.answers of.rest of.next in
@@ -214,19 +214,19 @@ module _ (one_run : OneRun) (laws : DeliveryLaws) (plan : Plan) (window number :
   headline_by word.Idle ends =
       elim (all_came brought of.answers of.rest of.next) [
         | inl none ↦ absurd (let idle : 1 ≤ idles of.answers = ends.0 in omega (arith, none, idle))
-        | inr all ↦ of.headline plan base arrivals valid (subst (λ l. IsFollowed plan 32767 (Some plan.seq) base arrivals l) (sym all) followed)
+        | inr all ↦ of.headline plan base arrivals valid (subst (λ l. IsDeliveryOf plan 32767 (Some plan.seq) base arrivals l) (sym all) followed)
       ]
   headline_by word.Input ends = absurd (never_ends brought of.answers of.rest ends.0.0 of.next ends.0.1)
   headline_by word.Paths ends = absurd ends
 
-  pub headline : Modulates plan (air_rules plan window) number base (map OfSchedule pairs) of.answers r.text r.clean
+  pub headline : ReportsDelivery plan (air_rules plan window) number base (map OfSchedule pairs) of.answers r.text r.clean
   headline = headline_by of.is.word of.is.reading.ends
 
 pub complete : (plan : Plan) (window number : ℕ) (pairs : List (ℕ × ℕ)) (brought : List (List ℕ)) (r : Report)
     → IsSchedule plan → length brought < 4294967295 → IsReportOf (air_rules plan window) number (map Datagram brought) r
-    → IsFollowed plan 32767 (Some plan.seq) (pos 0) (map OfSchedule pairs) brought → ((q : ℕ) → q < frame_count plan → IsInTime plan window (pos 0) pairs q)
-    → ModulatesAll plan (air_rules plan window) number (map OfSchedule pairs) (map Datagram brought) r.text r.clean
+    → IsDeliveryOf plan 32767 (Some plan.seq) (pos 0) (map OfSchedule pairs) brought → ((q : ℕ) → q < frame_count plan → IsInTime plan window (pos 0) pairs q)
+    → ReportsAllFrames plan (air_rules plan window) number (map OfSchedule pairs) (map Datagram brought) r.text r.clean
 complete plan window number pairs brought r valid few of followed in_time =
     of.complete plan (map OfSchedule pairs) (all_answers brought) valid (would_be_read (air_rules plan window) brought refl few)
-    (subst (λ l. IsFollowed plan 32767 (Some plan.seq) (pos 0) (map OfSchedule pairs) l) (sym (came_all brought)) followed) (inr refl)
+    (subst (λ l. IsDeliveryOf plan 32767 (Some plan.seq) (pos 0) (map OfSchedule pairs) l) (sym (came_all brought)) followed) (inr refl)
     (λ q within. subst (λ l. IsInTime plan window (pos 0) l q) (sym (pairs_again pairs)) (in_time q within))

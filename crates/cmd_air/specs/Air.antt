@@ -5,13 +5,13 @@ use Rattle.drm_schedule.specs.Valid.{IsSchedule}
 use Rattle.plan_script.specs.declared.delivery.Delivery.{Delivery}
 use Rattle.plan_script.specs.Script.{IsScript, IsDelivery}
 use Rattle.drm_links.specs.Told.{HasFailed, Known, HasCause}
-use Rattle.drm_links.specs.Shelf.{Files, Supplies}
+use Rattle.drm_links.specs.Shelf.{Files, ShelfSupplies}
 use Rattle.drm_links.specs.Link.{Datagram}
 use Rattle.drm_links.specs.Sink.{Output}
 use Rattle.drm_timeline.specs.Numbers.{frame_count}
-use Rattle.law_delivery.specs.Sent.{AreSent, Arrival, OfSchedule, IsFollowed, IsInTime}
+use Rattle.law_delivery.specs.Sent.{AreSent, Arrival, OfSchedule, IsDeliveryOf, IsInTime}
 use Rattle.recv_reading.specs.declared.options.ReceiveOptions.{ReceiveOptions}
-use Rattle.recv_report.specs.Headline.{Modulates, ModulatesAll}
+use Rattle.recv_report.specs.Headline.{ReportsDelivery, ReportsAllFrames}
 use Rattle.cmd_receive.specs.Receive.{WritesReports, WroteReports}
 use Rattle.report_text.specs.Reports.{Report}
 use Rattle.recv_report.specs.Ahead.{IsReportOf}
@@ -41,11 +41,11 @@ pub record IsAired (plan : Plan) (window feed : ℕ) (deliveries : List Delivery
   pub datagrams : List (List ℕ)
   pub sent : AreSent plan (pairs_of deliveries) datagrams
   pub report : IsReportOf (air_rules plan window) feed (map Datagram datagrams) r
-  pub headline : (base : ℤ) → IsFollowed plan 32767 (Some plan.seq) base (arrivals_of deliveries) datagrams
-      → Modulates plan (air_rules plan window) feed base (arrivals_of deliveries) report.answers r.text r.clean
-  pub complete : IsFollowed plan 32767 (Some plan.seq) (pos 0) (arrivals_of deliveries) datagrams
+  pub headline : (base : ℤ) → IsDeliveryOf plan 32767 (Some plan.seq) base (arrivals_of deliveries) datagrams
+      → ReportsDelivery plan (air_rules plan window) feed base (arrivals_of deliveries) report.answers r.text r.clean
+  pub complete : IsDeliveryOf plan 32767 (Some plan.seq) (pos 0) (arrivals_of deliveries) datagrams
       → ((q : ℕ) → q < frame_count plan → IsInTime plan window (pos 0) (pairs_of deliveries) q)
-      → ModulatesAll plan (air_rules plan window) feed (arrivals_of deliveries) (map Datagram datagrams) r.text r.clean
+      → ReportsAllFrames plan (air_rules plan window) feed (arrivals_of deliveries) (map Datagram datagrams) r.text r.clean
 
 -- one to sixteen feeds of fragments of a schedule
 pub record AreFeeds (plan : Plan) (feeds : List (List Delivery)) : Type 0 where
@@ -110,7 +110,7 @@ FeedsAreInTime plan window feeds =
     (k : ℕ) (feed : List Delivery) (datagrams : List (List ℕ)) → k < length feeds
     → let here = slice_index_or feeds k feed in
     AreSent plan (pairs_of here) datagrams
-    → IsFollowed plan 32767 (Some plan.seq) (pos 0) (arrivals_of here) datagrams
+    → IsDeliveryOf plan 32767 (Some plan.seq) (pos 0) (arrivals_of here) datagrams
     × ((q : ℕ) → q < frame_count plan → IsInTime plan window (pos 0) (pairs_of here) q)
 
 -- A run of `air`: the schedule is read, then the script, and then the feeds are received.
@@ -122,16 +122,16 @@ pub record AirRun {S O : Type 0} (name script : List ℕ) (window : ℕ) (ending
   pub loads : ReadBy (schedule_named name) came (shelf_known shelf) (shelf_known between)
   pub runs : BySchedule script window came ending shelf_known between shelf' out_known out out'
   -- It is refused exactly where its files are, with the line and the reason; a load fails exactly where one is to fail.
-  pub exactly : Supplies (shelf_known shelf) (shelf_known shelf') (λ before _. UnlessMemory ending (EndsByFiles (schedule_and_script name script before) ending))
+  pub exactly : ShelfSupplies (shelf_known shelf) (shelf_known shelf') (λ before _. UnlessMemory ending (EndsByFiles (schedule_and_script name script before) ending))
   -- Where its files come to feeds and no write failed the report of each is written, in their order: it is that of the datagrams
   -- that the feed delivers.
   pub complete : (HasFailed (out_known out) (out_known out') → ⊥)
-      → Supplies (shelf_known shelf) (shelf_known shelf') (λ before _. (plan : Plan) (feeds : List (List Delivery))
+      → ShelfSupplies (shelf_known shelf) (shelf_known shelf') (λ before _. (plan : Plan) (feeds : List (List Delivery))
       → schedule_and_script name script before ≡ Ok (plan, feeds)
       → UnlessMemory ending (WroteReports ending (AreAired plan window feeds) out_known out out'))
   -- Where each feed has each frame in time, none is missing.
   pub in_time : (HasFailed (out_known out) (out_known out') → ⊥)
-      → Supplies (shelf_known shelf) (shelf_known shelf') (λ before _. (plan : Plan) (feeds : List (List Delivery))
+      → ShelfSupplies (shelf_known shelf) (shelf_known shelf') (λ before _. (plan : Plan) (feeds : List (List Delivery))
       → schedule_and_script name script before ≡ Ok (plan, feeds) → FeedsAreInTime plan window feeds → UnlessMemory ending (ending ≡ Ok true))
   -- The count of faults of the shelf rose, by one, exactly where a load ended the run, and that of out where a write did.
   pub read_cause : HasCause (shelf_known shelf) (shelf_known shelf') (ending ≡ Err faults.Read)

@@ -12,18 +12,18 @@ ghost use Rattle.cmd_air.specs.Feeds.{BringsFeed, BringFeeds};
 ghost use Rattle.cmd_air.specs.Air.{AirRun, AreFeeds, AreAired, air_rules};
 ghost use Rattle.cmd_receive.specs.Receive.{WritesReports};
 
-use law_collect::one_run;
-use drm_bits::NoMemory;
 use cmd_faults::Fault;
-use drm_links::{MemLink, Shelf, Sink};
 use cmd_load::{read_schedule, read_script_named, script_fault};
 use cmd_receive::ending;
+use drm_bits::NoMemory;
+use drm_links::{MemLink, Shelf, Sink};
 use drm_schedule::Schedule;
 use drm_server::Server;
 use drm_timeline::frame_count;
-use recv_report::{Job, job_for, laws_of_deliveries, reports_follow, run_all, settle};
-use recv_reading::ReceiveOptions;
+use law_collect::one_run;
 use plan_script::{Delivery, Script};
+use recv_reading::ReceiveOptions;
+use recv_report::{Job, job_for, laws_of_deliveries, reports_follow, run_all, settle};
 use std::alloc::Global;
 use std::thread::Threads;
 
@@ -38,8 +38,8 @@ pub fn air<R: Threads + Sync, S: Shelf, O: Sink>(
     shelf: &mut S,
     out: &mut O,
 ) -> Result<bool, Fault>
-    requires some { 1 ≤ window }
-    requires few { window ≤ 64 }
+    requires at_least_one { 1 ≤ window }
+    requires within_limit { window ≤ 64 }
     ensures run { AirRun name.now script.now window result
         S.known shelf.old shelf.new O.known out.old out.new }
 {
@@ -61,8 +61,8 @@ pub fn air_over<R: Threads + Sync, O: Sink>(
     window: u8,
     out: &mut O,
 ) -> Result<bool, Fault>
-    requires some { 1 ≤ window }
-    requires few { window ≤ 64 }
+    requires at_least_one { 1 ≤ window }
+    requires within_limit { window ≤ 64 }
     requires feeds { AreFeeds plan.now script.now }
     ensures writes { WritesReports (AreAired plan.now window script.now) result O.known out.old out.new }
     ensures kind { (fault : Fault) → result ≡ Err fault → (fault ≡ Fault.NoMemory) ⊎ (fault ≡ Fault.Write) }
@@ -84,10 +84,10 @@ fn feed_all(
     script: &Script,
     window: u8,
 ) -> Result<Vec<Job<MemLink>>, NoMemory>
-    requires some { 1 ≤ window }
-    requires few { window ≤ 64 }
+    requires at_least_one { 1 ≤ window }
+    requires within_limit { window ≤ 64 }
     requires feeds { AreFeeds plan.now script.now }
-    ensures many { IfOk result (λ jobs. vec_len jobs ≡ length script.now) }
+    ensures same_count { IfOk result (λ jobs. vec_len jobs ≡ length script.now) }
     ensures jobs { IfOk result (λ jobs. AreJobs (air_rules plan.now window) (length script.now) jobs.items) }
     ensures feeds { IfOk result (λ jobs. BringFeeds plan.now script.now jobs.items) }
 {

@@ -9,7 +9,7 @@ use Rattle.cmd_convert.specs.declared.item.Halt.TheVariants as halt
 use Rattle.cmd_convert.specs.declared.reading.Unconverted.{Unconverted}
 use Rattle.cmd_convert.specs.declared.reading.Unconverted.TheVariants as unconverted
 use Rattle.cmd_convert.specs.Reading.{ending_of}
-use Rattle.cmd_convert.specs.Run.{Ends}
+use Rattle.cmd_convert.specs.Run.{ConvertEnds}
 
 pub not_memory : (result : Result (Unit {0}) Unconverted) (clean : Bool) → ending_of result clean ≡ Err faults.NoMemory → ⊥
 not_memory (Ok done) clean is = cc
@@ -37,7 +37,7 @@ by_write (Err (unconverted.Halted (halt.PacketSize number))) clean is = absurd (
 
 -- with what was told in place of the collector and the cutter that were made of it
 pub as_told : (window reach : ℕ) (first told : Option ℕ) (carry used : Carry) (c : State) (ending : Result Bool Fault) (named : Bool) (before after : Known Input) (a b x y : Known Output) → c ≡ made window reach first → used ≡ carry
-    → Ends (record { window = c.window; reach = c.reach; first = c.first; told = told }) used ending named before after a b x y → Ends (record { window = window; reach = reach; first = first; told = told }) carry ending named before after a b x y
+    → ConvertEnds (record { window = c.window; reach = c.reach; first = c.first; told = told }) used ending named before after a b x y → ConvertEnds (record { window = window; reach = reach; first = first; told = told }) carry ending named before after a b x y
 as_told window reach first told carry used c ending named before after a b x y is same ends =
-    subst (λ k. Ends (record { window = window; reach = reach; first = first; told = told }) k ending named before after a b x y) same
-    (subst (λ (s : State). Ends (record { window = s.window; reach = s.reach; first = s.first; told = told }) used ending named before after a b x y) is ends)
+    subst (λ k. ConvertEnds (record { window = window; reach = reach; first = first; told = told }) k ending named before after a b x y) same
+    (subst (λ (s : State). ConvertEnds (record { window = s.window; reach = s.reach; first = s.first; told = told }) used ending named before after a b x y) is ends)

@@ -23,14 +23,14 @@ use Rattle.cmd_faults.specs.Captures.{EndsByIt}
 use Rattle.cmd_faults.proofs.CaptureLemmas.{each_early, none_by, fault_by, length_by, done_or}
 use Rattle.recv_reading.proofs.BreakingOff.{none_in_front}
 use Rattle.cmd_convert.proofs.Sound.{sound}
-use Rattle.cmd_convert.specs.Converting.{Part, Converts, ConvertsAll, IsTooLarge}
-use Rattle.cmd_convert.specs.Run.{IsConversion, IsBroken, ReadsTo, AreFirstOf, LeadsTo, AreSmall, Meets, EndsExactly, Ends, IsDone, CanEnd, ConvertRun}
+use Rattle.cmd_convert.specs.Converting.{Part, ConvertsItem, ConvertsAll, IsTooLarge}
+use Rattle.cmd_convert.specs.Run.{IsConversion, IsBroken, ReadsTo, AreFirstOf, LeadsTo, AreSmall, MeetsTooLarge, EndsExactly, ConvertEnds, IsDone, CanEnd, ConvertRun}
 use Rattle.recv_reading.specs.Packets.{AreReadBy, BreaksOffBy, ComesTo, HasEnough, NoneShorter, Terms}
 use Rattle.recv_reading.proofs.Ways.{Starts, Agree, front_of, starts_up_to, starts_more, taken_starts, finished_starts, lacks_before, all_before, both_taken, both_finished, then_finished, finished_then}
 
 -- ---- what is converted isn't too large
 
-not_large : (carry : Carry) (first number : ℕ) (item : Item) (part : Part) → Converts carry first item part → IsTooLarge carry item number → ⊥
+not_large : (carry : Carry) (first number : ℕ) (item : Item) (part : Part) → ConvertsItem carry first item part → IsTooLarge carry item number → ⊥
 not_large carry first number (Packet index bytes) part (inl (any, short, carried, none)) (is, some, long) = true≢false (sym long ∙ short)
 not_large carry first number (Packet index bytes) part (inr (fault, is_fault, none, line)) (is, (af, is_af), long) = no_fault af fault bytes is_af is_fault
 not_large carry first number (Lost index had total) part converts large = large
@@ -96,7 +96,7 @@ module _ (one_way : ReadOneWay) (some_way : ReadSomeWay) (in_front : PacketsInFr
             let same : a.packets ≡ b.packets = (one_way left a.packets b.packets End End (all_of_it a.at.later a.packets none a.are) (all_of_it b.at.later b.packets also b.are)).0 in
             both_finished terms a.packets b.packets items given item next last end a.at b.at none also finished finished' same
 
-    one_meeting : (m n : ℕ) → Meets terms carry left m → Meets terms carry left n → m ≡ n
+    one_meeting : (m n : ℕ) → MeetsTooLarge terms carry left m → MeetsTooLarge terms carry left n → m ≡ n
     one_meeting m n (items, item, last, a, small, large) (given, next, end, b, small', large') = by (agree items given item next last end a b)
       where
         by : Agree items item given next → m ≡ n
@@ -172,7 +172,7 @@ module _ (one_way : ReadOneWay) (some_way : ReadSomeWay) (in_front : PacketsInFr
     by_size number (capture.Fault fault) is = cc
     by_size number capture.TooLong is = cc
 
-    done_well : (clean : Bool) → ((why : Ending) → BreaksOffBy terms left why → ⊥) → ((number : ℕ) → Meets terms carry left number → ⊥) → EndsExactly terms carry left (Ok clean)
+    done_well : (clean : Bool) → ((why : Ending) → BreaksOffBy terms left why → ⊥) → ((number : ℕ) → MeetsTooLarge terms carry left number → ⊥) → EndsExactly terms carry left (Ok clean)
     done_well clean unbroken unmet = (
       λ why. ((λ is. absurd (none_by clean why is)), (λ both. absurd (unbroken why both.0))),
       λ number. ((λ is. absurd (let clash : Ok clean ≡ Err (faults.PacketSize number) = is in cc)), (λ meets. absurd (unmet number meets))),
@@ -194,7 +194,7 @@ module _ (one_way : ReadOneWay) (some_way : ReadSomeWay) (in_front : PacketsInFr
         → ((number : ℕ) → ending ≡ Err (faults.PacketSize number) → ⊥)
         → IsCaptureOf left packets why → (HasEnough terms packets → ⊥) → NoneShorter terms packets → IsBroken terms carry packets parts → EndsExactly terms carry left ending
     on_fault ending why packets parts faulty ends one_end no_size of lacks shorter is =
-        let unmet : (number : ℕ) → Meets terms carry left number → ⊥ = λ number (items, item, last, leads, small, large). not_broken items item last number leads large packets parts why of faulty is in
+        let unmet : (number : ℕ) → MeetsTooLarge terms carry left number → ⊥ = λ number (items, item, last, leads, small, large). not_broken items item last number leads large packets parts why of faulty is in
         let breaks : BreaksOffBy terms left why = record { packets = packets; is = of; faulty = faulty; lacks = lacks; shorter = shorter } in (
           λ other. (
             (λ as_told. (subst (BreaksOffBy terms left) (one_end other as_told) breaks, unmet)),
@@ -203,11 +203,11 @@ module _ (one_way : ReadOneWay) (some_way : ReadSomeWay) (in_front : PacketsInFr
           λ number. ((λ as_told. absurd (no_size number as_told)), (λ meets. absurd (unmet number meets))),
         )
 
-    on_size : (number : ℕ) → Meets terms carry left number → EndsExactly terms carry left (Err (faults.PacketSize number))
+    on_size : (number : ℕ) → MeetsTooLarge terms carry left number → EndsExactly terms carry left (Err (faults.PacketSize number))
     on_size number meets = (
       λ why. ((λ is. absurd (by_size number why is)), (λ both. absurd (both.1 number meets))),
       λ other. (
-        (λ is. let same : number ≡ other = cc in subst (Meets terms carry left) same meets),
+        (λ is. let same : number ≡ other = cc in subst (MeetsTooLarge terms carry left) same meets),
         (λ also. ap (λ n. Err (faults.PacketSize n)) (one_meeting number other meets also)),
       ),
     )
@@ -239,7 +239,7 @@ module _ (one_way : ReadOneWay) (some_way : ReadSomeWay) (in_front : PacketsInFr
     Exact ending = Inputs before after (λ left _. UnlessMemory ending (EndsExactly terms carry left ending))
 
     -- which faults end it
-    fault_can : (fault : Fault) → Ends terms carry (Err fault) told before after a b x y → CanEnd fault
+    fault_can : (fault : Fault) → ConvertEnds terms carry (Err fault) told before after a b x y → CanEnd fault
     fault_can faults.NoMemory ends = tt
     fault_can (faults.Capture fault) ends = tt
     fault_can faults.CaptureTooLong ends = tt
@@ -255,8 +255,8 @@ module _ (one_way : ReadOneWay) (some_way : ReadSomeWay) (in_front : PacketsInFr
     fault_can (faults.Units wrong) ends = ends
     fault_can faults.Link ends = ends
 
-    can_end : (ending : Result Bool Fault) → Ends terms carry ending told before after a b x y → (fault : Fault) → ending ≡ Err fault → CanEnd fault
-    can_end ending ends fault is = fault_can fault (subst (λ e. Ends terms carry e told before after a b x y) is ends)
+    can_end : (ending : Result Bool Fault) → ConvertEnds terms carry ending told before after a b x y → (fault : Fault) → ending ≡ Err fault → CanEnd fault
+    can_end ending ends fault is = fault_can fault (subst (λ e. ConvertEnds terms carry e told before after a b x y) is ends)
 
     exact_broken : (ending : Result Bool Fault) (why : Ending) → (why ≡ End → ⊥) → EndsByIt ending why → ((other : Ending) → EndsByIt ending other → why ≡ other) → ((number : ℕ) → ending ≡ Err (faults.PacketSize number) → ⊥)
         → (packets : List (List ℕ)) (parts : List Part) → Inputs before after (λ left rest. IsCaptureOf left packets why) → (HasEnough terms packets → ⊥) → NoneShorter terms packets → IsBroken terms carry packets parts → Exact ending
@@ -264,7 +264,7 @@ module _ (one_way : ReadOneWay) (some_way : ReadSomeWay) (in_front : PacketsInFr
         Inputs-weaker (λ left rest. IsCaptureOf left packets why) (λ left _. UnlessMemory ending (EndsExactly terms carry left ending)) before after stops
         (λ left more of. inr (on_fault left ending why packets parts faulty ends one_end no_size of lacks shorter is))
 
-    exact : (ending : Result Bool Fault) → Ends terms carry ending told before after a b x y → (ending ≡ Err faults.Read → ⊥) → (ending ≡ Err faults.Write → ⊥) → Exact ending
+    exact : (ending : Result Bool Fault) → ConvertEnds terms carry ending told before after a b x y → (ending ≡ Err faults.Read → ⊥) → (ending ≡ Err faults.Write → ⊥) → Exact ending
     exact (Ok clean) (packets, inl ((reader, read), enough), shorter, parts, is, text, names, clean_is) no_read no_write =
         Inputs-weaker (λ left rest. left ≡ concat packets ++ (reader.held ++ rest)) (λ left _. UnlessMemory (Ok clean) (EndsExactly terms carry left (Ok clean))) before after read.bytes
         (λ left more same. inr (on_enough left clean packets parts (read_first left more packets reader before after read same) enough is))
@@ -273,7 +273,7 @@ module _ (one_way : ReadOneWay) (some_way : ReadSomeWay) (in_front : PacketsInFr
         (λ left more of. inr (on_end left clean packets parts of is))
     exact (Err fault) ends no_read no_write =
         let P : List ℕ → List ℕ → Type 0 = λ left _. UnlessMemory {T = Bool} (Err faults.NoMemory) (EndsExactly terms carry left (Err faults.NoMemory)) in
-        each_early (Unit {0}) (λ f. Ends terms carry (Err f) told before after a b x y → (f ≡ faults.Read → ⊥) → (f ≡ faults.Write → ⊥) → Exact (Err f))
+        each_early (Unit {0}) (λ f. ConvertEnds terms carry (Err f) told before after a b x y → (f ≡ faults.Read → ⊥) → (f ≡ faults.Write → ⊥) → Exact (Err f))
         (λ (same, out, err) reads writes. subst (λ k. Inputs before k P) (sym same) (Inputs-nothing P before (λ left. inl refl)))
         (λ wrong (packets, whole, stops, lacks, shorter, parts, is, text, names) reads writes.
         exact_broken (Err (faults.Capture wrong)) (capture.Fault wrong) (λ e. let clash : capture.Fault wrong ≡ End = e in cc) refl (fault_by wrong)
@@ -289,18 +289,18 @@ module _ (one_way : ReadOneWay) (some_way : ReadSomeWay) (in_front : PacketsInFr
         fault (fault_can fault ends) ends (λ is. no_read (ap Err is)) (λ is. no_write (ap Err is))
 
     -- nothing is lost
-    done_by : (left : List ℕ) (ending : Result Bool Fault) → Ends terms carry ending told before after a b x y → (ending ≡ Err faults.Read → ⊥) → (ending ≡ Err faults.Write → ⊥)
-        → UnlessMemory ending (EndsExactly terms carry left ending) → ((why : Ending) → BreaksOffBy terms left why → ⊥) → ((number : ℕ) → Meets terms carry left number → ⊥)
+    done_by : (left : List ℕ) (ending : Result Bool Fault) → ConvertEnds terms carry ending told before after a b x y → (ending ≡ Err faults.Read → ⊥) → (ending ≡ Err faults.Write → ⊥)
+        → UnlessMemory ending (EndsExactly terms carry left ending) → ((why : Ending) → BreaksOffBy terms left why → ⊥) → ((number : ℕ) → MeetsTooLarge terms carry left number → ⊥)
         → UnlessMemory ending (IsDone terms carry ending told before after a b x y)
     done_by left ending ends no_read no_write (inl memory) unbroken unmet = inl memory
     done_by left ending ends no_read no_write (inr exactly) unbroken unmet =
         elim (done_or (Unit {0}) ending (can_end ending ends) no_read no_write (λ why is. unbroken why ((exactly.0 why).0 is).0) (λ yes number is. unmet number ((exactly.1 number).0 is))) [
           | inl memory ↦ inl memory
-          | inr (clean, is) ↦ inr (clean, is, subst (λ e. Ends terms carry e told before after a b x y) is ends)
+          | inr (clean, is) ↦ inr (clean, is, subst (λ e. ConvertEnds terms carry e told before after a b x y) is ends)
         ]
 
   pub convert_run : {I O E : Type 0} (ending : Result Bool Fault) (told : Bool) (input_known : I → Known Input) (input input' : I) (out_known : O → Known Output) (out out' : O) (err_known : E → Known Output) (err err' : E)
-      → Ends terms carry ending told (input_known input) (input_known input') (out_known out) (out_known out') (err_known err) (err_known err')
+      → ConvertEnds terms carry ending told (input_known input) (input_known input') (out_known out) (out_known out') (err_known err) (err_known err')
       → (ending ≡ Err faults.NoMemory → (input' ≡ input) × (out' ≡ out) × (err' ≡ err))
       → HasCause (input_known input) (input_known input') (ending ≡ Err faults.Read)
       → HasCause (out_known out) (out_known out') (ending ≡ Err faults.Write)
@@ -322,7 +322,7 @@ module _ (one_way : ReadOneWay) (some_way : ReadSomeWay) (in_front : PacketsInFr
             let no_read : ending ≡ Err faults.Read → ⊥ = λ is. reads (read_cause.once is) in
             let no_write : ending ≡ Err faults.Write → ⊥ = λ is. goes (write_cause.once is) in
             Inputs-weaker (λ left _. UnlessMemory ending (EndsExactly terms carry left ending))
-            (λ left _. ((why : Ending) → BreaksOffBy terms left why → ⊥) → ((number : ℕ) → Meets terms carry left number → ⊥) → UnlessMemory ending (IsDone terms carry ending told before after a b x y))
+            (λ left _. ((why : Ending) → BreaksOffBy terms left why → ⊥) → ((number : ℕ) → MeetsTooLarge terms carry left number → ⊥) → UnlessMemory ending (IsDone terms carry ending told before after a b x y))
             before after (exact told before after a b x y ending ends no_read no_write)
             (λ left _ exactly unbroken unmet. done_by told before after a b x y left ending ends no_read no_write exactly unbroken unmet);
         read_cause = read_cause;

@@ -7,12 +7,12 @@ use Rattle.dcp_pft.specs.declared.carry.Carry.{Carry}
 use Rattle.cmd_convert.specs.declared.naming.Progress.{Progress}
 use Rattle.dcp_sender.specs.Carried.{Carried, is_too_long}
 use Rattle.dcp_sender.specs.Packets.{IsAny, sequence_of}
-use Rattle.cmd_convert.specs.Converting.{Converts}
-use Rattle.cmd_convert.specs.Naming.{Names}
+use Rattle.cmd_convert.specs.Converting.{ConvertsItem}
+use Rattle.cmd_convert.specs.Naming.{NamesItems}
 use Rattle.cmd_convert.specs.Steps.{Converted, Failing, has_none}
 
 -- nothing was named
-pub names_none : (told : Bool) (err : Known Output) → Names told told err err []
+pub names_none : (told : Bool) (err : Known Output) → NamesItems told told err err []
 names_none told err = record {
   held = λ is. is;
   whole = λ is. Outputs-nothing err (λ text. text ≡ []) refl;
@@ -24,7 +24,7 @@ names_none told err = record {
 
 -- an item that is named
 pub named : (carry : Carry) (first : ℕ) (item : Item) (line : List ℕ) (p p' : Progress) (out err err' : Known Output)
-    → Converts carry first item (record { out = []; line = line }) → p'.given ≡ p.given + 1 → p'.clean ≡ false → Names p.told p'.told err err' line → has_none line ≡ false
+    → ConvertsItem carry first item (record { out = []; line = line }) → p'.given ≡ p.given + 1 → p'.clean ≡ false → NamesItems p.told p'.told err err' line → has_none line ≡ false
     → Converted carry first item p p' out out err err'
 named carry first item line p p' out err err' converts given clean names some = record {
   part = record { out = []; line = line };
@@ -45,7 +45,7 @@ pub written : (carry : Carry) (first index seq : ℕ) (bytes text : List ℕ) (p
     → IsAny bytes → is_too_long carry (length bytes) ≡ false → seq ≡ sequence_of first index → Carried carry seq bytes text → Outputs out out' (λ t. t ≡ text)
     → p'.given ≡ p.given + 1 → p'.clean ≡ p.clean → p'.told ≡ p.told → Converted carry first (Packet index bytes) p p' out out' err err
 written carry first index seq bytes text p p' out out' err any short is carried wrote given clean told =
-    let P : Bool → Type 0 = λ b. Names p.told b err err [] in
+    let P : Bool → Type 0 = λ b. NamesItems p.told b err err [] in
     record {
       part = record { out = text; line = [] };
       converts = inl (any, short, carried_at carry first index seq bytes text is carried, refl);

@@ -11,8 +11,8 @@ use Rattle.drm_links.proofs.ToldLemmas.{Outputs-nothing, Outputs-weaker, once_th
 use Rattle.drm_links.proofs.WritingLemmas.{text_then, front_more, front_then, front_of_both}
 use Rattle.dcp_pft.specs.declared.carry.Carry.{Carry}
 use Rattle.cmd_convert.specs.declared.naming.Progress.{Progress}
-use Rattle.cmd_convert.specs.Converting.{Part, Converts, ConvertsAll, text_of, lines_of}
-use Rattle.cmd_convert.specs.Naming.{Names}
+use Rattle.cmd_convert.specs.Converting.{Part, ConvertsItem, ConvertsAll, text_of, lines_of}
+use Rattle.cmd_convert.specs.Naming.{NamesItems}
 use Rattle.cmd_convert.specs.Steps.{Converted, Failing, has_none}
 use Rattle.cmd_convert.specs.Converted.{ConvertedAll, are_clean}
 use Rattle.recv_reading.proofs.First.{packet_first}
@@ -35,7 +35,7 @@ no_lines_before parts part none = empty_before (lines_of parts) (lines_of (part 
     empty_before (x ∷ xs) ys e = absurd (cc)
 
 -- nothing more after a failed call
-names_stop : (told told' : Bool) (a b c : Known Output) (x y : List ℕ) → told' ≡ false → Names told told' a b x → c ≡ b → Names told false a c (x ++ y)
+names_stop : (told told' : Bool) (a b c : Known Output) (x y : List ℕ) → told' ≡ false → NamesItems told told' a b x → c ≡ b → NamesItems told false a c (x ++ y)
 names_stop told told' a b c x y lost first none_more =
     let P : Known Output → Type 0 = λ k. Outputs a k (IsFront (x ++ y)) in
     let R : Known Output → Type 0 = λ k. HasFailed a k in
@@ -48,7 +48,7 @@ names_stop told told' a b c x y lost first none_more =
       once = λ v none. subst R (sym none_more) (first.once v lost);
     }
 
-names_on : (told told' last : Bool) (a b c : Known Output) (x y : List ℕ) → told' ≡ true → Names told told' a b x → Names told' last b c y → Names told last a c (x ++ y)
+names_on : (told told' last : Bool) (a b c : Known Output) (x y : List ℕ) → told' ≡ true → NamesItems told told' a b x → NamesItems told' last b c y → NamesItems told last a c (x ++ y)
 names_on told told' last a b c x y held first second = record {
   held = λ is. first.held held;
   whole = λ is. text_then x y a b c (first.whole held) (second.whole is);
@@ -58,7 +58,7 @@ names_on told told' last a b c x y held first second = record {
   once = λ is none. once_then (first.same held) (second.once held none);
 }
 
-pub names_then : (told told' last : Bool) (a b c : Known Output) (x y : List ℕ) → Names told told' a b x → Names told' last b c y → Names told last a c (x ++ y)
+pub names_then : (told told' last : Bool) (a b c : Known Output) (x y : List ℕ) → NamesItems told told' a b x → NamesItems told' last b c y → NamesItems told last a c (x ++ y)
 names_then told true last a b c x y first second = names_on told true last a b c x y refl first second
 names_then told false true a b c x y first second = absurd (let clash : false ≡ true = second.held refl in cc)
 names_then told false false a b c x y first second = names_stop told false a b c x y refl first (second.still refl)
@@ -96,7 +96,7 @@ pub all_then : (carry : Carry) (c d : State) (items more : List Item) (p q r : P
     → ConvertedAll carry c items p q a b x y → ConvertedAll carry d more q r b o y z → ConvertedAll carry d (items ++ more) p r a o x z
 all_then carry c d items more p q r a b o x y z may first second =
     let P : List ℕ → Type 0 = λ l. Outputs a o (λ t. t ≡ l) in
-    let Q : List ℕ → Type 0 = λ l. Names p.told r.told x z l in
+    let Q : List ℕ → Type 0 = λ l. NamesItems p.told r.told x z l in
     record {
       parts = first.parts ++ second.parts;
       converts = λ f is. all_join carry f items more first.parts second.parts (first.converts f (may f is)) (second.converts f is);
@@ -108,9 +108,9 @@ all_then carry c d items more p q r a b o x y z may first second =
 
 -- ---- the first number
 
-pub converts_at : (carry : Carry) (d : State) (item : Item) (part : Part) (first : ℕ) → KnowsFirst d → IsItem d item → MayBeFirst d first → Converts carry (unwrap_or d.first 0) item part → Converts carry first item part
+pub converts_at : (carry : Carry) (d : State) (item : Item) (part : Part) (first : ℕ) → KnowsFirst d → IsItem d item → MayBeFirst d first → ConvertsItem carry (unwrap_or d.first 0) item part → ConvertsItem carry first item part
 converts_at carry d (Packet q bytes) part first knows is may converts =
-    subst (λ (n : ℕ). Converts carry n (Packet q bytes) part) (packet_first d q bytes first knows is may) converts
+    subst (λ (n : ℕ). ConvertsItem carry n (Packet q bytes) part) (packet_first d q bytes first knows is may) converts
 converts_at carry d (Lost q had total) part first knows is may converts = converts
 converts_at carry d (Damaged q) part first knows is may converts = converts
 
@@ -118,7 +118,7 @@ converts_at carry d (Damaged q) part first knows is may converts = converts
 pub all_one : (carry : Carry) (d : State) (item : Item) (p q : Progress) (a b x y : Known Output) → KnowsFirst d → IsItem d item → Converted carry (unwrap_or d.first 0) item p q a b x y → ConvertedAll carry d (item ∷ []) p q a b x y
 all_one carry d item p q a b x y knows is one =
     let P : List ℕ → Type 0 = λ l. Outputs a b (λ t. t ≡ l) in
-    let Q : List ℕ → Type 0 = λ l. Names p.told q.told x y l in
+    let Q : List ℕ → Type 0 = λ l. NamesItems p.told q.told x y l in
     record {
       parts = one.part ∷ [];
       converts = λ first may. (converts_at carry d item one.part first knows is may one.converts, tt);

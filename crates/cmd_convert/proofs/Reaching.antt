@@ -22,9 +22,9 @@ use Rattle.cmd_convert.specs.declared.naming.Progress.{Progress}
 use Rattle.cmd_convert.specs.declared.reading.Unconverted.TheVariants as unconverted
 use Rattle.cmd_convert.specs.Converting.{IsTooLarge, text_of, lines_of}
 use Rattle.cmd_convert.specs.Steps.{Failing}
-use Rattle.cmd_convert.specs.Naming.{Names}
+use Rattle.cmd_convert.specs.Naming.{NamesItems}
 use Rattle.cmd_convert.specs.Converted.{ConvertedAll, ConvertsNext}
-use Rattle.cmd_convert.specs.Run.{Ends, EndsEarly, WritesAll}
+use Rattle.cmd_convert.specs.Run.{ConvertEnds, EndsEarly, WritesAll}
 use Rattle.cmd_convert.specs.Reading.{new_progress, fault_of}
 use Rattle.cmd_convert.proofs.PartLemmas.{all_one, all_then, all_later, all_join, failing_at}
 
@@ -47,7 +47,7 @@ module _ (options : ReceiveOptions) (carry : Carry) (r : ReadingState) (c : Stat
 
   -- it stopped at an item
   pub loop_halted : (used : Carry) (q : Progress) (why : Halt) (o z : Known Output) (n : ConvertsNext (Err why) used c p q b o y z) → used ≡ carry
-      → has_enough r ≡ false → ready c ≡ true → most_bytes < options.limit → Ends (terms_of options) carry (Err (fault_of (unconverted.Halted why))) q.told before after a o x z
+      → has_enough r ≡ false → ready c ≡ true → most_bytes < options.limit → ConvertEnds (terms_of options) carry (Err (fault_of (unconverted.Halted why))) q.told before after a o x z
   loop_halted used q halt.Write o z n same enough now far =
       let (gives, last) = gives_to options i.answers i.taken i.during i.more r c i.reached far reader before after n.item enough now n.is i.heard in
       let (failing, err_same, stays) = n.one in
@@ -63,7 +63,7 @@ module _ (options : ReceiveOptions) (carry : Carry) (r : ReadingState) (c : Stat
         stopped.part,
         all_join carry f (i.during ++ i.more) (n.item ∷ []) i.has.parts (stopped.part ∷ []) (i.has.converts f may) (stopped.converts, tt),
         front_behind (text_of i.has.parts) stopped.part.out a b o i.has.text stopped.text,
-        subst (λ k. Names true q.told x k (lines_of i.has.parts)) (sym err_same) (subst (λ (v : Progress). Names true v.told x y (lines_of i.has.parts)) (sym stays) i.has.names),
+        subst (λ k. NamesItems true q.told x k (lines_of i.has.parts)) (sym err_same) (subst (λ (v : Progress). NamesItems true v.told x y (lines_of i.has.parts)) (sym stays) i.has.names),
       )
   loop_halted used q (halt.PacketSize number) o z n same enough now far =
       let (gives, last) = gives_to options i.answers i.taken i.during i.more r c i.reached far reader before after n.item enough now n.is i.heard in
@@ -78,7 +78,7 @@ module _ (options : ReceiveOptions) (carry : Carry) (r : ReadingState) (c : Stat
         i.has.parts,
         i.has.converts f may,
         subst (λ k. Outputs a k (λ t. t ≡ text_of i.has.parts)) (sym out_same) i.has.text,
-        subst (λ k. Names true q.told x k (lines_of i.has.parts)) (sym err_same) (subst (λ (v : Progress). Names true v.told x y (lines_of i.has.parts)) (sym stays) i.has.names),
+        subst (λ k. NamesItems true q.told x k (lines_of i.has.parts)) (sym err_same) (subst (λ (v : Progress). NamesItems true v.told x y (lines_of i.has.parts)) (sym stays) i.has.names),
       )
 
   -- ---- one packet more, or the end
@@ -110,7 +110,7 @@ module _ (options : ReceiveOptions) (carry : Carry) (r : ReadingState) (c : Stat
 
   pub loop_stopped : (further : WalkerState) (later : Known Input) (stop : CaptureStop) (s : ReadingState) (d : State) → KeepsFirst c d
       → ReadsOn (ReadSoFar further before later) (λ stop. HeardUntil stop before later) options i.answers i.taken (i.during ++ i.more) (Err stop) s d
-      → Ends (terms_of options) carry (Err (fault_of (unconverted.Stopped stop))) p.told before later a b x y
+      → ConvertEnds (terms_of options) carry (Err (fault_of (unconverted.Stopped stop))) p.told before later a b x y
   loop_stopped further later stops.Read s d keeps reads = loop_early further later stops.Read s d keeps reads
   loop_stopped further later (stops.Capture fault) s d keeps reads = loop_early further later (stops.Capture fault) s d keeps reads
   loop_stopped further later stops.TooLong s d keeps reads = loop_early further later stops.TooLong s d keeps reads

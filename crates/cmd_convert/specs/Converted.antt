@@ -10,7 +10,7 @@ use Rattle.recv_reading.specs.First.{MayBeFirst, first_of}
 use Rattle.cmd_convert.specs.declared.item.Halt.{Halt}
 use Rattle.cmd_convert.specs.declared.naming.Progress.{Progress}
 use Rattle.cmd_convert.specs.Converting.{Part, ConvertsAll, text_of, lines_of}
-use Rattle.cmd_convert.specs.Naming.{Names}
+use Rattle.cmd_convert.specs.Naming.{NamesItems}
 use Rattle.cmd_convert.specs.Steps.{has_none, ConvertsOne}
 
 -- no line names any of them
@@ -24,7 +24,7 @@ pub record ConvertedAll (carry : Carry) (c : State) (items : List Item) (p p' : 
   pub given : p'.given ≡ p.given + length items
   pub clean : p'.clean ≡ (p.clean && are_clean parts)
   pub text : Outputs out out' (λ text. text ≡ text_of parts)
-  pub names : Names p.told p'.told err err' (lines_of parts)
+  pub names : NamesItems p.told p'.told err err' (lines_of parts)
 
 -- The next item of a collector was converted, or it stopped at it.
 pub record ConvertsNext (result : Result (Unit {0}) Halt) (carry : Carry) (c : State) (p p' : Progress) (out out' err err' : Known Output) : Type 0 where

@@ -16,12 +16,12 @@ pub record Part : Type 0 where
   pub line : List ℕ
 
 -- An AF packet is written under the carry; each other item has a line.
-abbrev pub Converts : Carry → ℕ → Item → Part → Type 0
-Converts carry first (Packet index bytes) part =
+abbrev pub ConvertsItem : Carry → ℕ → Item → Part → Type 0
+ConvertsItem carry first (Packet index bytes) part =
     (IsAny bytes × (is_too_long carry (length bytes) ≡ false) × Carried carry (sequence_of first index) bytes part.out × (part.line ≡ []))
     ⊎ ((fault : AfFault) × IsFault fault bytes × (part.out ≡ []) × (part.line ≡ bad_line index (Af fault)))
-Converts carry first (Lost index had total) part = (part.out ≡ []) × (part.line ≡ missing_line index had total)
-Converts carry first (Damaged index) part = (part.out ≡ []) × (part.line ≡ bad_line index Code)
+ConvertsItem carry first (Lost index had total) part = (part.out ≡ []) × (part.line ≡ missing_line index had total)
+ConvertsItem carry first (Damaged index) part = (part.out ≡ []) × (part.line ≡ bad_line index Code)
 
 -- an AF packet with this number is too long for the carry
 abbrev pub IsTooLarge : Carry → Item → ℕ → Type 0
@@ -31,7 +31,7 @@ IsTooLarge carry item number = ⊥
 -- each item has its part
 abbrev pub ConvertsAll : Carry → ℕ → List Item → List Part → Type 0
 ConvertsAll carry first [] [] = Unit {0}
-ConvertsAll carry first (item ∷ items) (part ∷ parts) = Converts carry first item part × ConvertsAll carry first items parts
+ConvertsAll carry first (item ∷ items) (part ∷ parts) = ConvertsItem carry first item part × ConvertsAll carry first items parts
 ConvertsAll carry first items parts = ⊥
 
 -- what is written of them, and the lines that name them

@@ -5,7 +5,7 @@ use Rattle.drm_links.specs.Sink.{Output, Outputs, IsFront}
 
 -- The lines were written whole, where `told` still holds: then it held before, and no call failed. Else a front of them was
 -- written: one call failed, and nothing was written behind it.
-pub record Names (told told' : Bool) (before after : Known Output) (lines : List ℕ) : Type 0 where
+pub record NamesItems (told told' : Bool) (before after : Known Output) (lines : List ℕ) : Type 0 where
   pub held : told' ≡ true → told ≡ true
   pub whole : told' ≡ true → Outputs before after (λ text. text ≡ lines)
   pub front : Outputs before after (IsFront lines)

@@ -11,7 +11,7 @@ use Rattle.cmd_convert.specs.declared.item.Halt.TheVariants as halt
 use Rattle.cmd_convert.specs.declared.naming.Progress.{Progress}
 use Rattle.cmd_convert.specs.declared.reading.Unconverted.{Unconverted}
 use Rattle.cmd_convert.specs.declared.reading.Unconverted.TheVariants as unconverted
-use Rattle.cmd_convert.specs.Run.{Ends}
+use Rattle.cmd_convert.specs.Run.{ConvertEnds}
 use Rattle.recv_reading.specs.Packets.{Terms}
 
 abbrev pub new_progress : Progress
@@ -29,4 +29,4 @@ ending_of (Ok _) clean = Ok clean
 ending_of (Err why) clean = Err (fault_of why)
 
 abbrev pub EndsBy : Result (Unit {0}) Unconverted → Terms → Carry → Progress → Known Input → Known Input → Known Output → Known Output → Known Output → Known Output → Type 0
-EndsBy result terms carry p before after out out' err err' = Ends terms carry (ending_of result p.clean) p.told before after out out' err err'
+EndsBy result terms carry p before after out out' err err' = ConvertEnds terms carry (ending_of result p.clean) p.told before after out out' err err'

@@ -4,14 +4,14 @@ use Rattle.std.specs.List.{AllByRecursion}
 use Rattle.dcp_pft.specs.declared.carry.Carry.{Carry}
 use Rattle.dcp_collect.specs.declared.taken.Taken.{Taken}
 use Rattle.dcp_collect.specs.State.{State, made}
-use Rattle.dcp_collect.specs.Runs.{Item, Steps, Run}
+use Rattle.dcp_collect.specs.Runs.{Item, CollectorSteps, Run}
 use Rattle.drm_links.specs.Told.{Known, HasFailed, HasCause}
 use Rattle.drm_links.specs.Source.{Input, Inputs}
 use Rattle.drm_links.specs.Sink.{Output, Outputs, IsFront, IsFrontBehind}
 use Rattle.capture_reader.specs.Front.{IsWhole}
 use Rattle.capture_reader.specs.Capture as capture
 use Rattle.capture_reader.specs.Capture.{IsCaptureOf, Ending, End}
-use Rattle.capture_reader.specs.Reading.{Stops}
+use Rattle.capture_reader.specs.Reading.{ReadingStops}
 use Rattle.capture_reader.specs.declared.packets.CaptureStop.{CaptureStop}
 use Rattle.capture_reader.specs.declared.packets.CaptureStop.TheVariants as stops
 use Rattle.cmd_faults.specs.Captures.{EndsEarlyOr, EndsByIt}
@@ -19,7 +19,7 @@ use Rattle.cmd_faults.specs.Fault.{UnlessMemory}
 use Rattle.cmd_faults.specs.declared.fault.Fault.{Fault}
 use Rattle.cmd_faults.specs.declared.fault.Fault.TheVariants as faults
 use Rattle.cmd_convert.specs.Converting.{Part, ConvertsAll, IsTooLarge, text_of, lines_of}
-use Rattle.cmd_convert.specs.Naming.{Names}
+use Rattle.cmd_convert.specs.Naming.{NamesItems}
 use Rattle.cmd_convert.specs.Converted.{are_clean}
 use Rattle.recv_reading.specs.First.{first_of}
 use Rattle.recv_reading.specs.Packets.{Terms, HasEnough, NoneShorter, AreEnough, ComesAt, AreReadBy, BreaksOffBy}
@@ -39,7 +39,7 @@ pub record IsBroken (terms : Terms) (carry : Carry) (packets : List (List ℕ)) 
   pub taken : List Taken
   pub items : List Item
   pub mid : State
-  pub steps : Steps (made terms.window terms.reach terms.first) packets taken items mid
+  pub steps : CollectorSteps (made terms.window terms.reach terms.first) packets taken items mid
   pub converts : ConvertsAll carry (first_of mid) items parts
 
 -- Packets that are read give these items first, and then this one, which isn't past the told number; fewer of them aren't enough.
@@ -55,35 +55,35 @@ pub record ReadsTo (terms : Terms) (items : List Item) (item : Item) (last : Sta
 -- No more can be read for this reason: what the packets read so far become is written and named.
 abbrev pub EndsEarly : Terms → Carry → CaptureStop → Bool → Known Input → Known Input → Known Output → Known Output → Known Output → Known Output → Type 0
 EndsEarly terms carry stop told before after out out' err err' =
-    (packets : List (List ℕ)) × All IsWhole packets × Stops packets stop before after × (HasEnough terms packets → ⊥) × NoneShorter terms packets
+    (packets : List (List ℕ)) × All IsWhole packets × ReadingStops packets stop before after × (HasEnough terms packets → ⊥) × NoneShorter terms packets
     × (parts : List Part) × IsBroken terms carry packets parts
-    × Outputs out out' (λ text. text ≡ text_of parts) × Names true told err err' (lines_of parts)
+    × Outputs out out' (λ text. text ≡ text_of parts) × NamesItems true told err err' (lines_of parts)
 
 -- All that the packets become is written and named.
 abbrev pub WritesAll : Terms → Carry → Bool → Bool → Known Input → Known Input → Known Output → Known Output → Known Output → Known Output → Type 0
 WritesAll terms carry clean told before after out out' err err' =
     (packets : List (List ℕ)) × AreEnough terms packets before after × NoneShorter terms packets
     × (parts : List Part) × IsConversion terms carry packets parts
-    × Outputs out out' (λ text. text ≡ text_of parts) × Names true told err err' (lines_of parts) × (clean ≡ are_clean parts)
+    × Outputs out out' (λ text. text ≡ text_of parts) × NamesItems true told err err' (lines_of parts) × (clean ≡ are_clean parts)
 
 -- What is written and named: all that the packets become; after a failed write what the items before became, and a front of what
 -- the one at hand became, and no more is read; where no more can be read, what the packets read so far become; at a packet that is
 -- too long, what stands before it; where memory is wanting, nothing.
-abbrev pub Ends : Terms → Carry → Result Bool Fault → Bool → Known Input → Known Input → Known Output → Known Output → Known Output → Known Output → Type 0
-Ends terms carry (Ok clean) told before after out out' err err' = WritesAll terms carry clean told before after out out' err err'
-Ends terms carry (Err faults.Write) told before after out out' err err' =
+abbrev pub ConvertEnds : Terms → Carry → Result Bool Fault → Bool → Known Input → Known Input → Known Output → Known Output → Known Output → Known Output → Type 0
+ConvertEnds terms carry (Ok clean) told before after out out' err err' = WritesAll terms carry clean told before after out out' err err'
+ConvertEnds terms carry (Err faults.Write) told before after out out' err err' =
     (items : List Item) × (item : Item) × (last : State) × ReadsTo terms items item last before after
     × (parts : List Part) × (part : Part) × ConvertsAll carry (first_of last) (items ++ item ∷ []) (parts ++ part ∷ [])
-    × Outputs out out' (IsFrontBehind (text_of parts) part.out) × Names true told err err' (lines_of parts)
-Ends terms carry (Err (faults.PacketSize number)) told before after out out' err err' =
+    × Outputs out out' (IsFrontBehind (text_of parts) part.out) × NamesItems true told err err' (lines_of parts)
+ConvertEnds terms carry (Err (faults.PacketSize number)) told before after out out' err err' =
     (items : List Item) × (item : Item) × (last : State) × ReadsTo terms items item last before after × IsTooLarge carry item number
     × (parts : List Part) × ConvertsAll carry (first_of last) items parts
-    × Outputs out out' (λ text. text ≡ text_of parts) × Names true told err err' (lines_of parts)
-Ends terms carry (Err faults.Read) told before after out out' err err' = EndsEarly terms carry stops.Read told before after out out' err err'
-Ends terms carry (Err (faults.Capture fault)) told before after out out' err err' = EndsEarly terms carry (stops.Capture fault) told before after out out' err err'
-Ends terms carry (Err faults.CaptureTooLong) told before after out out' err err' = EndsEarly terms carry stops.TooLong told before after out out' err err'
-Ends terms carry (Err faults.NoMemory) told before after out out' err err' = (after ≡ before) × (out' ≡ out) × (err' ≡ err)
-Ends terms carry (Err fault) told before after out out' err err' = ⊥
+    × Outputs out out' (λ text. text ≡ text_of parts) × NamesItems true told err err' (lines_of parts)
+ConvertEnds terms carry (Err faults.Read) told before after out out' err err' = EndsEarly terms carry stops.Read told before after out out' err err'
+ConvertEnds terms carry (Err (faults.Capture fault)) told before after out out' err err' = EndsEarly terms carry (stops.Capture fault) told before after out out' err err'
+ConvertEnds terms carry (Err faults.CaptureTooLong) told before after out out' err err' = EndsEarly terms carry stops.TooLong told before after out out' err err'
+ConvertEnds terms carry (Err faults.NoMemory) told before after out out' err err' = (after ≡ before) × (out' ≡ out) × (err' ≡ err)
+ConvertEnds terms carry (Err fault) told before after out out' err err' = ⊥
 
 -- a front of what some items become under the carry
 abbrev pub IsFrontOfParts : Carry → List ℕ → Type 0
@@ -115,16 +115,16 @@ abbrev pub AreSmall : Carry → List Item → Type 0
 AreSmall carry items = AllByRecursion (λ item. (number : ℕ) → IsTooLarge carry item number → ⊥) items
 
 -- The first packet that is given of the capture that these bytes are and is too large for the carry has this number.
-abbrev pub Meets : Terms → Carry → List ℕ → ℕ → Type 0
-Meets terms carry bytes number =
+abbrev pub MeetsTooLarge : Terms → Carry → List ℕ → ℕ → Type 0
+MeetsTooLarge terms carry bytes number =
     (items : List Item) × (item : Item) × (last : State) × LeadsTo terms bytes items item last × AreSmall carry items × IsTooLarge carry item number
 
 -- By a fault of the capture exactly where the reading breaks off by it, and no packet before is too large; by the size of a packet
 -- exactly where the first one that is too large has that number.
 abbrev pub EndsExactly : Terms → Carry → List ℕ → Result Bool Fault → Type 0
 EndsExactly terms carry bytes ending =
-    ((why : Ending) → EndsByIt ending why ↔ (BreaksOffBy terms bytes why × ((number : ℕ) → Meets terms carry bytes number → ⊥)))
-    × ((number : ℕ) → (ending ≡ Err (faults.PacketSize number)) ↔ Meets terms carry bytes number)
+    ((why : Ending) → EndsByIt ending why ↔ (BreaksOffBy terms bytes why × ((number : ℕ) → MeetsTooLarge terms carry bytes number → ⊥)))
+    × ((number : ℕ) → (ending ≡ Err (faults.PacketSize number)) ↔ MeetsTooLarge terms carry bytes number)
 
 -- A conversion ends early as any run that reads a capture does, or by the size of a packet.
 abbrev pub CanEnd : Fault → Type 0
@@ -142,7 +142,7 @@ pub record ConvertRun {I O E : Type 0} (terms : Terms) (carry : Carry) (ending :
     (err_known : E → Known Output) (err err' : E) : Type 0 where
   -- It ends well, or for want of memory, by a fault of the capture, by a packet's size, by a failed read or by a failed write.
   pub kind : (fault : Fault) → ending ≡ Err fault → CanEnd fault
-  pub ends : Ends terms carry ending told (input_known input) (input_known input') (out_known out) (out_known out') (err_known err) (err_known err')
+  pub ends : ConvertEnds terms carry ending told (input_known input) (input_known input') (out_known out) (out_known out') (err_known err) (err_known err')
   -- Whatever the input tells, out got nothing else than what packets become.
   pub sound : IsSound terms carry ending (out_known out) (out_known out')
   -- After want of memory nothing was read, written or named.
@@ -153,7 +153,7 @@ pub record ConvertRun {I O E : Type 0} (terms : Terms) (carry : Carry) (ending :
   -- Where no read and no write failed, the reading doesn't break off and no packet is too large, all is written and named.
   pub complete : (HasFailed (input_known input) (input_known input') → ⊥) → (HasFailed (out_known out) (out_known out') → ⊥)
       → Inputs (input_known input) (input_known input') (λ left _.
-      ((why : Ending) → BreaksOffBy terms left why → ⊥) → ((number : ℕ) → Meets terms carry left number → ⊥)
+      ((why : Ending) → BreaksOffBy terms left why → ⊥) → ((number : ℕ) → MeetsTooLarge terms carry left number → ⊥)
       → UnlessMemory ending (IsDone terms carry ending told (input_known input) (input_known input') (out_known out) (out_known out') (err_known err) (err_known err')))
   -- A count of faults rose, by one, exactly where a read or a write ended the run.
   pub read_cause : HasCause (input_known input) (input_known input') (ending ≡ Err faults.Read)

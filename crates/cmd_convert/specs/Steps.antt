@@ -7,8 +7,8 @@ use Rattle.drm_links.specs.Sink.{Output, Outputs, IsFront}
 use Rattle.cmd_convert.specs.declared.item.Halt.{Halt}
 use Rattle.cmd_convert.specs.declared.item.Halt.TheVariants as halt
 use Rattle.cmd_convert.specs.declared.naming.Progress.{Progress}
-use Rattle.cmd_convert.specs.Converting.{Part, Converts, IsTooLarge}
-use Rattle.cmd_convert.specs.Naming.{Names}
+use Rattle.cmd_convert.specs.Converting.{Part, ConvertsItem, IsTooLarge}
+use Rattle.cmd_convert.specs.Naming.{NamesItems}
 
 -- nothing names it
 abbrev pub has_none : List ℕ → Bool
@@ -18,16 +18,16 @@ has_none line = false
 -- One item was converted: written, or named.
 pub record Converted (carry : Carry) (first : ℕ) (item : Item) (p p' : Progress) (out out' err err' : Known Output) : Type 0 where
   pub part : Part
-  pub converts : Converts carry first item part
+  pub converts : ConvertsItem carry first item part
   pub given : p'.given ≡ p.given + 1
   pub clean : p'.clean ≡ (p.clean && has_none part.line)
   pub text : Outputs out out' (λ text. text ≡ part.out)
-  pub names : Names p.told p'.told err err' part.line
+  pub names : NamesItems p.told p'.told err err' part.line
 
 -- A write failed: nothing names the item, and a front of what is written of it went out.
 pub record Failing (carry : Carry) (first : ℕ) (item : Item) (out out' : Known Output) : Type 0 where
   pub part : Part
-  pub converts : Converts carry first item part
+  pub converts : ConvertsItem carry first item part
   pub none : part.line ≡ []
   pub text : Outputs out out' (IsFront part.out)
 

@@ -11,14 +11,14 @@ ghost use Rattle.recv_reading.specs.Packets.{Terms};
 use crate::item::Halt;
 use crate::naming::Progress;
 use crate::reading::{Unconverted, convert_packets};
-use law_capture::packets_in_front;
+use capture_reader::{Packets, read_one_way, read_some_way};
+use cmd_faults::Fault;
 use dcp_collect::Collector;
 use dcp_pft::Carry;
 use dcp_sender::PacketSender;
 use drm_bits::NoMemory;
-use capture_reader::{Packets, read_one_way, read_some_way};
-use cmd_faults::Fault;
 use drm_links::{Sink, Source};
+use law_capture::packets_in_front;
 use report_text::LineWriter;
 use std::alloc::Global;
 

@@ -38,8 +38,8 @@ pub(crate) fn convert_item<O: Sink, E: Sink>(
     out: &mut O,
     err: &mut E,
 ) -> Result<(), Halt>
-    requires few { progress.old.given < 2 ^ 62 }
-    requires small { number_of (item_of given) < 2 ^ 62 }
+    requires within_limit { progress.old.given < 2 ^ 62 }
+    requires in_range { number_of (item_of given) < 2 ^ 62 }
     requires whole { IsAfIfWhole given }
     ensures one { ConvertsOne result cutter.old first (item_of given.entry) progress.old progress.new
         (O.known out.old) (O.known out.new) (E.known err.old) (E.known err.new) }
@@ -101,8 +101,8 @@ fn convert_packet<O: Sink, E: Sink>(
     out: &mut O,
     err: &mut E,
 ) -> Result<(), Halt>
-    requires few { progress.old.given < 2 ^ 62 }
-    requires small { index < 2 ^ 62 }
+    requires within_limit { progress.old.given < 2 ^ 62 }
+    requires in_range { index < 2 ^ 62 }
     requires whole { whole ≡ true → IsAny bytes.now }
     ensures one { ConvertsPacket result cutter.old first index bytes.now progress.old progress.new
         (O.known out.old) (O.known out.new) (E.known err.old) (E.known err.new) }

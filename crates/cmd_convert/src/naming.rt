@@ -3,7 +3,7 @@
 ghost use Rattle.std.specs.Prelude.{◌≡◌, ◌+◌, ◌<◌, ◌^◌, false};
 ghost use Rattle.mod_feed.specs.Items.{item_of, IsRead};
 ghost use Rattle.report_text.specs.Report.{item_line};
-ghost use Rattle.cmd_convert.specs.Naming.{Names};
+ghost use Rattle.cmd_convert.specs.Naming.{NamesItems};
 
 use drm_links::Sink;
 use mod_feed::{FeedItem, Step};
@@ -27,11 +27,11 @@ pub(crate) fn name<E: Sink>(
     progress: &mut Progress,
     item: FeedItem<'_>,
 )
-    requires few { progress.old.given < 2 ^ 62 }
+    requires within_limit { progress.old.given < 2 ^ 62 }
     requires read { IsRead item }
     ensures given { progress.new.given ≡ progress.old.given + 1 }
     ensures clean { progress.new.clean ≡ false }
-    ensures names { Names progress.old.told progress.new.told (E.known err.old) (E.known err.new)
+    ensures names { NamesItems progress.old.told progress.new.told (E.known err.old) (E.known err.new)
         (item_line (item_of item.entry)) }
 {
     progress.given += 1;

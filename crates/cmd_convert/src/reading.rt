@@ -11,9 +11,9 @@ ghost use Rattle.cmd_convert.specs.Reading.{new_progress, EndsBy};
 
 use crate::item::{Halt, convert_next};
 use crate::naming::Progress;
+use capture_reader::{CaptureStop, Packets};
 use dcp_collect::Collector;
 use dcp_sender::PacketSender;
-use capture_reader::{CaptureStop, Packets};
 use drm_links::{Sink, Source};
 use recv_reading::{Bounds, Reading};
 use report_text::LineWriter;
@@ -64,8 +64,8 @@ pub(crate) fn convert_packets<I: Source, O: Sink, E: Sink>(
     requires collector { collector.old ≡ made collector.old.window collector.old.reach collector.old.first }
     requires packets { packets.old ≡ new_walker }
     requires progress { progress.old ≡ new_progress }
-    requires some { IfSome told (λ n. 1 ≤ n) }
-    requires few { IfSome told (λ n. n ≤ 3000000) }
+    requires at_least_one { IfSome told (λ n. 1 ≤ n) }
+    requires within_limit { IfSome told (λ n. n ≤ 3000000) }
     ensures ends { EndsBy result (record { window = collector.old.window; reach = collector.old.reach; first = collector.old.first; told = told })
         cutter.old progress.new (I.known input.old) (I.known input.new) (O.known out.old) (O.known out.new)
         (E.known err.old) (E.known err.new) }

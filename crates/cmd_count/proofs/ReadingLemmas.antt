@@ -6,14 +6,14 @@ use Rattle.dcp_collect.specs.declared.taken.Taken.{Taken}
 use Rattle.dcp_collect.specs.State.{State, made}
 use Rattle.dcp_collect.specs.Runs.{Item}
 use Rattle.drm_reconfiguration.specs.Tracker.{TrackerState, new_tracker}
-use Rattle.mod_feed.specs.Feeding.{FeedStep, Feeds}
+use Rattle.mod_feed.specs.Feeding.{FeedStep, FeedAnswers}
 use Rattle.mod_feed.proofs.FeedingLemmas.{feedings_join}
 use Rattle.recv_reading.specs.declared.options.ReceiveOptions.{ReceiveOptions}
 use Rattle.recv_reading.specs.declared.source.SourceFault.{SourceFault}
 use Rattle.recv_reading.specs.Options.{AreInRange, AreUsable, bounds_of}
 use Rattle.recv_reading.specs.Ending.{datagrams}
 use Rattle.recv_reading.specs.State.{ReadingState, new_reading, has_ended, one_given, word_of}
-use Rattle.recv_reading.specs.Reached.{Reached, Waits, ReadsOn}
+use Rattle.recv_reading.specs.Reached.{Reached, ReadingWaits, ReadsOn}
 use Rattle.recv_reading.proofs.Reaching.{reached_none, one_more_few}
 use Rattle.recv_reading.proofs.Finishing.{IsOver, finishes, all_given, answers_many}
 use Rattle.recv_reading.proofs.AtOnce.{few_given}
@@ -51,7 +51,7 @@ pub record Counting (options : ReceiveOptions) (came : List Answer → Type 0) (
   pub more : List Item
   pub reached : Reached options answers taken during more r c
   pub steps : List FeedStep
-  pub feeds : Feeds new_tracker (during ++ more) steps f
+  pub feeds : FeedAnswers new_tracker (during ++ more) steps f
   pub calls : f.calls ≡ r.given
   pub are : t ≡ totals_of steps taken
   pub items : items_in t.sums ≡ r.given
@@ -97,7 +97,7 @@ module _ (options : ReceiveOptions) (came : List Answer → Type 0) (r : Reading
     more = p.more ++ item ∷ [];
     reached = reached;
     steps = p.steps ++ step ∷ [];
-    feeds = subst (λ l. Feeds new_tracker l (p.steps ++ step ∷ []) g) (append_assoc p.during p.more (item ∷ []))
+    feeds = subst (λ l. FeedAnswers new_tracker l (p.steps ++ step ∷ []) g) (append_assoc p.during p.more (item ∷ []))
         (feedings_join new_tracker f g (p.during ++ p.more) (item ∷ []) p.steps (step ∷ []) p.feeds (stepping, after));
     calls = counts ∙ ap (λ n. n + 1) p.calls ∙ sym (ap (λ (x : ReadingState). x.given) gives);
     are = more ∙ ap (λ (x : Totals). one_more x step.item) p.are ∙ item_more p.steps step p.taken;
@@ -117,7 +117,7 @@ module _ (options : ReceiveOptions) (came : List Answer → Type 0) (r : Reading
         more = [];
         reached = reached;
         steps = p.steps;
-        feeds = subst (λ l. Feeds new_tracker l p.steps f) (sym (append-nil (p.during ++ p.more))) p.feeds;
+        feeds = subst (λ l. FeedAnswers new_tracker l p.steps f) (sym (append-nil (p.during ++ p.more))) p.feeds;
         calls = p.calls ∙ sym given;
         are = counts;
         items = ap (λ (x : Totals). items_in x.sums) counts ∙ sym (ap (λ (x : Totals). items_in x.sums) p.are) ∙ p.items ∙ sym given;
@@ -135,7 +135,7 @@ module _ (options : ReceiveOptions) (came : List Answer → Type 0) (r : Reading
 
   -- no more can be had
   pub breaks_off : (came' : List Answer → Type 0) (breaks : SourceFault → List Answer → Type 0) (why : SourceFault) (s : ReadingState) (d : State)
-      → Waits r c → ReadsOn came' breaks options p.answers p.taken (p.during ++ p.more) (Err why) s d → Broken options 1 (breaks why) (unseen tt) (unseen tt)
+      → ReadingWaits r c → ReadsOn came' breaks options p.answers p.taken (p.during ++ p.more) (Err why) s d → Broken options 1 (breaks why) (unseen tt) (unseen tt)
   breaks_off came' breaks why s d waits (heard, broken, gave) = record {
     answers = p.answers ++ Failed ∷ [];
     heard = heard;
@@ -151,7 +151,7 @@ module _ (options : ReceiveOptions) (came : List Answer → Type 0) (r : Reading
       gave = gave;
       steps = p.steps;
       after = f;
-      feeds = subst (λ l. Feeds new_tracker l p.steps f) (sym (all_given options p.answers p.taken p.during p.more r c p.reached)) p.feeds;
+      feeds = subst (λ l. FeedAnswers new_tracker l p.steps f) (sym (all_given options p.answers p.taken p.during p.more r c p.reached)) p.feeds;
       text_is = refl;
     };
     text = tt;

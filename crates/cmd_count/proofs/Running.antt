@@ -1,9 +1,9 @@
 -- From what was counted to a run of `receive`.
 use Rattle.std.proofs.Common.{◌≡◌, ℕ, inl, inr, Bool, List, [], ◌∷◌, Ok, Err, Result, refl, ◌∙◌, ap, arith, le_trans}
-use Rattle.drm_links.specs.Told.{Known, Counts, WhileTold, CountsCall, Tells, HasCause}
+use Rattle.drm_links.specs.Told.{Known, RisesWhere, IfBothKnown, CountsCall, KnownThrough, HasCause}
 use Rattle.drm_links.specs.Link.{Answer, Traffic}
 use Rattle.drm_links.specs.Source.{Input}
-use Rattle.drm_links.specs.Dock.{DockContents, Docked, HasLink, Opens, Closes, after_openings}
+use Rattle.drm_links.specs.Dock.{DockContents, Docked, HasLink, DockOpens, DockCloses, after_openings}
 use Rattle.drm_links.specs.Hearing.{Heard}
 use Rattle.drm_links.specs.declared.dock.Address.{Address}
 use Rattle.drm_links.specs.declared.dock.Opened.TheVariants as opened
@@ -73,7 +73,7 @@ module _ (headlines : HeadlinesFollow) (completes : CompletesFollow) (unbroken :
 
   module _ {D : Type 0} (at : Address) (dock_known : D → Known DockContents) where
     -- no opening was made yet
-    none_yet : (dock : D) → Tells (dock_known dock) (dock_known dock) (Opened (at ∷ []) 0)
+    none_yet : (dock : D) → KnownThrough (dock_known dock) (dock_known dock) (Opened (at ∷ []) 0)
     none_yet dock = Tells-nothing (Opened (at ∷ []) 0) (dock_known dock) (λ x. refl)
 
     -- for want of memory nothing is opened
@@ -86,7 +86,7 @@ module _ (headlines : HeadlinesFollow) (completes : CompletesFollow) (unbroken :
     }
 
     -- the opening failed
-    pub none_opened : {L : Type 0} (known : L → Known Traffic) (dock dock' : D) → WhileTold (dock_known dock) (dock_known dock') (Opens known at opened.Failed)
+    pub none_opened : {L : Type 0} (known : L → Known Traffic) (dock dock' : D) → IfBothKnown (dock_known dock) (dock_known dock') (DockOpens known at opened.Failed)
         → CountsCall (λ (d : DockContents). d.calls) (dock_known dock) (dock_known dock') → HasCause (dock_known dock) (dock_known dock') (Unit {0})
         → CountsLink options at (Err faults.Link) dock_known dock dock'
     none_opened known dock dock' failed counts cause = record {
@@ -101,9 +101,9 @@ module _ (headlines : HeadlinesFollow) (completes : CompletesFollow) (unbroken :
 
     -- it was opened, read and closed
     module _ {L : Type 0} (known : L → Known Traffic) (link link' : L) (dock mid dock' : D)
-        (opens : WhileTold (dock_known dock) (dock_known mid) (Opens known at (opened.Link link)))
+        (opens : IfBothKnown (dock_known dock) (dock_known mid) (DockOpens known at (opened.Link link)))
         (opens_counts : CountsCall (λ (d : DockContents). d.calls) (dock_known dock) (dock_known mid)) (opens_same : (dock_known mid).faults ≡ (dock_known dock).faults)
-        (closes : WhileTold (dock_known mid) (dock_known dock') (Closes (known link').told at))
+        (closes : IfBothKnown (dock_known mid) (dock_known dock') (DockCloses (known link').told at))
         (closes_counts : CountsCall (λ (d : DockContents). d.calls) (dock_known mid) (dock_known dock')) (closes_same : (dock_known dock').faults ≡ (dock_known mid).faults) where
       abbrev a : Known DockContents
       a = dock_known dock
@@ -114,13 +114,13 @@ module _ (headlines : HeadlinesFollow) (completes : CompletesFollow) (unbroken :
       abbrev e : Known DockContents
       e = dock_known dock'
 
-      all : Tells a b (λ x y. y ≡ after_openings (at ∷ []) x)
+      all : KnownThrough a b (λ x y. y ≡ after_openings (at ∷ []) x)
       all = opened_all (at ∷ []) 1 a b (omega arith) (opened_now (at ∷ []) 0 at (omega arith) refl known link a a b (none_yet dock) opens opens_counts)
 
       found : Docked a b (λ told. HasLink known told 0 at link)
       found = found_now (at ∷ []) 0 at (omega arith) refl known link a a b (tt, tt) (none_yet dock) opens opens_counts at
 
-      both : Tells a b (λ x y. (y ≡ after_openings (at ∷ []) x) × HasLink known x 0 at link)
+      both : KnownThrough a b (λ x y. (y ≡ after_openings (at ∷ []) x) × HasLink known x 0 at link)
       both = Tells-both (λ x y. y ≡ after_openings (at ∷ []) x) (λ x _. HasLink known x 0 at link) a b all found
 
       run_of : (ended : Ended) → EndsAs options 1 (known link) (known link') (unseen tt) (unseen tt) ended → (ended ≡ WriteFailed → ⊥) → ReceiveRun options (at ∷ []) (ending_live ended) dock_known dock dock' unseen tt tt
@@ -137,7 +137,7 @@ module _ (headlines : HeadlinesFollow) (completes : CompletesFollow) (unbroken :
       pub link_counted : (totals : Totals) → Counted options (Heard (known link) (known link')) totals → CountsLink options at (Ok totals) dock_known dock dock'
       link_counted totals counted = record {
         receives = run_of (Done (is_clean totals)) (reported options (Heard (known link) (known link')) totals counted) (λ is. cc);
-        totals = counted_by options (Heard (known link) (known link')) (λ answers. Tells a e (HearsEach (Alone answers) (at ∷ []))) totals counted
+        totals = counted_by options (Heard (known link) (known link')) (λ answers. KnownThrough a e (HearsEach (Alone answers) (at ∷ []))) totals counted
             (one_hears known (Alone counted.answers) at link link' a b e both
             (λ start told. went_over known (Alone counted.answers) link link' start counted.answers told counted.heard (le_trans counted.few (few_answers options valid)) refl) closes closes_counts);
       }
@@ -185,7 +185,7 @@ module _ (headlines : HeadlinesFollow) (completes : CompletesFollow) (unbroken :
           totals = heard;
         }
 
-    read_cause : (stop : CaptureStop) {a b : ℕ} → Counts a b (IsReadFailed (Err (source.Capture stop))) → Counts a b (no_report (unfinished.Stopped stop) ≡ Err (unfinished.Stopped stops.Read))
+    read_cause : (stop : CaptureStop) {a b : ℕ} → RisesWhere a b (IsReadFailed (Err (source.Capture stop))) → RisesWhere a b (no_report (unfinished.Stopped stop) ≡ Err (unfinished.Stopped stops.Read))
     read_cause stops.Read cause = counts_as (λ is. tt) (λ failed. refl) cause
     read_cause (stops.Capture fault) cause = counts_as (λ is. cc) (λ failed. absurd failed) cause
     read_cause stops.TooLong cause = counts_as (λ is. cc) (λ failed. absurd failed) cause

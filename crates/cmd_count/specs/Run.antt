@@ -1,6 +1,6 @@
 -- The command `count`: it receives as `receive` does, and in place of the report its line is written.
 use Rattle.std.specs.Prelude.{ℕ, ◌≡◌, ◌≤◌, ◌+◌, ◌⊎◌, Bool, IfOk, List, [], ◌∷◌, length, None, Result, Ok, Err}
-use Rattle.drm_links.specs.Told.{Known, HasCause, Tells}
+use Rattle.drm_links.specs.Told.{Known, HasCause, KnownThrough}
 use Rattle.drm_links.specs.Link.{Answer}
 use Rattle.drm_links.specs.Source.{Input}
 use Rattle.drm_links.specs.Sink.{Output, Outputs, IsFront}
@@ -59,7 +59,7 @@ ended (Err fault) = Err fault
 pub record CountsLink {D : Type 0} (options : ReceiveOptions) (at : Address) (counted : Result Totals Fault)
     (dock_known : D → Known DockContents) (dock dock' : D) : Type 0 where
   pub receives : ReceiveRun options (at ∷ []) (ended counted) dock_known dock dock' unseen tt tt
-  pub totals : IfOk counted (Counted options (λ answers. Tells (dock_known dock) (dock_known dock') (HearsEach (Alone answers) (at ∷ []))))
+  pub totals : IfOk counted (Counted options (λ answers. KnownThrough (dock_known dock) (dock_known dock') (HearsEach (Alone answers) (at ∷ []))))
 
 -- What was counted of a capture. It is a run of `receive` from it, and where the input tells, the totals are those of what was read.
 pub record CountsCapture {I : Type 0} (options : ReceiveOptions) (counted : Result Totals Fault)

@@ -6,13 +6,13 @@ ghost use Rattle.cmd_count.specs.Run.{CountRun, CountCaptureRun, CountsLink, Cou
 
 use crate::counting::count_all;
 use crate::totals::Totals;
-use dcp_collect::Collector;
-use drm_bits::zeros;
 use capture_reader::{Packets, read_some_way};
 use cmd_faults::Fault;
+use dcp_collect::Collector;
+use drm_bits::zeros;
 use drm_links::{Address, Dock, LONGEST_DATAGRAM, Opened, Sink, Source};
-use recv_report::{in_time_is_unbroken, reports_follow};
 use recv_reading::{ReceiveOptions, Room, SourceFault};
+use recv_report::{in_time_is_unbroken, reports_follow};
 use std::alloc::Global;
 
 /// Opens a link at this address, reads it until it has read enough, closes it, and writes the totals of what came as one line.

@@ -1,7 +1,7 @@
 //! What is counted of a reading.
 
 ghost use Rattle.std.specs.Prelude.{◌≡◌, ◌+◌, ◌<◌, ◌^◌, []};
-ghost use Rattle.drm_links.specs.Sink.{Writes};
+ghost use Rattle.drm_links.specs.Sink.{WritesWhole};
 ghost use Rattle.mod_feed.specs.Items.{item_of};
 ghost use Rattle.report_text.specs.Tallies.{items_in};
 ghost use Rattle.cmd_count.specs.Totals as totals;
@@ -73,7 +73,7 @@ impl Totals {
 
     /// Writes the line.
     pub(crate) fn write<O: Sink>(&self, out: &mut O) -> Result<(), WriteFault>
-        ensures { Writes result (O.known out.old) (O.known out.new) (totals.count_line self.now) }
+        ensures { WritesWhole result (O.known out.old) (O.known out.new) (totals.count_line self.now) }
     {
         write_pieces(
             out,

@@ -7,8 +7,8 @@ use crate::line::write_line;
 use crate::schedule::schedule_of;
 use crate::script::script_of;
 use cmd_air::air_over;
-use drm_bits::crc16;
 use cmd_faults::Fault;
+use drm_bits::crc16;
 use drm_links::Sink;
 use report_text::ReportBuffer;
 use std::alloc::Global;
@@ -25,8 +25,8 @@ pub fn exercise<R: Threads + Sync, O: Sink>(
     n: u32,
     out: &mut O,
 ) -> Result<bool, Fault>
-    requires some { 1 ≤ n }
-    requires few { n ≤ 1000 }
+    requires at_least_one { 1 ≤ n }
+    requires within_limit { n ≤ 1000 }
     ensures run { ExerciseRun n result O.known out.old out.new }
 {
     let plan = schedule_of(alloc, n)?;

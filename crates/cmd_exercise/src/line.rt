@@ -3,7 +3,7 @@
 ghost use Rattle.std.specs.Prelude.{◌≡◌, ◌≤◌, ◌<◌, ◌+◌, ◌==◌, length, drop};
 ghost use Rattle.std.specs.Int.{from_bool};
 ghost use Rattle.std.specs.List.{position};
-ghost use Rattle.drm_links.specs.Sink.{Writes};
+ghost use Rattle.drm_links.specs.Sink.{WritesWhole};
 ghost use Rattle.cmd_exercise.specs.Exercise as exercise;
 
 use drm_links::{Sink, WriteFault};
@@ -19,7 +19,7 @@ pub(crate) fn write_line<O: Sink>(
     check: u16,
 ) -> Result<(), WriteFault>
     requires { n ≤ 1000 }
-    ensures { Writes result (O.known out.old) (O.known out.new) (exercise.line n delivered report.now check) }
+    ensures { WritesWhole result (O.known out.old) (O.known out.new) (exercise.line n delivered report.now check) }
 {
     let check = check.to_be_bytes();
     write_pieces(

@@ -12,8 +12,8 @@ use std::alloc::Global;
 
 /// The schedule of the exercise of this size.
 pub(crate) fn schedule_of(alloc: Global, n: u32) -> Result<Schedule, NoMemory>
-    requires some { 1 ≤ n }
-    requires few { n ≤ 1000 }
+    requires at_least_one { 1 ≤ n }
+    requires within_limit { n ≤ 1000 }
     ensures { IfOk result (λ plan. plan ≡ exercise.plan n) }
 {
     let configs = configs(alloc, n)?;

@@ -15,8 +15,8 @@ use std::alloc::Global;
 /// The script of the exercise of this size: each packet in its order, its fragments from the last to the first, each
 /// twice, but two of them.
 pub(crate) fn script_of(alloc: Global, n: u32, plan: &Schedule) -> Result<Script, NoMemory>
-    requires some { 1 ≤ n }
-    requires few { n ≤ 1000 }
+    requires at_least_one { 1 ≤ n }
+    requires within_limit { n ≤ 1000 }
     requires plan { plan.now ≡ exercise.plan n }
     ensures { IfOk result (λ script. script ≡ exercise.deliveries n ∷ []) }
 {

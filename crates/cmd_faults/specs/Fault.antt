@@ -54,11 +54,11 @@ pub record WritesLine {E : Type 0} (line : List ℕ) (known : E → Known Output
   pub whole : (HasFailed (known old) (known new) → ⊥) → Outputs (known old) (known new) (λ text. text ≡ line)
 
 -- What a run writes to err: the line of its fault, and else nothing.
-abbrev pub Reports : {E : Type 0} → Result (Unit {0}) Fault → (E → Known Output) → E → E → Type 0
-Reports (Ok done) known old new = new ≡ old
-Reports (Err fault) known old new = WritesLine (fault_line fault) known old new
+abbrev pub ReportsFault : {E : Type 0} → Result (Unit {0}) Fault → (E → Known Output) → E → E → Type 0
+ReportsFault (Ok done) known old new = new ≡ old
+ReportsFault (Err fault) known old new = WritesLine (fault_line fault) known old new
 
 -- The same where `told` holds; else err is as it was.
 abbrev pub ReportsIf : {E : Type 0} → Bool → Result (Unit {0}) Fault → (E → Known Output) → E → E → Type 0
-ReportsIf true done known old new = Reports done known old new
+ReportsIf true done known old new = ReportsFault done known old new
 ReportsIf false done known old new = new ≡ old

@@ -1,15 +1,15 @@
 //! Why a run stops early.
 
 ghost use Rattle.std.specs.Prelude.{◌≡◌};
-ghost use Rattle.drm_links.specs.Sink.{Writes};
+ghost use Rattle.drm_links.specs.Sink.{WritesWhole};
 ghost use Rattle.text_output.specs.Text.{text_of};
 ghost use Rattle.cmd_faults.specs.CrcLine.{crc_line};
 
 use crate::capture::capture_pieces;
 use crate::reason::{schedule_pieces, script_pieces};
 use crate::units::{UnitsFault, units_pieces};
-use drm_bits::NoMemory;
 use capture_reader::{CaptureFault, CaptureStop};
+use drm_bits::NoMemory;
 use drm_fac::FacFault;
 use drm_links::{LinkFault, Sink, Status, WriteFault, write_all};
 use drm_schedule::Reason;
@@ -141,7 +141,7 @@ impl Fault {
     }
 
     fn write<E: Sink>(self, err: &mut E) -> Result<(), WriteFault>
-        ensures { Writes result (E.known err.old) (E.known err.new) (fault_line self) }
+        ensures { WritesWhole result (E.known err.old) (E.known err.new) (fault_line self) }
     {
         match self {
             Fault::NoMemory => write_words(err, "drmcast: no memory\n"),
@@ -182,7 +182,7 @@ impl Fault {
 }
 
 fn write_words<E: Sink>(err: &mut E, line: &str) -> Result<(), WriteFault>
-    ensures { Writes result (E.known err.old) (E.known err.new) line.now }
+    ensures { WritesWhole result (E.known err.old) (E.known err.new) line.now }
 {
     write_all(err, line.as_bytes())
 }

@@ -3,10 +3,10 @@ use Rattle.std.proofs.Common.{◌≡◌, ℕ, zero, suc, ◌<◌, ◌≤◌, ◌
 use Rattle.std.specs.Prelude.{slice_index_or}
 use Rattle.std.proofs.lemmas.List.{get_or_default}
 use Rattle.dcp_pft.specs.declared.carry.Carry.{Carry}
-use Rattle.drm_links.specs.Told.{Known, Tells, WhileTold, CountsCall}
+use Rattle.drm_links.specs.Told.{Known, KnownThrough, IfBothKnown, CountsCall}
 use Rattle.drm_links.specs.Link.{Answer, Traffic, rests_of}
-use Rattle.drm_links.specs.Dock.{DockContents, LinkStart, Over, Binds, Closes, over_of, first_traffic, start_at, after_opening, after_close, Docked, Finds}
-use Rattle.drm_links.specs.Transmission.{Transmits, SendsAll, SendsNoMore, TakesSends}
+use Rattle.drm_links.specs.Dock.{DockContents, LinkStart, Over, DockBinds, DockCloses, over_of, first_traffic, start_at, after_opening, after_close, Docked, OpeningFinds}
+use Rattle.drm_links.specs.Transmission.{LinkTransmits, SendsAll, SendsNoMore, TakesSends}
 use Rattle.drm_links.specs.ManyCalls.{CountsMany}
 use Rattle.drm_links.specs.declared.dock.Address.{Address}
 use Rattle.drm_links.specs.declared.dock.Opened.TheVariants as opened
@@ -38,7 +38,7 @@ use Rattle.drm_gate.specs.Targets.{Each, TakesMore, EachTakes, EachSends, AllUp}
 use Rattle.drm_gate.proofs.Stopping.{took_from}
 use Rattle.drm_gate.proofs.TargetLemmas.{at_place, as_many_targets, all_up}
 use Rattle.cmd_gate.specs.Opening.{no_rests, after_source}
-use Rattle.cmd_gate.specs.Between.{options_of, AreRead, Goes, GoesPart, GoesOut, passed_of, PassesTo}
+use Rattle.cmd_gate.specs.Between.{options_of, AreRead, GoesOverLink, GoesPart, GoesOut, passed_of, PassesTo}
 use Rattle.cmd_gate.specs.Run.{PassesOn}
 
 -- ---- by what it reads
@@ -50,7 +50,7 @@ rules_same c options rules window reach first is =
 -- ---- what is told, and when
 
 -- the next opening is the one behind no others
-found_at : (told : DockContents) (at : Address) (start : LinkStart) → (Contains told.failing told.openings → ⊥) → start_at told at ≡ Some start → Finds told 0 at start
+found_at : (told : DockContents) (at : Address) (start : LinkStart) → (Contains told.failing told.openings → ⊥) → start_at told at ≡ Some start → OpeningFinds told 0 at start
 found_at told at start allowed stands = record { allowed = λ failing. allowed (subst (λ n. Contains told.failing n) (omega arith) failing); stands = stands }
 
 not_rested : (start : LinkStart) → HasNotRested (first_traffic start)
@@ -78,8 +78,8 @@ pub record Went (start : LinkStart) (a b : Known Traffic) : Type 0 where
   pub traffic : Traffic
   pub tells : b.told ≡ Some traffic
   pub still : HasNotRested traffic
-  pub all : (datagrams : List (List ℕ)) → Transmits a b (SendsAll datagrams) → (traffic.gone ≡ datagrams) × TakesSends start.sends (length traffic.gone) × (traffic.answers ≡ [])
-  pub some : (datagrams : List (List ℕ)) → Transmits a b (SendsNoMore datagrams) → (traffic.gone ≡ datagrams) × (start.sends ≡ Some (length traffic.gone)) × (traffic.answers ≡ [])
+  pub all : (datagrams : List (List ℕ)) → LinkTransmits a b (SendsAll datagrams) → (traffic.gone ≡ datagrams) × TakesSends start.sends (length traffic.gone) × (traffic.answers ≡ [])
+  pub some : (datagrams : List (List ℕ)) → LinkTransmits a b (SendsNoMore datagrams) → (traffic.gone ≡ datagrams) × (start.sends ≡ Some (length traffic.gone)) × (traffic.answers ≡ [])
 
 takes_as : (sends : Option ℕ) (xs ys : List (List ℕ)) → xs ≡ ys → TakesSends sends (length xs) → TakesSends sends (length ys)
 takes_as sends xs ys same takes = subst (λ (l : List (List ℕ)). TakesSends sends (length l)) same takes
@@ -103,7 +103,7 @@ module _ (start : LinkStart) (a b : Known Traffic) (w : Went start a b) where
   abbrev over_it : Over
   over_it = record { answers = []; gone = w.traffic.gone; rests = no_rests w.traffic.gone }
 
-  goes_by : (up : Bool) (datagrams : List (List ℕ)) → TookBy up datagrams a b → Goes up datagrams start over_it
+  goes_by : (up : Bool) (datagrams : List (List ℕ)) → TookBy up datagrams a b → GoesOverLink up datagrams start over_it
   goes_by true datagrams took = let (gone, takes, none) = w.all datagrams took.sent in (gone, takes, refl)
   goes_by false datagrams took =
       let (gone, no_more, none) = w.some took.front took.sent in
@@ -152,8 +152,8 @@ any_target = record { up = true; known = record { faults = 0; told = None } }
 
 module _ {L : Type 0} (rules : ReceiveOptions) (valid : AreInRange rules) (carry : Carry) (to : List Address) (known : L → Known Traffic) (members members' : List (Member L))
     (many : length members ≡ length to) (many' : length members' ≡ length to) (up : AreUp members) (a b c : Known DockContents)
-    (opens : Tells a b (λ before after. after ≡ after_reaches to before)) (links : Docked a b (λ told. HaveLinks known told to members))
-    (closed : Tells b c (λ before after. (overs : List Over) → HaveGone known members' overs → after ≡ after_closes overs to before))
+    (opens : KnownThrough a b (λ before after. after ≡ after_reaches to before)) (links : Docked a b (λ told. HaveLinks known told to members))
+    (closed : KnownThrough b c (λ before after. (overs : List Over) → HaveGone known members' overs → after ≡ after_closes overs to before))
     (only : EachSends (most_sends rules) (targets known members) (targets known members')) where
   abbrev olds : List Target
   olds = targets known members
@@ -189,9 +189,9 @@ module _ {L : Type 0} (rules : ReceiveOptions) (valid : AreInRange rules) (carry
 
   -- these were sent over each that is up
   goes_all : (datagrams : List (List ℕ)) (ups : ℕ → Bool) → EachTakes datagrams olds news → ((k : ℕ) (none : Target) → k < length to → (slice_index_or news k none).up ≡ ups k)
-      → Tells a c (GoesOver (λ k start went. Goes (ups k) datagrams start went) to)
+      → KnownThrough a c (GoesOver (λ k start went. GoesOverLink (ups k) datagrams start went) to)
   goes_all datagrams ups sent are =
-      over_each (λ k start went. Goes (ups k) datagrams start went) known to members members' many many' a b c opens links
+      over_each (λ k start went. GoesOverLink (ups k) datagrams start went) known to members members' many many' a b c opens links
       (λ k d start within new.
       let w = went_at k d start within new in
       let x = known (slice_index_or members k d).link in
@@ -199,13 +199,13 @@ module _ {L : Type 0} (rules : ReceiveOptions) (valid : AreInRange rules) (carry
       let is : (slice_index_or members' k d).up ≡ ups k = ap (λ (t : Target). t.up) (sym (at_place known members' k any_target d (omega (arith, within, many')))) ∙ are k any_target within in (
         over_it start x y w,
         has_gone k d start w (received_by start x y w (slice_index_or members' k d).up datagrams (took_at datagrams sent k d within)),
-        subst (λ u. Goes u datagrams start (over_it start x y w)) is (goes_by start x y w (slice_index_or members' k d).up datagrams (took_at datagrams sent k d within)),
+        subst (λ u. GoesOverLink u datagrams start (over_it start x y w)) is (goes_by start x y w (slice_index_or members' k d).up datagrams (took_at datagrams sent k d within)),
         refl,
       ))
       closed
 
   goes_short : (answers : List Answer) (last : ℕ) → Each (λ x y. x.up ≡ true → StopsOver rules carry answers x y) olds news
-      → ((none : Target) → StopsLast rules carry answers (slice_index_or olds last none) (slice_index_or news last none)) → Tells a c (GoesOver (GoesPart rules carry answers last) to)
+      → ((none : Target) → StopsLast rules carry answers (slice_index_or olds last none) (slice_index_or news last none)) → KnownThrough a c (GoesOver (GoesPart rules carry answers last) to)
   goes_short answers last each at_last =
       over_each (GoesPart rules carry answers last) known to members members' many many' a b c opens links
       (λ k d start within new.
@@ -234,9 +234,9 @@ module _ {L : Type 0} (rules : ReceiveOptions) (valid : AreInRange rules) (carry
   same_up : (k : ℕ) (none : Target) → k < length news → (slice_index_or news k none).up ≡ (slice_index_or news k any_target).up
   same_up k none within = ap (λ (t : Target). t.up) (get_or_default news k none any_target within)
 
-  pub goes_out : (from from' : Known Traffic) (ended : GateEnded) → GateRun rules carry from from' olds news ended → Tells a c (GoesOut rules carry (Heard from from') to (passed_of ended))
+  pub goes_out : (from from' : Known Traffic) (ended : GateEnded) → GateRun rules carry from from' olds news ended → KnownThrough a c (GoesOut rules carry (Heard from from') to (passed_of ended))
   goes_out from from' (ended.Done tally) (all_up, sent, all, is) =
-      Tells-weaker (GoesOver (λ k start went. Goes true (sent_of all.fates) start went) to) (GoesOut rules carry (Heard from from') to (Ok tally)) a c
+      Tells-weaker (GoesOver (λ k start went. GoesOverLink true (sent_of all.fates) start went) to) (GoesOut rules carry (Heard from from') to (Ok tally)) a c
       (goes_all (sent_of all.fates) (λ k. true) all.sent (λ k none within. all_up k none (omega (arith, within, as_many))))
       (λ x z goes. (
         record {
@@ -249,7 +249,7 @@ module _ {L : Type 0} (rules : ReceiveOptions) (valid : AreInRange rules) (carry
   goes_out from from' ended.SomeFailed (not_up, sent, all) =
       let ups : ℕ → Bool = λ k. (slice_index_or news k any_target).up in
       let down = some_down news not_up in
-      Tells-weaker (GoesOver (λ k start went. Goes (ups k) (sent_of all.fates) start went) to) (GoesOut rules carry (Heard from from') to (Err (record {}))) a c
+      Tells-weaker (GoesOver (λ k start went. GoesOverLink (ups k) (sent_of all.fates) start went) to) (GoesOut rules carry (Heard from from') to (Err (record {}))) a c
       (goes_all (sent_of all.fates) ups all.sent (λ k none within. same_up k none (omega (arith, within, as_many))))
       (λ x z goes. inl (
         ups,
@@ -262,7 +262,7 @@ module _ {L : Type 0} (rules : ReceiveOptions) (valid : AreInRange rules) (carry
       ))
   goes_out from from' ended.FromFailed run =
       let ups : ℕ → Bool = λ k. (slice_index_or news k any_target).up in
-      Tells-weaker (GoesOver (λ k start went. Goes (ups k) (sent_of run.fates) start went) to) (GoesOut rules carry (Heard from from') to (Err (record {}))) a c
+      Tells-weaker (GoesOver (λ k start went. GoesOverLink (ups k) (sent_of run.fates) start went) to) (GoesOut rules carry (Heard from from') to (Err (record {}))) a c
       (goes_all (sent_of run.fates) ups run.sent (λ k none within. same_up k none (omega (arith, within, as_many))))
       (λ x z goes. inr (inl (
         ups,
@@ -286,7 +286,7 @@ module _ {L : Type 0} (rules : ReceiveOptions) (valid : AreInRange rules) (carry
       })))
 
 pub opened_out : (rules : ReceiveOptions) (carry : Carry) (to : List Address) (from from' : Known Traffic) (passed : Result Tally LinkFault) (a c : Known DockContents)
-    → Tells a c (GoesOut rules carry (Heard from from') to passed) → Tells a c (PassesTo rules carry to from from' passed)
+    → KnownThrough a c (GoesOut rules carry (Heard from from') to passed) → KnownThrough a c (PassesTo rules carry to from from' passed)
 opened_out rules carry to from from' passed a c goes = Tells-weaker (GoesOut rules carry (Heard from from') to passed) (PassesTo rules carry to from from' passed) a c goes (λ x z out. inr out)
 
 -- how many calls each link gets, however it ends
@@ -367,7 +367,7 @@ module _ (rules : ReceiveOptions) (valid : AreInRange rules) (carry : Carry) (st
       )
 
 -- the link is closed over which nothing went, and tells what it answered
-closed_heard : (at : Address) (last : Option Traffic) (traffic : Traffic) (z w : DockContents) → last ≡ Some traffic → over_of traffic ≡ hearing.heard traffic.answers → Closes last at z w
+closed_heard : (at : Address) (last : Option Traffic) (traffic : Traffic) (z w : DockContents) → last ≡ Some traffic → over_of traffic ≡ hearing.heard traffic.answers → DockCloses last at z w
     → w ≡ after_source at traffic.answers z
 closed_heard at None traffic z w is over closes = absurd cc
 closed_heard at (Some t) traffic z w is over closes =
@@ -375,7 +375,7 @@ closed_heard at (Some t) traffic z w is over closes =
     closes ∙ (ap (λ (u : Traffic). after_close at (over_of u) z) same ∙ ap (λ (o : Over). after_close at o z) over)
 
 module _ (rules : ReceiveOptions) (valid : AreInRange rules) (carry : Carry) (from : Address) (to : List Address) (start : LinkStart) (a b : Known Traffic) (new : a.told ≡ Some (first_traffic start))
-    (x y z w : DockContents) (found : Finds x 0 from start) (at : y ≡ after_opening from x) (closes : Closes b.told from z w) where
+    (x y z w : DockContents) (found : OpeningFinds x 0 from start) (at : y ≡ after_opening from x) (closes : DockCloses b.told from z w) where
   all_closed : (passed : Result Tally LinkFault) → PassesTo rules carry to a b passed y z → PassesOn rules carry from to passed x w
   all_closed passed (inl (failed, same, few)) =
       let tells : b.told ≡ Some (first_traffic start) = ap (λ (k : Known Traffic). k.told) same ∙ new in
@@ -387,16 +387,16 @@ module _ (rules : ReceiveOptions) (valid : AreInRange rules) (carry : Carry) (fr
       inr (start, found, z, traffic.answers, shut, inr (subst (λ (d : DockContents). GoesOut rules carry (AreRead start.ahead traffic.answers) to passed d z) at out))
 
 pub passes_on : {L : Type 0} (rules : ReceiveOptions) (carry : Carry) (from : Address) (to : List Address) (known : L → Known Traffic) (first last : L) (passed : Result Tally LinkFault) (a b c d : Known DockContents)
-    → AreInRange rules → WhileTold a b (Binds known from (opened.Link first)) → CountsCall (λ (e : DockContents). e.calls) a b
-    → Tells b c (PassesTo rules carry to (known first) (known last) passed)
-    → WhileTold c d (Closes (known last).told from) → CountsCall (λ (e : DockContents). e.calls) c d → Tells a d (PassesOn rules carry from to passed)
+    → AreInRange rules → IfBothKnown a b (DockBinds known from (opened.Link first)) → CountsCall (λ (e : DockContents). e.calls) a b
+    → KnownThrough b c (PassesTo rules carry to (known first) (known last) passed)
+    → IfBothKnown c d (DockCloses (known last).told from) → CountsCall (λ (e : DockContents). e.calls) c d → KnownThrough a d (PassesOn rules carry from to passed)
 passes_on rules carry from to known first last passed a b c d valid opens counts goes closes counts_close =
-    let Out : DockContents → DockContents → Type 0 = λ x z. (y : DockContents) × Binds known from (opened.Link first) x y × PassesTo rules carry to (known first) (known last) passed y z in
-    let out : Tells a c Out =
-    Tells-then (Binds known from (opened.Link first)) (PassesTo rules carry to (known first) (known last) passed) Out a b c
-    (Tells-one (λ (e : DockContents). e.calls) (Binds known from (opened.Link first)) a b counts opens) goes (λ x y z p q. (y, p, q)) in
-    Tells-then Out (Closes (known last).told from) (PassesOn rules carry from to passed) a c d out
-    (Tells-one (λ (e : DockContents). e.calls) (Closes (known last).told from) c d counts_close closes)
+    let Out : DockContents → DockContents → Type 0 = λ x z. (y : DockContents) × DockBinds known from (opened.Link first) x y × PassesTo rules carry to (known first) (known last) passed y z in
+    let out : KnownThrough a c Out =
+    Tells-then (DockBinds known from (opened.Link first)) (PassesTo rules carry to (known first) (known last) passed) Out a b c
+    (Tells-one (λ (e : DockContents). e.calls) (DockBinds known from (opened.Link first)) a b counts opens) goes (λ x y z p q. (y, p, q)) in
+    Tells-then Out (DockCloses (known last).told from) (PassesOn rules carry from to passed) a c d out
+    (Tells-one (λ (e : DockContents). e.calls) (DockCloses (known last).told from) c d counts_close closes)
     (λ x z w (y, opening, over) closing.
     let (start, stands, new) = Opens-started known from first x y opening in
     all_closed rules valid carry from to start (known first) (known last) new x y z w (found_at x from start opening.0 stands) opening.2 closing passed over)

@@ -6,10 +6,10 @@ use Rattle.std.specs.FinMap.{get-remove, get-insert}
 use Rattle.std.specs.Ordering.{nat_cmp, eq_by_cmp}
 use Rattle.std.specs.Cmp.Lexicographic.{slice_cmp, nat_list_cmp_total}
 use Rattle.dcp_pft.specs.declared.carry.Carry.{Carry}
-use Rattle.drm_links.specs.Told.{HasFailed, Known, HasCause, Tells}
+use Rattle.drm_links.specs.Told.{HasFailed, Known, HasCause, KnownThrough}
 use Rattle.drm_links.specs.Link.{Answer}
 use Rattle.drm_links.specs.Sink.{Output, Outputs}
-use Rattle.drm_links.specs.Dock.{DockContents, LinkStart, Over, address_key, start_at, after_opening, after_failure, AreDifferent, Finds, FindsNone}
+use Rattle.drm_links.specs.Dock.{DockContents, LinkStart, Over, address_key, start_at, after_opening, after_failure, AreDifferent, OpeningFinds, FindsNone}
 use Rattle.drm_links.specs.Transmission.{TakesSends, TakesFewer}
 use Rattle.drm_links.specs.declared.dock.Address.{Address}
 use Rattle.drm_links.specs.declared.link.LinkFault.{LinkFault}
@@ -28,7 +28,7 @@ use Rattle.drm_gate.specs.declared.tally.Tally.{Tally}
 use Rattle.drm_gate.specs.Passing.{Fate, sent_of}
 use Rattle.cmd_gate.specs.Line.{gate_line, is_clean}
 use Rattle.cmd_gate.specs.Opening.{FailsOpening, after_source}
-use Rattle.cmd_gate.specs.Between.{AreAhead, AreRead, IsPassedOn, Goes, GoesPart, PassesAll, PassesPart, GoesOut}
+use Rattle.cmd_gate.specs.Between.{AreAhead, AreRead, IsPassedOn, GoesOverLink, GoesPart, PassesAll, PassesPart, GoesOut}
 use Rattle.cmd_gate.specs.Run.{PassesOn, WritesTally, LacksSome, FailsGate, HasAll, PassedAll, GateCommandRun}
 use Rattle.cmd_gate.proofs.ReadingLemmas.{broken, whole, one_passed, front_of_all, takes_fewer, not_both}
 
@@ -43,7 +43,7 @@ any_address = record { ip = []; port = 0 }
 abbrev PassedOn : ReceiveOptions → Carry → Address → List Address → Result Tally LinkFault → DockContents → DockContents → Type 0
 PassedOn rules carry from to passed before after =
     (IsErr passed × FindsNone before 0 from × (after ≡ after_failure before))
-    ⊎ ((source : LinkStart) × Finds before 0 from source × (mid : DockContents) × (answers : List Answer) × (after ≡ after_source from answers mid)
+    ⊎ ((source : LinkStart) × OpeningFinds before 0 from source × (mid : DockContents) × (answers : List Answer) × (after ≡ after_source from answers mid)
     × ((IsErr passed × ReachesFew to (after_opening from before) mid)
     ⊎ GoesOut rules carry (AreAhead source.ahead) to passed (after_opening from before) mid))
 
@@ -86,9 +86,9 @@ module _ (told : DockContents) (from : Address) where
       absurd cc
 
   -- the link that was read had another one
-  gone_at : (Goes : ℕ → LinkStart → Over → Type 0) (to : List Address) (answers : List Answer) (mid : DockContents) → AreDifferent to → (goes : GoesOver Goes to (after_opening from told) mid) → (k : ℕ) (at : Address) → k < length to
+  gone_at : (GoesOverLink : ℕ → LinkStart → Over → Type 0) (to : List Address) (answers : List Answer) (mid : DockContents) → AreDifferent to → (goes : GoesOver GoesOverLink to (after_opening from told) mid) → (k : ℕ) (at : Address) → k < length to
       → map.get (after_source from answers mid).gone (address_key (slice_index_or to k at)) ≡ Some (slice_index_or goes.overs k nothing).gone
-  gone_at Goes to answers mid different goes k at within =
+  gone_at GoesOverLink to answers mid different goes k at within =
       let here : Address = slice_index_or to k at in
       let (start, finds, goes_there) = goes.goes.each k at nothing within in
       let other = apart_by here start (eq_by_cmp (slice_cmp nat_cmp) (address_key here) (address_key from)) refl finds.stands in
@@ -101,7 +101,7 @@ module _ (told : DockContents) (from : Address) where
 
 module _ (rules : ReceiveOptions) (carry : Carry) (ahead : List Answer) (fates : List Fate) (passed : IsPassedOn rules carry (AreAhead ahead) fates) where
   -- it lacks sends where it fails
-  lacks_by : (up : Bool) (fs : List Fate) (start : LinkStart) (went : Over) → IsPassedOn rules carry (AreAhead ahead) fs → up ≡ false → Goes up (sent_of fs) start went → TakesFewer start.sends (length (sent_of fates))
+  lacks_by : (up : Bool) (fs : List Fate) (start : LinkStart) (went : Over) → IsPassedOn rules carry (AreAhead ahead) fs → up ≡ false → GoesOverLink up (sent_of fs) start went → TakesFewer start.sends (length (sent_of fates))
   lacks_by true fs start went is down goes = absurd (let clash : true ≡ false = down in cc)
   lacks_by false fs start went is down (front, no_more, still) =
       subst (λ (l : List (List ℕ)). TakesFewer start.sends (length l)) (one_passed rules carry ahead fs fates is passed) (takes_fewer start.sends (sent_of fs) went.gone no_more front)
@@ -112,7 +112,7 @@ module _ (rules : ReceiveOptions) (carry : Carry) (ahead : List Answer) (fates :
       takes_fewer start.sends (sent_of fates) went.gone goes.no_more (front_of_all rules carry ahead fates p.answers went.gone p.heard p.goes_on goes.front passed)
 
   -- and where it takes all, all goes over it
-  all_by : (up : Bool) (fs : List Fate) (start : LinkStart) (went : Over) → IsPassedOn rules carry (AreAhead ahead) fs → Goes up (sent_of fs) start went → TakesSends start.sends (length (sent_of fates)) → went.gone ≡ sent_of fates
+  all_by : (up : Bool) (fs : List Fate) (start : LinkStart) (went : Over) → IsPassedOn rules carry (AreAhead ahead) fs → GoesOverLink up (sent_of fs) start went → TakesSends start.sends (length (sent_of fates)) → went.gone ≡ sent_of fates
   all_by true fs start went is (gone, takes, still) enough = gone ∙ one_passed rules carry ahead fs fates is passed
   all_by false fs start went is goes enough = absurd (not_both start.sends (length (sent_of fates)) (lacks_by false fs start went is refl goes) enough)
 
@@ -144,7 +144,7 @@ module _ (rules : ReceiveOptions) (carry : Carry) (from : Address) (to : List Ad
   fails_by fault x y (inr (source, found, mid, answers, after, inr goes)) = inr (source, found, fails_out fault x mid source goes)
 
   -- none of them fails
-  module _ (x z : DockContents) (source : LinkStart) (found : Finds x 0 from source) (p : PassesAll rules carry (AreAhead source.ahead) to (λ k. true) (after_opening from x) z) where
+  module _ (x z : DockContents) (source : LinkStart) (found : OpeningFinds x 0 from source) (p : PassesAll rules carry (AreAhead source.ahead) to (λ k. true) (after_opening from x) z) where
     opens : FailsOpening x from to → ⊥
     opens (inl none) = is_found x 0 from source found none
     opens (inr (start, there, none)) =
@@ -175,15 +175,15 @@ module _ (rules : ReceiveOptions) (carry : Carry) (from : Address) (to : List Ad
   -- ---- what has gone over each of them
 
   module _ (different : AreDifferent to) (x y mid : DockContents) (answers : List Answer) (is : y ≡ after_source from answers mid) (source : LinkStart) (fates : List Fate) (passed : IsPassedOn rules carry (AreAhead source.ahead) fates) where
-    has : (Goes : ℕ → LinkStart → Over → Type 0) (goes : GoesOver Goes to (after_opening from x) mid) (k : ℕ) → k < length to → (slice_index_or goes.overs k nothing).gone ≡ sent_of fates → HasAll fates to k y
-    has Goes goes k within same at = ap (λ (d : DockContents). map.get d.gone (address_key (slice_index_or to k at))) is ∙ (gone_at x from Goes to answers mid different goes k at within ∙ ap Some same)
+    has : (GoesOverLink : ℕ → LinkStart → Over → Type 0) (goes : GoesOver GoesOverLink to (after_opening from x) mid) (k : ℕ) → k < length to → (slice_index_or goes.overs k nothing).gone ≡ sent_of fates → HasAll fates to k y
+    has GoesOverLink goes k within same at = ap (λ (d : DockContents). map.get d.gone (address_key (slice_index_or to k at))) is ∙ (gone_at x from GoesOverLink to answers mid different goes k at within ∙ ap Some same)
 
-    module _ (k : ℕ) (at : Address) (start : LinkStart) (within : k < length to) (finds : Finds (after_opening from x) k (slice_index_or to k at) start) (enough : TakesSends start.sends (length (sent_of fates))) where
+    module _ (k : ℕ) (at : Address) (start : LinkStart) (within : k < length to) (finds : OpeningFinds (after_opening from x) k (slice_index_or to k at) start) (enough : TakesSends start.sends (length (sent_of fates))) where
       of_all : (up : ℕ → Bool) → PassesAll rules carry (AreAhead source.ahead) to up (after_opening from x) mid → HasAll fates to k y
       of_all up p =
           let (other, there, goes) = p.goes.goes.each k at nothing within in
           let one : start ≡ other = found_once (after_opening from x) k (slice_index_or to k at) start other finds there in
-          has (λ j s went. Goes (up j) (sent_of p.fates) s went) p.goes k within
+          has (λ j s went. GoesOverLink (up j) (sent_of p.fates) s went) p.goes k within
           (all_by rules carry source.ahead fates passed (up k) p.fates other (slice_index_or p.goes.overs k nothing) p.passed goes (subst (λ (s : LinkStart). TakesSends s.sends (length (sent_of fates))) one enough))
 
       of_out : (result : Result Tally LinkFault) → GoesOut rules carry (AreAhead source.ahead) to result (after_opening from x) mid → HasAll fates to k y
@@ -198,8 +198,8 @@ module _ (rules : ReceiveOptions) (carry : Carry) (from : Address) (to : List Ad
           (lacks_part rules carry source.ahead fates passed p.answers to (after_opening from x) mid p k other (slice_index_or p.goes.overs k nothing) goes)
           (subst (λ (s : LinkStart). TakesSends s.sends (length (sent_of fates))) one enough))
 
-  each_by : AreDifferent to → (result : Result Tally LinkFault) (x y : DockContents) → PassedOn rules carry from to result x y → (FailsOpening x from to → ⊥) → (source : LinkStart) (fates : List Fate) → Finds x 0 from source
-      → IsPassedOn rules carry (AreAhead source.ahead) fates → (k : ℕ) (at : Address) (start : LinkStart) → k < length to → Finds (after_opening from x) k (slice_index_or to k at) start
+  each_by : AreDifferent to → (result : Result Tally LinkFault) (x y : DockContents) → PassedOn rules carry from to result x y → (FailsOpening x from to → ⊥) → (source : LinkStart) (fates : List Fate) → OpeningFinds x 0 from source
+      → IsPassedOn rules carry (AreAhead source.ahead) fates → (k : ℕ) (at : Address) (start : LinkStart) → k < length to → OpeningFinds (after_opening from x) k (slice_index_or to k at) start
       → TakesSends start.sends (length (sent_of fates)) → HasAll fates to k y
   each_by different result x y (inl (failed, none, after)) fine source fates found passed k at start within finds enough = absurd (fine (inl none))
   each_by different result x y (inr (first, there, mid, answers, after, inl (failed, few))) fine source fates found passed k at start within finds enough =
@@ -213,7 +213,7 @@ module _ (rules : ReceiveOptions) (carry : Carry) (from : Address) (to : List Ad
       → (k : ℕ) → k < length to → HasAll p.fates to k y
   all_gone different x y mid answers is source p k within at =
       let (other, there, goes) = p.goes.goes.each k at nothing within in
-      has different x y mid answers is source p.fates p.passed (λ j s went. Goes true (sent_of p.fates) s went) p.goes k within goes.0 at
+      has different x y mid answers is source p.fates p.passed (λ j s went. GoesOverLink true (sent_of p.fates) s went) p.goes k within goes.0 at
 
   -- ---- the whole run
 
@@ -291,7 +291,7 @@ module _ (rules : ReceiveOptions) (carry : Carry) (from : Address) (to : List Ad
     }
 
     module _ {D : Type 0} (dock_known : D → Known DockContents) (dock dock' : D) where
-      pub links_run : (passed : Result Tally LinkFault) → Tells (dock_known dock) (dock_known dock') (PassesOn rules carry from to passed) → WritesTally passed ending known out out'
+      pub links_run : (passed : Result Tally LinkFault) → KnownThrough (dock_known dock) (dock_known dock') (PassesOn rules carry from to passed) → WritesTally passed ending known out out'
           → OpeningFailed (dock_known dock) (dock_known dock') (IsErr passed) → HasCause (known out) (known out') (ending ≡ Err faults.Write)
           → GateCommandRun rules carry from to ending dock_known dock dock' known out out'
       links_run passed told writes failed cause = record {

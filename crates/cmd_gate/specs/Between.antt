@@ -67,9 +67,9 @@ pub record IsBrokenOff (rules : ReceiveOptions) (carry : Carry) (hears : List An
 
 -- Of these datagrams all go over a link that doesn't fail; over one that does some first ones, after which it takes no more. It never
 -- rests.
-abbrev pub Goes : Bool → List (List ℕ) → LinkStart → Over → Type 0
-Goes true datagrams start went = (went.gone ≡ datagrams) × TakesSends start.sends (length went.gone) × (went.rests ≡ no_rests went.gone)
-Goes false datagrams start went = IsFrontOf datagrams went.gone × (start.sends ≡ Some (length went.gone)) × (went.rests ≡ no_rests went.gone)
+abbrev pub GoesOverLink : Bool → List (List ℕ) → LinkStart → Over → Type 0
+GoesOverLink true datagrams start went = (went.gone ≡ datagrams) × TakesSends start.sends (length went.gone) × (went.rests ≡ no_rests went.gone)
+GoesOverLink false datagrams start went = IsFrontOf datagrams went.gone × (start.sends ≡ Some (length went.gone)) × (went.rests ≡ no_rests went.gone)
 
 -- Where each link fails: a front of what becomes of what was heard goes over the k-th, after which it takes no more, and over the last
 -- one to fail all that was sent before it did.
@@ -85,13 +85,13 @@ pub record GoesPart (rules : ReceiveOptions) (carry : Carry) (answers : List Ans
 pub record PassesAll (rules : ReceiveOptions) (carry : Carry) (hears : List Answer → Type 0) (to : List Address) (up : ℕ → Bool) (before after : DockContents) : Type 0 where
   pub fates : List Fate
   pub passed : IsPassedOn rules carry hears fates
-  pub goes : GoesOver (λ k start went. Goes (up k) (sent_of fates) start went) to before after
+  pub goes : GoesOver (λ k start went. GoesOverLink (up k) (sent_of fates) start went) to before after
 
 -- What is heard ends in `Failed`: all that was ready before, unless it fails.
 pub record PassesReady (rules : ReceiveOptions) (carry : Carry) (hears : List Answer → Type 0) (to : List Address) (up : ℕ → Bool) (before after : DockContents) : Type 0 where
   pub fates : List Fate
   pub broken : IsBrokenOff rules carry hears fates
-  pub goes : GoesOver (λ k start went. Goes (up k) (sent_of fates) start went) to before after
+  pub goes : GoesOver (λ k start went. GoesOverLink (up k) (sent_of fates) start went) to before after
 
 -- Each link fails, and nothing shorter than what is heard is finished.
 pub record PassesPart (rules : ReceiveOptions) (carry : Carry) (hears : List Answer → Type 0) (to : List Address) (before after : DockContents) : Type 0 where

@@ -1,13 +1,13 @@
 -- Links that are opened, one to read and others to send over.
 use Rattle.std.specs.Prelude.{ℕ, ◌⊎◌, List, [], ◌∷◌, ◌++◌, map}
 use Rattle.drm_links.specs.Link.{Answer}
-use Rattle.drm_links.specs.Dock.{DockContents, LinkStart, after_opening, after_close, Finds, FindsNone}
+use Rattle.drm_links.specs.Dock.{DockContents, LinkStart, after_opening, after_close, OpeningFinds, FindsNone}
 use Rattle.drm_links.specs.declared.dock.Address.{Address}
 use Rattle.link_group.specs.Reaching.{ReachesNone}
 
 -- an opening fails: that of the link that is read, or one of the others behind it
 abbrev pub FailsOpening : DockContents → Address → List Address → Type 0
-FailsOpening told from to = FindsNone told 0 from ⊎ ((source : LinkStart) × Finds told 0 from source × ReachesNone (after_opening from told) to)
+FailsOpening told from to = FindsNone told 0 from ⊎ ((source : LinkStart) × OpeningFinds told 0 from source × ReachesNone (after_opening from told) to)
 
 -- a link over which these went never rested: neither before one of them nor after the last
 abbrev pub no_rests : List (List ℕ) → List ℕ

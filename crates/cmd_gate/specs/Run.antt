@@ -2,10 +2,10 @@
 use Rattle.std.specs.Prelude.{ℕ, ◌≡◌, ◌<◌, ◌⊎◌, ◌↔◌, Bool, List, [], length, slice_index_or, Option, Some, Result, Ok, Err, IsErr}
 use Rattle.std.specs.FinMap as map
 use Rattle.dcp_pft.specs.declared.carry.Carry.{Carry}
-use Rattle.drm_links.specs.Told.{HasFailed, Known, HasCause, Tells}
+use Rattle.drm_links.specs.Told.{HasFailed, Known, HasCause, KnownThrough}
 use Rattle.drm_links.specs.Link.{Answer}
 use Rattle.drm_links.specs.Sink.{Output, Outputs, IsFront}
-use Rattle.drm_links.specs.Dock.{DockContents, LinkStart, address_key, after_opening, after_failure, Finds, FindsNone}
+use Rattle.drm_links.specs.Dock.{DockContents, LinkStart, address_key, after_opening, after_failure, OpeningFinds, FindsNone}
 use Rattle.drm_links.specs.Transmission.{TakesSends, TakesFewer}
 use Rattle.drm_links.specs.declared.dock.Address.{Address}
 use Rattle.drm_links.specs.declared.link.LinkFault.{LinkFault}
@@ -31,7 +31,7 @@ use Rattle.cmd_gate.specs.Between.{AreAhead, AreRead, IsPassedOn, GoesOut}
 abbrev pub PassesOn : ReceiveOptions → Carry → Address → List Address → Result Tally LinkFault → DockContents → DockContents → Type 0
 PassesOn rules carry from to passed before after =
     (IsErr passed × FindsNone before 0 from × (after ≡ after_failure before))
-    ⊎ ((source : LinkStart) × Finds before 0 from source × (mid : DockContents) × (answers : List Answer) × (after ≡ after_source from answers mid)
+    ⊎ ((source : LinkStart) × OpeningFinds before 0 from source × (mid : DockContents) × (answers : List Answer) × (after ≡ after_source from answers mid)
     × ((IsErr passed × (answers ≡ []) × ReachesFew to (after_opening from before) mid)
     ⊎ GoesOut rules carry (AreRead source.ahead answers) to passed (after_opening from before) mid))
 
@@ -48,7 +48,7 @@ pub record LinksRun {D O : Type 0} (rules : ReceiveOptions) (carry : Carry) (fro
     (dock_known : D → Known DockContents) (dock dock' : D) (out_known : O → Known Output) (out out' : O) : Type 0 where
   -- what was counted, or that a link failed
   pub passed : Result Tally LinkFault
-  pub told : Tells (dock_known dock) (dock_known dock') (PassesOn rules carry from to passed)
+  pub told : KnownThrough (dock_known dock) (dock_known dock') (PassesOn rules carry from to passed)
   pub writes : WritesTally passed ending out_known out out'
 
 -- memory was wanting: nothing was opened, nothing written
@@ -65,13 +65,13 @@ LacksSends rules carry ahead sends = (fates : List Fate) → IsPassedOn rules ca
 pub record LacksSome (rules : ReceiveOptions) (carry : Carry) (ahead : List Answer) (told : DockContents) (to : List Address) : Type 0 where
   pub k : ℕ
   pub within : k < length to
-  pub lacks : (at : Address) → (start : LinkStart) × Finds told k (slice_index_or to k at) start × LacksSends rules carry ahead start.sends
+  pub lacks : (at : Address) → (start : LinkStart) × OpeningFinds told k (slice_index_or to k at) start × LacksSends rules carry ahead start.sends
 
 -- An opening fails; or what is ahead of the link that is read breaks off, or one of the others takes too few sends.
 abbrev pub FailsGate : ReceiveOptions → Carry → Address → List Address → DockContents → Type 0
 FailsGate rules carry from to told =
     FailsOpening told from to
-    ⊎ ((source : LinkStart) × Finds told 0 from source
+    ⊎ ((source : LinkStart) × OpeningFinds told 0 from source
     × (BreaksOff rules source.ahead ⊎ LacksSome rules carry source.ahead (after_opening from told) to))
 
 -- ---- the whole run
@@ -84,7 +84,7 @@ HasAll fates to k after = (at : Address) → map.get after.gone (address_key (sl
 pub record PassedAll {O : Type 0} (rules : ReceiveOptions) (carry : Carry) (from : Address) (to : List Address) (ending : Result Bool Fault) (before after : DockContents)
     (known : O → Known Output) (out out' : O) : Type 0 where
   pub source : LinkStart
-  pub finds : Finds before 0 from source
+  pub finds : OpeningFinds before 0 from source
   pub fates : List Fate
   pub passed : IsPassedOn rules carry (AreAhead source.ahead) fates
   pub gone : (k : ℕ) → k < length to → HasAll fates to k after
@@ -101,18 +101,18 @@ pub record GateCommandRun {D O : Type 0} (rules : ReceiveOptions) (carry : Carry
   pub untouched : ending ≡ Err faults.NoMemory → (dock' ≡ dock) × (out' ≡ out)
   -- It fails by a link exactly where an opening fails, what is read of the first link ends in `Failed`, or one of the others takes
   -- fewer sends than what becomes of what is read has datagrams.
-  pub exactly : Tells (dock_known dock) (dock_known dock') (λ told _. UnlessMemory ending ((ending ≡ Err faults.Link) ↔ FailsGate rules carry from to told))
+  pub exactly : KnownThrough (dock_known dock) (dock_known dock') (λ told _. UnlessMemory ending ((ending ≡ Err faults.Link) ↔ FailsGate rules carry from to told))
   -- Where no opening fails, all has gone over each link that takes all, whatever becomes of the others.
-  pub each : Tells (dock_known dock) (dock_known dock') (λ before after. (FailsOpening before from to → ⊥)
-      → (source : LinkStart) (fates : List Fate) → Finds before 0 from source → IsPassedOn rules carry (AreAhead source.ahead) fates
-      → (k : ℕ) (at : Address) (start : LinkStart) → k < length to → Finds (after_opening from before) k (slice_index_or to k at) start
+  pub each : KnownThrough (dock_known dock) (dock_known dock') (λ before after. (FailsOpening before from to → ⊥)
+      → (source : LinkStart) (fates : List Fate) → OpeningFinds before 0 from source → IsPassedOn rules carry (AreAhead source.ahead) fates
+      → (k : ℕ) (at : Address) (start : LinkStart) → k < length to → OpeningFinds (after_opening from before) k (slice_index_or to k at) start
       → TakesSends start.sends (length (sent_of fates)) → UnlessMemory ending (HasAll fates to k after))
   -- Where no link and no write fails, all has gone over each, and the line of it is written.
   pub complete : (HasFailed (out_known out) (out_known out') → ⊥)
-      → Tells (dock_known dock) (dock_known dock') (λ before after. (FailsGate rules carry from to before → ⊥)
+      → KnownThrough (dock_known dock) (dock_known dock') (λ before after. (FailsGate rules carry from to before → ⊥)
       → UnlessMemory ending (PassedAll rules carry from to ending before after out_known out out'))
   -- After a run that ends well the same has gone at each address.
-  pub alike : (clean : Bool) → ending ≡ Ok clean → Tells (dock_known dock) (dock_known dock') (λ _ after. (j k : ℕ) (at : Address) → j < length to → k < length to
+  pub alike : (clean : Bool) → ending ≡ Ok clean → KnownThrough (dock_known dock) (dock_known dock') (λ _ after. (j k : ℕ) (at : Address) → j < length to → k < length to
       → map.get after.gone (address_key (slice_index_or to j at)) ≡ map.get after.gone (address_key (slice_index_or to k at)))
   -- The dock's count of faults rose, by one, only where an opening ended the run, and that of out exactly where a write did.
   pub dock_cause : OpeningFailed (dock_known dock) (dock_known dock') (ending ≡ Err faults.Link)

@@ -1,15 +1,15 @@
 //! A link that is read and others that are sent over: they are opened, passed over, and closed.
 
 ghost use Rattle.std.specs.Prelude.{◌≡◌, IsErr, length, vec_len, vec_capacity};
-ghost use Rattle.drm_links.specs.Told.{Tells};
+ghost use Rattle.drm_links.specs.Told.{KnownThrough};
 ghost use Rattle.cmd_faults.specs.Causes.{OpeningFailed};
 ghost use Rattle.cmd_gate.specs.Between.{IsSetUp, PassesTo, options_of, passed_of};
 ghost use Rattle.cmd_gate.specs.Run.{PassesOn};
 
 use drm_gate::{Gate, GateEnded, GateOptions, Tally, gate_one};
 use drm_links::{Address, Addresses, Dock, Link, LinkFault, Opened};
-use recv_reading::ReceiveOptions;
 use link_group::{Member, close_each, reach_in};
+use recv_reading::ReceiveOptions;
 
 // Opens a link that receives at the one address and links that send to the others, passes on what comes, and closes what was
 // opened. The gateway is new, and goes by these rules; there is room for the links.
@@ -23,7 +23,7 @@ pub(crate) fn pass_between<D: Dock>(
     dock: &mut D,
 ) -> Result<Tally, LinkFault>
     requires { IsSetUp gate.old rules.now to.now (vec_len room) (vec_capacity room) (length buffer.old) }
-    ensures told { Tells (D.known dock.old) (D.known dock.new) (PassesOn rules.now gate.old.carry from to.now result) }
+    ensures told { KnownThrough (D.known dock.old) (D.known dock.new) (PassesOn rules.now gate.old.carry from to.now result) }
     ensures cause { OpeningFailed (D.known dock.old) (D.known dock.new) (IsErr result) }
 {
     match dock.bind(from) {
@@ -47,7 +47,7 @@ fn pass_to<L: Link, D: Dock>(
     dock: &mut D,
 ) -> Result<Tally, LinkFault>
     requires { IsSetUp gate.old rules.now to.now (vec_len room) (vec_capacity room) (length buffer.old) }
-    ensures told { Tells (D.known dock.old) (D.known dock.new)
+    ensures told { KnownThrough (D.known dock.old) (D.known dock.new)
         (PassesTo rules.now gate.old.carry to.now (L.known source.old) (L.known source.new) result) }
     ensures cause { OpeningFailed (D.known dock.old) (D.known dock.new) (IsErr result) }
 {

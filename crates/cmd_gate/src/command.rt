@@ -7,13 +7,13 @@ ghost use Rattle.cmd_gate.specs.Run.{GateCommandRun};
 
 use crate::between::pass_between;
 use crate::line::{is_clean, write_tally};
+use cmd_faults::Fault;
 use dcp_pft::Carry;
 use drm_bits::zeros;
-use cmd_faults::Fault;
 use drm_gate::Gate;
 use drm_links::{Address, Addresses, Dock, LONGEST_DATAGRAM, Sink};
-use recv_reading::ReceiveOptions;
 use link_group::room_for;
+use recv_reading::ReceiveOptions;
 use std::alloc::Global;
 
 /// Opens a link that receives at `from` and links that send to the addresses in `to`, sends over these what comes over the first, each

@@ -1,7 +1,7 @@
 //! The line of a gateway's run.
 
 ghost use Rattle.std.specs.Prelude.{◌≡◌};
-ghost use Rattle.drm_links.specs.Sink.{Writes};
+ghost use Rattle.drm_links.specs.Sink.{WritesWhole};
 ghost use Rattle.cmd_gate.specs.Line as line;
 
 use drm_gate::Tally;
@@ -10,7 +10,7 @@ use text_output::{Piece, write_pieces};
 
 /// Writes what was counted.
 pub(crate) fn write_tally<O: Sink>(out: &mut O, tally: &Tally) -> Result<(), WriteFault>
-    ensures { Writes result (O.known out.old) (O.known out.new) (line.gate_line tally.now) }
+    ensures { WritesWhole result (O.known out.old) (O.known out.new) (line.gate_line tally.now) }
 {
     write_pieces(
         out,

@@ -4,8 +4,8 @@ use Rattle.std.proofs.lemmas.List.{take-append-le, length-take-le}
 use Rattle.std.proofs.Math.Seq.{take-append-add}
 use borrow.Rule.Slice.PartMut.{put_mid, post_of}
 use Rattle.drm_links.specs.declared.source.ReadOut.TheVariants.{Got, End, Failed}
-use Rattle.drm_links.specs.Told.{Known, WhileTold, CountsCall, one_more}
-use Rattle.drm_links.specs.Source.{Input, Inputs, Takes}
+use Rattle.drm_links.specs.Told.{Known, IfBothKnown, CountsCall, one_more}
+use Rattle.drm_links.specs.Source.{Input, Inputs, SourceTakes}
 use Rattle.drm_links.proofs.ToldLemmas.{Inputs-then, Inputs-got, Inputs-end, Inputs-failed}
 use Rattle.cmd_input.specs.Input.{ReadsFront, FailsBehind}
 
@@ -19,7 +19,7 @@ front_more len n size room buf long within =
     ap (λ k. take (k + n) (put_mid len size room buf)) (sym front)
     ∙ (take-append-add (take len room) (buf ++ post_of len size room) n ∙ ap (λ l. take len room ++ l) (take-append-le n buf (post_of len size room) within))
 
-pub filled_more : (a b c : Known Input) (len n size : ℕ) (room buf : List ℕ) → length room ≡ len + size → 0 < n → n ≤ length buf → c.faults ≡ b.faults → IsFilled len room a b → WhileTold b c (Takes (Got n) buf) → CountsCall (λ (i : Input). i.calls) b c
+pub filled_more : (a b c : Known Input) (len n size : ℕ) (room buf : List ℕ) → length room ≡ len + size → 0 < n → n ≤ length buf → c.faults ≡ b.faults → IsFilled len room a b → IfBothKnown b c (SourceTakes (Got n) buf) → CountsCall (λ (i : Input). i.calls) b c
     → IsFilled (len + n) (put_mid len size room buf) a c
 filled_more a b c len n size room buf long some within still before told counts =
     Inputs-then (λ left rest. left ≡ take len room ++ rest) (λ left rest. left ≡ take n buf ++ rest) (λ left rest. left ≡ take (len + n) (put_mid len size room buf) ++ rest) a b c before (Inputs-got n buf b c some within still told counts)
@@ -32,7 +32,7 @@ filled_full a b len room within full filled =
     record { front = filled; all = λ short. absurd (omega (arith, short, size, full)); few = omega (arith, size, within) }
 
 -- the input has ended
-pub filled_end : (a b c : Known Input) (len : ℕ) (room buf : List ℕ) → len ≤ length room → IsFilled len room a b → c.faults ≡ b.faults → WhileTold b c (Takes End buf) → CountsCall (λ (i : Input). i.calls) b c → ReadsFront (length room) (take len room) a c
+pub filled_end : (a b c : Known Input) (len : ℕ) (room buf : List ℕ) → len ≤ length room → IsFilled len room a b → c.faults ≡ b.faults → IfBothKnown b c (SourceTakes End buf) → CountsCall (λ (i : Input). i.calls) b c → ReadsFront (length room) (take len room) a c
 filled_end a b c len room buf within filled still told counts =
     let size : length (take len room) ≡ len = length-take-le len room within in
     let ended = Inputs-end buf b c still told counts in
@@ -44,7 +44,7 @@ filled_end a b c len room buf within filled still told counts =
     }
 
 -- a read failed
-pub filled_failed : (a b c : Known Input) (len : ℕ) (room buf : List ℕ) → len < length room → IsFilled len room a b → c.faults ≡ one_more b.faults → WhileTold b c (Takes Failed buf) → CountsCall (λ (i : Input). i.calls) b c → FailsBehind (length room) a c
+pub filled_failed : (a b c : Known Input) (len : ℕ) (room buf : List ℕ) → len < length room → IsFilled len room a b → c.faults ≡ one_more b.faults → IfBothKnown b c (SourceTakes Failed buf) → CountsCall (λ (i : Input). i.calls) b c → FailsBehind (length room) a c
 filled_failed a b c len room buf below filled rose told counts =
     let size : length (take len room) ≡ len = length-take-le len room (omega (arith, below)) in (
       take len room,

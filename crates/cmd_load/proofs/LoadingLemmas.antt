@@ -4,8 +4,8 @@ use Rattle.std.specs.List.{list_any}
 use Rattle.std.proofs.lemmas.List.{append-nil, length-append}
 use Rattle.drm_links.specs.declared.shelf.Loaded.{Loaded}
 use Rattle.drm_links.specs.declared.shelf.Loaded.TheVariants as loads
-use Rattle.drm_links.specs.Told.{Known, WhileTold, CountsCall}
-use Rattle.drm_links.specs.Shelf.{Files, Supplies, Loads, KeepsFiles, load_of, file_at, within, names_after, after_load, after_loads}
+use Rattle.drm_links.specs.Told.{Known, IfBothKnown, CountsCall}
+use Rattle.drm_links.specs.Shelf.{Files, ShelfSupplies, ShelfLoads, KeepsFiles, load_of, file_at, within, names_after, after_load, after_loads}
 use Rattle.drm_links.proofs.ToldLemmas.{Tells-nothing, Tells-then, Tells-weaker, Supplies-load}
 use Rattle.drm_links.proofs.LoadLemmas.{Loads-is}
 use Rattle.cmd_load.specs.declared.loading.ScheduleFault.{ScheduleFault}
@@ -144,7 +144,7 @@ abbrev pub Reached : {T : Type 0} → Reading T → Reading T → Files → File
 Reached whole rest x y = (whole x ≡ rest y) × LoadsMore x y
 
 -- and what comes of it
-pub ReadBy-rest : {T : Type 0} (whole rest : Reading T) (came : Result T ScheduleFault) (a b c : Known Files) → Supplies a b (Reached whole rest) → ReadBy rest came b c → ReadBy whole came a c
+pub ReadBy-rest : {T : Type 0} (whole rest : Reading T) (came : Result T ScheduleFault) (a b c : Known Files) → ShelfSupplies a b (Reached whole rest) → ReadBy rest came b c → ReadBy whole came a c
 ReadBy-rest {T} whole rest came a b c so_far comes =
     Tells-then _ _ _ a b c so_far comes (λ p q r reached is. of p q r reached is)
   where
@@ -158,7 +158,7 @@ ReadBy-rest {T} whole rest came a b c so_far comes =
 
 -- what is left once the next part came
 pub rest_after : {A B : Type 0} (whole : Reading B) (reading : Reading A) (next : A → Reading B) (x : A) (a b c : Known Files) → LoadsOnly reading
-    → Supplies a b (Reached whole (reading >>= next)) → ReadBy reading (Ok x) b c → Supplies a c (Reached whole (next x))
+    → ShelfSupplies a b (Reached whole (reading >>= next)) → ReadBy reading (Ok x) b c → ShelfSupplies a c (Reached whole (next x))
 rest_after {A} {B} whole reading next x a b c only so_far came =
     Tells-then _ _ _ a b c so_far came
     (λ p q r reached is.
@@ -167,7 +167,7 @@ rest_after {A} {B} whole reading next x a b c only so_far came =
       more_then p q r reached.1 (told_by reading x q r only came_is),
     ))
 
-pub nothing_left : {T : Type 0} (whole rest : Reading T) (a : Known Files) → whole ≡ rest → Supplies a a (Reached whole rest)
+pub nothing_left : {T : Type 0} (whole rest : Reading T) (a : Known Files) → whole ≡ rest → ShelfSupplies a a (Reached whole rest)
 nothing_left whole rest a same = Tells-nothing _ a (λ told. ((λ i. same i told), none_more told))
 
 -- ---- what came without a load
@@ -218,7 +218,7 @@ load_named : (fails : Bool) (file : Option (List ℕ)) (limit : ℕ) (name : Lis
 load_named true file limit name names = refl
 load_named false file limit name names = within_named limit file name names
 
-pub ReadBy-load : (answer : Loaded) (line : ℕ) (name : List ℕ) (limit : ℕ) (a b : Known Files) → WhileTold a b (λ x _. Loads answer name limit x) → WhileTold a b (KeepsFiles answer name) → CountsCall (λ (f : Files). f.loads) a b → ReadBy (load_for line name limit) (bytes_or_fault line answer) a b
+pub ReadBy-load : (answer : Loaded) (line : ℕ) (name : List ℕ) (limit : ℕ) (a b : Known Files) → IfBothKnown a b (λ x _. ShelfLoads answer name limit x) → IfBothKnown a b (KeepsFiles answer name) → CountsCall (λ (f : Files). f.loads) a b → ReadBy (load_for line name limit) (bytes_or_fault line answer) a b
 ReadBy-load answer line name limit a b loaded kept counts =
     Tells-weaker _ _ a b (Supplies-load answer name limit a b loaded kept counts) (λ p q is. of p q (Loads-is answer name limit p is.0) is.1)
   where

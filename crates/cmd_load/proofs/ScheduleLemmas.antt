@@ -4,13 +4,13 @@ use Rattle.drm_schedule.specs.declared.plan.Plan.{Plan}
 use Rattle.plan_rules.specs.declared.fault.PlanFault.{PlanFault}
 use Rattle.plan_rules.specs.declared.fault.PlanFault.TheVariants as plan
 use Rattle.plan_rules.specs.Rules.{Fault}
-use Rattle.plan_rules.specs.Steps.{Reads}
+use Rattle.plan_rules.specs.Steps.{ReadsLines}
 use Rattle.drm_plan.specs.Projection.{Drafted}
 use Rattle.drm_plan.specs.Text.{draft_of}
 use Rattle.plan_writer.specs.Canonical.{canonical}
 use Rattle.drm_plan.specs.Draft.{name_at, line_at, attached, valid_of}
 use Rattle.drm_links.specs.Told.{Known}
-use Rattle.drm_links.specs.Shelf.{Files, Supplies}
+use Rattle.drm_links.specs.Shelf.{Files, ShelfSupplies}
 use Rattle.drm_links.proofs.ToldLemmas.{Tells-weaker}
 use Rattle.cmd_load.specs.declared.loading.ScheduleFault.{ScheduleFault}
 use Rattle.cmd_load.specs.declared.loading.ScheduleFault.TheVariants.{NoMemory}
@@ -25,7 +25,7 @@ abbrev pub lifted : {T : Type 0} → Result T PlanFault → Result T ScheduleFau
 lifted (Ok x) = Ok x
 lifted (Err fault) = Err (schedule_fault_of fault)
 
-pub draft_given : (came : Result Drafted PlanFault) (said : Result Drafted Fault) → Reads came said → GivesUnlessMemory (lifted came) (by_lines said)
+pub draft_given : (came : Result Drafted PlanFault) (said : Result Drafted Fault) → ReadsLines came said → GivesUnlessMemory (lifted came) (by_lines said)
 draft_given (Ok draft) said reads = inr (ap by_lines (sym reads))
 draft_given (Err plan.NoMemory) said reads = inl refl
 draft_given (Err (plan.Line line reason)) said reads = inr (ap by_lines (sym reads))
@@ -48,31 +48,31 @@ one_more files k draft line name more line_is name_is =
     ap (λ n. with_files n k draft) left ∙ (λ i. load_for (sym line_is i) (sym name_is i) longest_file >>= behind files k draft)
 
 reached_more : (whole : Reading Drafted) (files k : ℕ) (draft : Drafted) (line : ℕ) (name : List ℕ) (a b : Known Files) → k < files → line ≡ line_at draft k → name ≡ name_at draft k
-    → Supplies a b (Reached whole (with_files (files - k) k draft)) → Supplies a b (Reached whole (load_for line name longest_file >>= behind files k draft))
+    → ShelfSupplies a b (Reached whole (with_files (files - k) k draft)) → ShelfSupplies a b (Reached whole (load_for line name longest_file >>= behind files k draft))
 reached_more whole files k draft line name a b more line_is name_is so_far =
     let step = one_more files k draft line name more line_is name_is in
     Tells-weaker _ _ a b so_far (λ x y reached. (reached.0 ∙ (λ i. step i y), reached.1))
 
 pub files_next : (whole : Reading Drafted) (files k : ℕ) (draft next : Drafted) (line : ℕ) (name bytes : List ℕ) (a b c : Known Files) → k < files → line ≡ line_at draft k → name ≡ name_at draft k → next ≡ attached draft k bytes
-    → Supplies a b (Reached whole (with_files (files - k) k draft)) → ReadBy (load_for line name longest_file) (Ok bytes) b c
-    → Supplies a c (Reached whole (with_files (files - (k + 1)) (k + 1) next))
+    → ShelfSupplies a b (Reached whole (with_files (files - k) k draft)) → ReadBy (load_for line name longest_file) (Ok bytes) b c
+    → ShelfSupplies a c (Reached whole (with_files (files - (k + 1)) (k + 1) next))
 files_next whole files k draft next line name bytes a b c more line_is name_is next_is so_far came =
     Tells-weaker _ _ a c
     (rest_after whole (load_for line name longest_file) (behind files k draft) bytes a b c (load_only line name longest_file) (reached_more whole files k draft line name a b more line_is name_is so_far) came)
     (λ x y reached. (reached.0 ∙ ap (λ d. with_files (files - (k + 1)) (k + 1) d y) (sym next_is), reached.1))
 
 pub files_fail : (whole : Reading Drafted) (files k : ℕ) (draft : Drafted) (line : ℕ) (name : List ℕ) (fault : ScheduleFault) (a b c : Known Files) → k < files → line ≡ line_at draft k → name ≡ name_at draft k
-    → Supplies a b (Reached whole (with_files (files - k) k draft)) → ReadBy (load_for line name longest_file) (Err fault) b c → ReadBy whole (Err fault) a c
+    → ShelfSupplies a b (Reached whole (with_files (files - k) k draft)) → ReadBy (load_for line name longest_file) (Err fault) b c → ReadBy whole (Err fault) a c
 files_fail whole files k draft line name fault a b c more line_is name_is so_far came =
     ReadBy-rest whole (load_for line name longest_file >>= behind files k draft) (Err fault) a b c (reached_more whole files k draft line name a b more line_is name_is so_far)
     (ReadBy-stops (load_for line name longest_file) (behind files k draft) fault b c (λ bytes. files_only (files - (k + 1)) (k + 1) (attached draft k bytes)) came)
 
-pub files_done : (whole : Reading Drafted) (files k : ℕ) (draft : Drafted) (a b : Known Files) → files ≤ k → Supplies a b (Reached whole (with_files (files - k) k draft)) → ReadBy whole (Ok draft) a b
+pub files_done : (whole : Reading Drafted) (files k : ℕ) (draft : Drafted) (a b : Known Files) → files ≤ k → ShelfSupplies a b (Reached whole (with_files (files - k) k draft)) → ReadBy whole (Ok draft) a b
 files_done whole files k draft a b last so_far =
     let none : files - k ≡ zero = omega arith in
     Tells-weaker _ _ a b so_far (λ x y reached. inl (reached.0 ∙ ap (λ n. with_files n k draft y) none))
 
-pub files_first : (files : ℕ) (draft : Drafted) (a : Known Files) → files ≡ length draft.files → Supplies a a (Reached (with_files (length draft.files) 0 draft) (with_files (files - 0) 0 draft))
+pub files_first : (files : ℕ) (draft : Drafted) (a : Known Files) → files ≡ length draft.files → ShelfSupplies a a (Reached (with_files (length draft.files) 0 draft) (with_files (files - 0) 0 draft))
 files_first files draft a is =
     let all : length draft.files ≡ files - 0 = omega (arith, is) in
     nothing_left (with_files (length draft.files) 0 draft) (with_files (files - 0) 0 draft) a (ap (λ n. with_files n 0 draft) all)

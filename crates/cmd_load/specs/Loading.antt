@@ -4,7 +4,7 @@ use Rattle.drm_schedule.specs.declared.invalid.Reason.TheVariants as reasons
 use Rattle.drm_links.specs.Told.{Known}
 use Rattle.drm_links.specs.declared.shelf.Loaded.{Loaded}
 use Rattle.drm_links.specs.declared.shelf.Loaded.TheVariants as loads
-use Rattle.drm_links.specs.Shelf.{Files, Supplies, load_of, after_loads}
+use Rattle.drm_links.specs.Shelf.{Files, ShelfSupplies, load_of, after_loads}
 use Rattle.cmd_load.specs.declared.loading.ScheduleFault.{ScheduleFault}
 use Rattle.cmd_load.specs.declared.loading.ScheduleFault.TheVariants.{NoMemory, Line, Read}
 
@@ -55,7 +55,7 @@ pub record MadeSome (last before after : Files) : Type 0 where
 -- Where a shelf tells, this came of it by this reading, or memory ran out; then no more loads were made than the reading makes.
 abbrev pub ReadBy : {T : Type 0} → Reading T → Result T ScheduleFault → Known Files → Known Files → Type 0
 ReadBy reading came before after =
-    Supplies before after (λ x y. (reading x ≡ record { came = came; told = y }) ⊎ ((came ≡ Err NoMemory) × MadeSome (reading x).told x y))
+    ShelfSupplies before after (λ x y. (reading x ≡ record { came = came; told = y }) ⊎ ((came ≡ Err NoMemory) × MadeSome (reading x).told x y))
 
 -- it is this, unless memory ran out
 abbrev pub GivesUnlessMemory : {T : Type 0} → Result T ScheduleFault → Result T ScheduleFault → Type 0

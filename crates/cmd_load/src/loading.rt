@@ -4,8 +4,8 @@ ghost use Rattle.std.specs.Prelude.{◌≡◌, ◌≤◌, IfOk, length};
 ghost use Rattle.drm_links.specs.Told.{HasCause};
 ghost use Rattle.cmd_load.specs.Loading.{load_for, ReadBy};
 
-use drm_bits::Octets;
 use cmd_faults::Fault;
+use drm_bits::Octets;
 use drm_links::{Loaded, Shelf};
 use drm_schedule::Reason;
 use std::alloc::Global;

@@ -13,7 +13,7 @@ use Rattle.cmd_faults.specs.declared.fault.Fault.TheVariants as faults
 use Rattle.cmd_pack.specs.Units.{ComesTo}
 use Rattle.cmd_pack.specs.Input.{ReadsFile}
 use Rattle.cmd_pack.specs.Packed.{ArePacked}
-use Rattle.cmd_pack.specs.Pack.{Ends, CanEnd, PackRun}
+use Rattle.cmd_pack.specs.Pack.{PackEnds, CanEnd, PackRun}
 use Rattle.cmd_pack.proofs.Files.{one_coming}
 
 -- ---- what was read, and what was left of the input
@@ -39,7 +39,7 @@ comes_left bytes (Err fault) before after reads (inr wrong) =
 -- ---- how it ends
 
 module _ {O : Type 0} (id d : ℕ) (before after : Known Input) (known : O → Known Output) (out out' : O) where
-  can_by : (fault : Fault) → Ends id d (Err fault) before after known out out' → CanEnd fault
+  can_by : (fault : Fault) → PackEnds id d (Err fault) before after known out out' → CanEnd fault
   can_by faults.NoMemory ends = tt
   can_by (faults.Units fault) ends = tt
   can_by faults.Read ends = tt
@@ -70,7 +70,7 @@ module _ {O : Type 0} (id d : ℕ) (before after : Known Input) (known : O → K
   exact_by ending came bytes same reads comes =
       Inputs-weaker (λ left _. ComesTo left came) (Exact ending) before after (comes_left bytes came before after reads comes) (λ left rest is. inr (refused_by ending came left same is))
 
-  exact : (ending : Result (Unit {0}) Fault) → Ends id d ending before after known out out' → (ending ≡ Err faults.Read → ⊥) → Inputs before after (Exact ending)
+  exact : (ending : Result (Unit {0}) Fault) → PackEnds id d ending before after known out out' → (ending ≡ Err faults.Read → ⊥) → Inputs before after (Exact ending)
   exact (Ok done) (bytes, reads, units, comes, text) no_read = exact_by (Ok done) (Ok units) bytes (λ fault. ((λ e. absurd (cc)), (λ e. absurd (cc)))) reads comes
   exact (Err faults.Write) (bytes, reads, units, comes, text, are, front) no_read = exact_by (Err faults.Write) (Ok units) bytes (λ fault. ((λ e. absurd (cc)), (λ e. absurd (cc)))) reads comes
   exact (Err (faults.Units f)) (bytes, reads, comes, same) no_read = exact_by (Err (faults.Units f)) (Err f) bytes (λ fault. ((λ e. let is : f ≡ fault = cc in ap Err is), (λ e. let is : f ≡ fault = cc in ap (λ k. Err (faults.Units k)) is))) reads comes
@@ -91,7 +91,7 @@ module _ {O : Type 0} (id d : ℕ) (before after : Known Input) (known : O → K
   abbrev Done : Result (Unit {0}) Fault → List ℕ → List ℕ → Type 0
   Done ending left rest = (units : List (List ℕ)) → ComesTo left (Ok units) → UnlessMemory ending ((ending ≡ Ok tt) × Outputs (known out) (known out') (ArePacked id d units))
 
-  whole : (ending : Result (Unit {0}) Fault) → Ends id d ending before after known out out' → (ending ≡ Err faults.Read → ⊥) → (ending ≡ Err faults.Write → ⊥) → Inputs before after (Done ending)
+  whole : (ending : Result (Unit {0}) Fault) → PackEnds id d ending before after known out out' → (ending ≡ Err faults.Read → ⊥) → (ending ≡ Err faults.Write → ⊥) → Inputs before after (Done ending)
   whole (Ok done) (bytes, reads, units, comes, text) no_read no_write =
       Inputs-weaker (λ left _. ComesTo left (Ok units)) (Done (Ok done)) before after (comes_left bytes (Ok units) before after reads comes)
       (λ left rest is others also.
@@ -116,13 +116,13 @@ module _ {O : Type 0} (id d : ℕ) (before after : Known Input) (known : O → K
   whole (Err faults.Link) ends no_read no_write = absurd ends
 
 pub pack_run : {I O : Type 0} (id d : ℕ) (ending : Result (Unit {0}) Fault) (input_known : I → Known Input) (input input' : I) (out_known : O → Known Output) (out out' : O)
-    → Ends id d ending (input_known input) (input_known input') out_known out out'
+    → PackEnds id d ending (input_known input) (input_known input') out_known out out'
     → (ending ≡ Err faults.NoMemory → (input' ≡ input) × (out' ≡ out))
     → HasCause (input_known input) (input_known input') (ending ≡ Err faults.Read)
     → HasCause (out_known out) (out_known out') (ending ≡ Err faults.Write)
     → PackRun id d ending input_known input input' out_known out out'
 pack_run {I} {O} id d ending input_known input input' out_known out out' ends untouched read_cause write_cause = record {
-  kind = λ fault is. can_by id d before after out_known out out' fault (subst (λ e. Ends id d e before after out_known out out') is ends);
+  kind = λ fault is. can_by id d before after out_known out out' fault (subst (λ e. PackEnds id d e before after out_known out out') is ends);
   ends = ends;
   untouched = untouched;
   exactly = exact id d before after out_known out out' ending ends;

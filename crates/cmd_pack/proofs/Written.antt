@@ -5,7 +5,7 @@ use Rattle.std.proofs.Math.Nat.{div-add-mod', add-mul}
 use Rattle.std.proofs.lemmas.Nat.{div-mul-add}
 use Rattle.std.proofs.lemmas.List.{append-nil}
 use Rattle.drm_links.specs.Told.{Known}
-use Rattle.drm_links.specs.Sink.{Output, Outputs, Writes}
+use Rattle.drm_links.specs.Sink.{Output, Outputs, WritesWhole}
 use Rattle.drm_links.proofs.ToldLemmas.{Outputs-nothing, Outputs-then, Outputs-weaker}
 use Rattle.drm_links.proofs.WritingLemmas.{Writes-broken, Writes-whole}
 use Rattle.drm_data.specs.Packet.{Packet}
@@ -107,10 +107,10 @@ wrote_one start p q unit k a b c bytes i below one after text still =
 
 -- what a packer wrote of a unit, or a front of it
 abbrev pub WritesUnit : {E : Type 0} → Result (Unit {0}) E → ℕ → ℕ → ℕ → List ℕ → Known Output → Known Output → Type 0
-WritesUnit result id d continuity unit a b = (text : List ℕ) × AreWritten d (unit_packets id d continuity unit) text × Writes result a b text
+WritesUnit result id d continuity unit a b = (text : List ℕ) × AreWritten d (unit_packets id d continuity unit) text × WritesWhole result a b text
 
 pub wrote_broken : {E F : Type 0} (start p : Packing) (unit : List ℕ) (k : ℕ) (a b c : Known Output) (bytes : List ℕ) (r : Result (Unit {0}) E) (other : E) (fault : F) → start.id < 4
-    → Wrote start unit k p a b → k < packet_count start.length (length unit) → IsWritten start.length (unit_packet p.id p.length p.continuity unit k) bytes → r ≡ Err other → Writes r b c bytes
+    → Wrote start unit k p a b → k < packet_count start.length (length unit) → IsWritten start.length (unit_packet p.id p.length p.continuity unit k) bytes → r ≡ Err other → WritesWhole r b c bytes
     → (let broken : Result (Unit {0}) F = Err fault in WritesUnit broken start.id start.length start.continuity unit a c)
 wrote_broken start p unit k a b c bytes r other fault small i below one is writes =
     let n : ℕ = packet_count start.length (length unit) in
@@ -197,10 +197,10 @@ packs_one id d bytes rest unit behind p q a b c text i begins one out still afte
 
 -- the packets of all units, or a front of them
 abbrev pub WritesPackets : {E : Type 0} → Result (Unit {0}) E → ℕ → ℕ → List ℕ → Known Output → Known Output → Type 0
-WritesPackets result id d bytes a b = (units : List (List ℕ)) → AreUnits units [] bytes → (text : List ℕ) × AreWritten d (packets id d units) text × Writes result a b text
+WritesPackets result id d bytes a b = (units : List (List ℕ)) → AreUnits units [] bytes → (text : List ℕ) × AreWritten d (packets id d units) text × WritesWhole result a b text
 
 pub packs_broken : {E F : Type 0} (id d : ℕ) (bytes rest unit behind : List ℕ) (p : Packing) (a b c : Known Output) (text : List ℕ) (r : Result (Unit {0}) E) (other : E) (fault : F) → id < 4
-    → Packs id d bytes rest p a b → BeginsWith unit behind rest → AreWritten d (unit_packets p.id d p.continuity unit) text → r ≡ Err other → Writes r b c text
+    → Packs id d bytes rest p a b → BeginsWith unit behind rest → AreWritten d (unit_packets p.id d p.continuity unit) text → r ≡ Err other → WritesWhole r b c text
     → (let broken : Result (Unit {0}) F = Err fault in WritesPackets broken id d bytes a c)
 packs_broken id d bytes rest unit behind p a b c text r other fault small i begins one is writes units are =
     let count : ℕ = packet_count d (length unit) in
@@ -224,7 +224,7 @@ packs_all {E} id d bytes rest p a b i stuck units are =
   where
     by : (left : List (List ℕ)) (written : List ℕ) → AreUnits left [] rest → Outputs a b (λ t. t ≡ written)
         → ((more : List ℕ) → AreWritten d (packets_after id d p.continuity left) more → AreWritten d (packets id d units) (written ++ more))
-        → (text : List ℕ) × AreWritten d (packets id d units) text × (let done : Result (Unit {0}) E = Ok tt in Writes done a b text)
+        → (text : List ℕ) × AreWritten d (packets id d units) text × (let done : Result (Unit {0}) E = Ok tt in WritesWhole done a b text)
     by [] written are_left came all = (written, subst (λ l. AreWritten d (packets id d units) l) (append-nil written) (all [] refl), Writes-whole written a b came i.still)
     by (u ∷ left) written (more, first, others) came all = absurd (stuck u more first)
 

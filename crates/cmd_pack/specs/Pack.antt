@@ -13,25 +13,25 @@ use Rattle.cmd_input.specs.Input.{FailsBehind}
 use Rattle.cmd_pack.specs.Packed.{ArePacked}
 
 -- what comes of the bytes that were read
-abbrev pub Judges : List ℕ → Result (Unit {0}) Fault → Type 0
-Judges bytes (Ok done) = (units : List (List ℕ)) × ComesTo bytes (Ok units)
-Judges bytes (Err (faults.Units fault)) = ComesTo bytes (Err fault)
-Judges bytes (Err fault) = ⊥
+abbrev pub JudgesInput : List ℕ → Result (Unit {0}) Fault → Type 0
+JudgesInput bytes (Ok done) = (units : List (List ℕ)) × ComesTo bytes (Ok units)
+JudgesInput bytes (Err (faults.Units fault)) = ComesTo bytes (Err fault)
+JudgesInput bytes (Err fault) = ⊥
 
 -- What is read and what is written: the packets of all units, or after a failed write a front of them; where a read failed, where
 -- the input isn't a list of units, and where memory is wanting, nothing.
-abbrev pub Ends : {O : Type 0} → ℕ → ℕ → Result (Unit {0}) Fault → Known Input → Known Input → (O → Known Output) → O → O → Type 0
-Ends id d (Ok done) before after known out out' =
+abbrev pub PackEnds : {O : Type 0} → ℕ → ℕ → Result (Unit {0}) Fault → Known Input → Known Input → (O → Known Output) → O → O → Type 0
+PackEnds id d (Ok done) before after known out out' =
     (bytes : List ℕ) × ReadsFile bytes before after × (units : List (List ℕ)) × ComesTo bytes (Ok units)
     × Outputs (known out) (known out') (ArePacked id d units)
-Ends id d (Err faults.Write) before after known out out' =
+PackEnds id d (Err faults.Write) before after known out out' =
     (bytes : List ℕ) × ReadsFile bytes before after × (units : List (List ℕ)) × ComesTo bytes (Ok units)
     × (text : List ℕ) × ArePacked id d units text × Outputs (known out) (known out') (IsFront text)
-Ends id d (Err (faults.Units fault)) before after known out out' =
+PackEnds id d (Err (faults.Units fault)) before after known out out' =
     (bytes : List ℕ) × ReadsFile bytes before after × ComesTo bytes (Err fault) × (out' ≡ out)
-Ends id d (Err faults.Read) before after known out out' = FailsBehind 16777217 before after × (out' ≡ out)
-Ends id d (Err faults.NoMemory) before after known out out' = (after ≡ before) × (out' ≡ out)
-Ends id d (Err fault) before after known out out' = ⊥
+PackEnds id d (Err faults.Read) before after known out out' = FailsBehind 16777217 before after × (out' ≡ out)
+PackEnds id d (Err faults.NoMemory) before after known out out' = (after ≡ before) × (out' ≡ out)
+PackEnds id d (Err fault) before after known out out' = ⊥
 
 -- how a run can end early
 abbrev pub CanEnd : Fault → Type 0
@@ -47,7 +47,7 @@ pub record PackRun {I O : Type 0} (id d : ℕ) (ending : Result (Unit {0}) Fault
     (out_known : O → Known Output) (out out' : O) : Type 0 where
   -- It ends well, or for want of memory, by what is wrong with the units, by a failed read or by a failed write.
   pub kind : (fault : Fault) → ending ≡ Err fault → CanEnd fault
-  pub ends : Ends id d ending (input_known input) (input_known input') out_known out out'
+  pub ends : PackEnds id d ending (input_known input) (input_known input') out_known out out'
   -- After want of memory nothing was read or written.
   pub untouched : ending ≡ Err faults.NoMemory → (input' ≡ input) × (out' ≡ out)
   -- Units are refused exactly where the input has this fault first, unless a read failed before.

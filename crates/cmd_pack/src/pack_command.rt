@@ -2,14 +2,14 @@
 
 ghost use Rattle.std.specs.Prelude.{◌≡◌, ◌<◌, ◌≤◌, Err, IfOk, length};
 ghost use Rattle.drm_links.specs.Told.{HasCause};
-ghost use Rattle.cmd_pack.specs.Pack.{Ends, PackRun, Judges};
+ghost use Rattle.cmd_pack.specs.Pack.{PackEnds, PackRun, JudgesInput};
 
 use crate::packing::write_packets;
 use crate::units::judge;
-use drm_bits::{NoMemory, zeros};
 use cmd_faults::{Fault, UnitsFault, UnitsReason};
-use drm_links::{Sink, Source};
 use cmd_input::read_front;
+use drm_bits::{NoMemory, zeros};
+use drm_links::{Sink, Source};
 use std::alloc::Global;
 
 /// The most bytes of an input.
@@ -40,7 +40,7 @@ fn pack_whole<I: Source, O: Sink>(
 ) -> Result<(), Fault>
     requires id { id < 4 }
     requires length { 1 ≤ length }
-    ensures ends { Ends id length result (I.known input.old) (I.known input.new) O.known out.old out.new }
+    ensures ends { PackEnds id length result (I.known input.old) (I.known input.new) O.known out.old out.new }
     ensures memory { result ≡ Err Fault.NoMemory → (input.new ≡ input.old) × (out.new ≡ out.old) }
     ensures read { HasCause (I.known input.old) (I.known input.new) (result ≡ Err Fault.Read) }
     ensures write { HasCause (O.known out.old) (O.known out.new) (result ≡ Err Fault.Write) }
@@ -61,7 +61,7 @@ fn room_for(alloc: Global, len: usize) -> Result<Vec<u8>, NoMemory>
 
 // Whether the bytes are units. An input that is too long is refused before any of its units.
 fn check(bytes: &[u8]) -> Result<(), Fault>
-    ensures { Judges bytes.now result }
+    ensures { JudgesInput bytes.now result }
 {
     if bytes.len() > MOST_BYTES {
         return Err(Fault::Units(UnitsFault {

@@ -1,7 +1,7 @@
 //! Units, written as packets.
 
 ghost use Rattle.std.specs.Prelude.{◌≡◌, ◌<◌, ◌≤◌, ℕ, List, [], OnOk};
-ghost use Rattle.drm_links.specs.Sink.{Writes};
+ghost use Rattle.drm_links.specs.Sink.{WritesWhole};
 ghost use Rattle.drm_data.specs.Units.{unit_packets};
 ghost use Rattle.law_data.specs.Losses.{IsUnit};
 ghost use Rattle.cmd_pack.specs.Units.{AreUnits};
@@ -25,7 +25,7 @@ pub(crate) fn write_packets<O: Sink>(
     requires length { 1 ≤ length }
     ensures { (units : List (List ℕ)) → AreUnits units [] bytes.now
         → (text : List ℕ) × ArePacked id length units text
-        × Writes result (O.known out.old) (O.known out.new) text }
+        × WritesWhole result (O.known out.old) (O.known out.new) text }
 {
     let mut packer = Packer::new(id, length);
     let mut rest = bytes;
@@ -49,13 +49,13 @@ fn write_unit<O: Sink>(
     out: &mut O,
 ) -> Result<(), WriteFault>
     requires length { length ≡ packer.old.length }
-    requires some { 1 ≤ length }
+    requires at_least_one { 1 ≤ length }
     requires id { packer.old.id < 4 }
     requires continuity { packer.old.continuity < 8 }
     requires unit { IsUnit unit.now }
     ensures writes { (text : List ℕ)
         × AreWritten length (unit_packets packer.old.id length packer.old.continuity unit.now) text
-        × Writes result (O.known out.old) (O.known out.new) text }
+        × WritesWhole result (O.known out.old) (O.known out.new) text }
     ensures after { OnOk result (packer.new ≡ after_unit packer.old unit.now) }
 {
     let mut room = [0; MOST_PACKET];

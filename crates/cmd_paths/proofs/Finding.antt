@@ -2,7 +2,7 @@
 use Rattle.std.proofs.Common.{◌≡◌, ℕ, ◌<◌, inl, inr, List, [], length, slice_index_or, Option, None, Some, IsNone, All, Err, sym, ◌∙◌, ap, subst, arith}
 use Rattle.drm_links.specs.Told.{Known}
 use Rattle.drm_links.specs.Link.{Traffic}
-use Rattle.drm_links.specs.Dock.{DockContents, LinkStart, Finds, FindsNone}
+use Rattle.drm_links.specs.Dock.{DockContents, LinkStart, OpeningFinds, FindsNone}
 use Rattle.drm_links.specs.declared.dock.Address.{Address}
 use Rattle.drm_links.proofs.Places.{index_of}
 use Rattle.drm_paths.specs.State.{PathState, new_path}
@@ -22,7 +22,7 @@ some_is None start is none = cc
 some_is (Some x) start is none = cc
 
 -- where a link is found, it is found
-not_none : (told : DockContents) (k : ℕ) (at : Address) (start : LinkStart) → Finds told k at start → FindsNone told k at → ⊥
+not_none : (told : DockContents) (k : ℕ) (at : Address) (start : LinkStart) → OpeningFinds told k at start → FindsNone told k at → ⊥
 not_none told k at start finds (inl fails) = finds.allowed fails
 not_none told k at start finds (inr none) = some_is _ start finds.stands none
 

@@ -15,7 +15,7 @@ use Rattle.drm_paths.specs.declared.run.PathEnded.TheVariants as why
 use Rattle.drm_paths.specs.declared.close.Closed.{Closed}
 use Rattle.drm_paths.specs.declared.close.Closed.TheVariants as closed
 use Rattle.drm_paths.specs.State.{PathState, new_path}
-use Rattle.drm_paths.specs.Closing.{Closes}
+use Rattle.drm_paths.specs.Closing.{BookCloses}
 use Rattle.report_journal.specs.Journal.{JournalState}
 use Rattle.cmd_paths.specs.declared.job.PathJob.{PathJob}
 use Rattle.cmd_paths.specs.Jobs.{IsReady, HaveNewPaths, EndedAs, HasEnded, has_failed, has_run_out}
@@ -23,7 +23,7 @@ use Rattle.cmd_paths.specs.Run.{settings_in, options_in}
 use Rattle.drm_links.specs.Hearing.{Heard}
 use Rattle.drm_paths.specs.Reading.{ReadsPath}
 use Rattle.cmd_paths.specs.declared.fault.Fault.{Fault}
-use Rattle.cmd_paths.specs.Links.{ReadsLink, ReadsWhole, ReadAll, BreaksSome, BreaksNone, EndsLinks, Fits, AreRead, ending_of}
+use Rattle.cmd_paths.specs.Links.{ReadsLink, ReadsWhole, ReadAll, BreaksSome, BreaksNone, EndsLinks, PathFaultFits, AreRead, ending_of}
 
 -- the paths are new, and each has its link
 pub record AreNew {G L : Type 0} (links : List L) (paths : List PathState) (jobs : List (PathJob G L)) : Type 0 where
@@ -218,7 +218,7 @@ module _ {G L : Type 0} (known : L → Known Traffic) (options : PathOptions) (l
   -- what all have read of their links
   pub are_read : {T : Type 0} (result : Result T Fault)
       → ((w : PathEnded) → (has_failed (Some w) ≡ true → list_any (λ (j : PathJob G L). has_failed j.ended) after ≡ true)
-      → (has_run_out (Some w) ≡ true → list_any (λ (j : PathJob G L). has_run_out j.ended) after ≡ true) → Fits result w)
+      → (has_run_out (Some w) ≡ true → list_any (λ (j : PathJob G L). has_run_out j.ended) after ≡ true) → PathFaultFits result w)
       → AreRead options known links (map (λ j. j.link) after) result
   are_read result fits = record {
     as_many = length-map after (λ j. j.link) ∙ ran.still ∙ many;
@@ -251,7 +251,7 @@ fits_whole why.LinkFailed failed out = absurd (failed refl)
 fits_whole why.NoMemory failed out = absurd (out refl)
 
 -- where a book was closed after all paths
-pub fits_closed : (c : Closed) (w : PathEnded) → (has_failed (Some w) ≡ true → ⊥) → (has_run_out (Some w) ≡ true → ⊥) → Fits (ending_of c) w
+pub fits_closed : (c : Closed) (w : PathEnded) → (has_failed (Some w) ≡ true → ⊥) → (has_run_out (Some w) ≡ true → ⊥) → PathFaultFits (ending_of c) w
 fits_closed (closed.Whole ending) w failed out = fits_whole w failed out
 fits_closed (closed.Differ difference) w failed out = fits_whole w failed out
 fits_closed closed.NoMemory w failed out = λ is. failed (ap (λ v. has_failed (Some v)) is)
@@ -270,7 +270,7 @@ module _ {G L : Type 0} (request : Request) (known : L → Known Traffic) (links
 
   -- where none failed, and their book was closed
   pub ends_by : list_any (λ (j : PathJob G L). has_failed j.ended) after ≡ false → list_any (λ (j : PathJob G L). has_run_out j.ended) after ≡ false
-      → (journal : JournalState) (closed : Closed) → Closes (settings_in request) journal then_paths closed → EndsLinks request known links (ending_of closed)
+      → (journal : JournalState) (closed : Closed) → BookCloses (settings_in request) journal then_paths closed → EndsLinks request known links (ending_of closed)
   ends_by failed out journal (closed.Whole ending) closes = record { paths = then_paths; read = read_all failed out; journal = journal; closes = closes }
   ends_by failed out journal (closed.Differ difference) closes = (difference, refl, refl, record { paths = then_paths; read = read_all failed out; journal = journal; closes = closes })
   ends_by failed out journal closed.NoMemory closes = breaks_none known (options_in request) links paths jobs after ran failed

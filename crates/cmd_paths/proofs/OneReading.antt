@@ -9,7 +9,7 @@ use Rattle.recv_reading.proofs.OneReading.{next_front, next_split, three, same_a
 use Rattle.drm_paths.specs.declared.run.PathOptions.{PathOptions}
 use Rattle.drm_paths.specs.declared.run.PathEnded.{PathEnded}
 use Rattle.drm_paths.specs.declared.run.PathEnded.TheVariants.{Idle, Limit}
-use Rattle.drm_paths.specs.Reading.{Holds, GoesOn}
+use Rattle.drm_paths.specs.Reading.{PathEndHolds, GoesOn}
 use Rattle.cmd_paths.specs.Ahead.{IsAllOf, BreaksOff}
 
 fails_within : (before rest : List Answer) → AllByRecursion IsSound (before ++ Failed ∷ rest) → ⊥
@@ -26,7 +26,7 @@ goes_past ahead r s xs before p q sound l =
     sym (take-append-drop n xs) ∙ ap (λ ys. ys ++ drop n xs) (sym front) ∙ append_assoc before (Failed ∷ []) (drop n xs) in
     fails_within before (drop n xs) (subst (λ ys. AllByRecursion IsSound ys) whole sound)
 
-not_both : (options : PathOptions) (ahead r xs : List Answer) (why : PathEnded) → AreNext ahead xs r → GoesOn options xs → Holds options xs why → BreaksOff options ahead → ⊥
+not_both : (options : PathOptions) (ahead r xs : List Answer) (why : PathEnded) → AreNext ahead xs r → GoesOn options xs → PathEndHolds options xs why → BreaksOff options ahead → ⊥
 not_both options ahead r xs why p goes holds (taken, is) =
     let (before, last, goes', open', are) = is.ends in
     let q : AreNext ahead (before ++ Failed ∷ []) is.rest = subst (λ ys. AreNext ahead ys is.rest) last is.next in
@@ -34,10 +34,10 @@ not_both options ahead r xs why p goes holds (taken, is) =
     elim (three (length xs) (length before)) [
       | inl l ↦
           let front : xs ≡ take (length xs) before = next_front ahead r half.0 xs before p half.1 (omega (arith, l)) in
-          goes'.shorter (length xs) l why (subst (λ ys. Holds options ys why) front holds)
+          goes'.shorter (length xs) l why (subst (λ ys. PathEndHolds options ys why) front holds)
       | inr h ↦ elim h [
         | inl l ↦ goes_past ahead r is.rest xs before p q goes.sound l
-        | inr e ↦ open' why (subst (λ ys. Holds options ys why) (same_answers ahead r half.0 xs before p half.1 e) holds)
+        | inr e ↦ open' why (subst (λ ys. PathEndHolds options ys why) (same_answers ahead r half.0 xs before p half.1 e) holds)
       ]
     ]
 

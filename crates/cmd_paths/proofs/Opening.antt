@@ -1,7 +1,7 @@
 -- Links that are opened for paths, as what they are the links of.
 use Rattle.std.proofs.Common.{◌≡◌, ℕ, List, [], length, map, drop, ap, ◌∙◌, arith}
 use Rattle.std.proofs.lemmas.List.{length-drop, length-map}
-use Rattle.drm_links.specs.Told.{Known, Tells}
+use Rattle.drm_links.specs.Told.{Known, KnownThrough}
 use Rattle.drm_links.specs.Link.{Traffic}
 use Rattle.drm_links.specs.Dock.{DockContents}
 use Rattle.drm_links.specs.declared.dock.Address.{Address}
@@ -14,7 +14,7 @@ itself link = link
 
 -- no job is left, so the links of all were closed
 pub closed_over : {X L : Type 0} (link_of : X → L) (known : L → Known Traffic) (addresses : List Address) (jobs : List X) (k : ℕ) (a b : Known DockContents) → [] ≡ drop k jobs
-    → Tells a b (Closing known (as_members itself (map link_of jobs)) addresses k) → Tells a b (IsClosed known addresses (map link_of jobs))
+    → KnownThrough a b (Closing known (as_members itself (map link_of jobs)) addresses k) → KnownThrough a b (IsClosed known addresses (map link_of jobs))
 closed_over link_of known addresses jobs k a b none closing =
     let size = ap length none ∙ length-drop k jobs in
     let mapped = length-map jobs link_of in

@@ -1,6 +1,6 @@
 -- Runs by how they end.
 use Rattle.std.proofs.Common.{◌≡◌, ℕ, ◌⊎◌, ◌↔◌, inl, inr, Bool, List, length, slice_index_or, Result, Ok, Err, refl, sym, ◌∙◌, ap, subst, arith, le_trans}
-use Rattle.drm_links.specs.Told.{Known, HasFailed, HasCause, Tells}
+use Rattle.drm_links.specs.Told.{Known, HasFailed, HasCause, KnownThrough}
 use Rattle.drm_links.specs.Link.{Answer, Traffic}
 use Rattle.drm_links.specs.Sink.{Output, Outputs, IsFront}
 use Rattle.drm_links.specs.Dock.{DockContents, Docked}
@@ -16,13 +16,13 @@ use Rattle.report_journal.specs.Report.{IsReportOf}
 use Rattle.drm_paths.specs.declared.run.PathOptions.{PathOptions}
 use Rattle.drm_paths.specs.declared.run.PathEnded.{PathEnded}
 use Rattle.drm_paths.specs.declared.run.PathEnded.TheVariants as ended
-use Rattle.drm_paths.specs.Reading.{Ends}
+use Rattle.drm_paths.specs.Reading.{PathEnds}
 use Rattle.cmd_paths.specs.declared.fault.Fault.{Fault}
 use Rattle.cmd_paths.specs.declared.fault.Fault.TheVariants as faults
 use Rattle.cmd_paths.specs.Opening.{HaveLinks, IsClosed}
 use Rattle.cmd_paths.specs.Run.{settings_in, options_in, IsInRange, AreEntries, FailsSome, DiffersAt, WritesReport, WroteReport, IsDiffering, AreAll, AreCut, AreBroken, ReadsBy, OpensEach, PathsRun}
 use Rattle.drm_paths.specs.State.{PathState}
-use Rattle.cmd_paths.specs.Links.{EndsLinks, Fits, RunsOver, RunsLinks}
+use Rattle.cmd_paths.specs.Links.{EndsLinks, PathFaultFits, RunsOver, RunsLinks}
 use Rattle.cmd_paths.specs.Links as Links
 use Rattle.cmd_paths.proofs.Finding.{entries_ahead, fails_ahead, none_fails, differ_ahead}
 use Rattle.cmd_paths.proofs.Hearing.{few_answers}
@@ -50,7 +50,7 @@ done_by request (Err (faults.Differs path at)) known out out' told words write w
 -- what follows from the rest: where nothing fails the report is written
 pub paths_run : {D O : Type 0} (request : Request) (ending : Result Bool Fault) (dock_known : D → Known DockContents) (dock dock' : D) (out_known : O → Known Output) (out out' : O)
     → (ending ≡ Err faults.Words → ⊥)
-    → Tells (dock_known dock) (dock_known dock') (OpensEach request ending)
+    → KnownThrough (dock_known dock) (dock_known dock') (OpensEach request ending)
     → Docked (dock_known dock) (dock_known dock') (λ told. WritesReport (settings_in request) (AreEntries request told) ending out_known out out')
     → ((fault : Fault) → ending ≡ Err fault → (fault ≡ faults.Write → ⊥) → out' ≡ out)
     → Docked (dock_known dock) (dock_known dock') (Exactly request ending)
@@ -82,7 +82,7 @@ other_fault : (fault other : Fault) → (let e : Result Bool Fault = Err fault i
 other_fault fault other is = cc
 
 pub opening_failed : {D O : Type 0} (request : Request) (dock_known : D → Known DockContents) (dock dock' : D) (out_known : O → Known Output) (out : O)
-    → Tells (dock_known dock) (dock_known dock') (BindsFew request.addresses) → HasFailed (dock_known dock) (dock_known dock')
+    → KnownThrough (dock_known dock) (dock_known dock') (BindsFew request.addresses) → HasFailed (dock_known dock) (dock_known dock')
     → PathsRun request (Err faults.Link) dock_known dock dock' out_known out out
 opening_failed request dock_known dock dock' out_known out few failed =
     let a = dock_known dock in
@@ -100,8 +100,8 @@ opening_failed request dock_known dock dock' out_known out few failed =
     (counts_none (λ is. cc) refl)
 
 -- what holds of what a dock tells that wasn't touched
-untouched : (P : DockContents → DockContents → Type 0) (a b : Known DockContents) → b ≡ a → ((x : DockContents) → P x x) → Tells a b P
-untouched P a b same holds = subst (λ m. Tells a m P) (sym same) (Tells-nothing P a holds)
+untouched : (P : DockContents → DockContents → Type 0) (a b : Known DockContents) → b ≡ a → ((x : DockContents) → P x x) → KnownThrough a b P
+untouched P a b same holds = subst (λ m. KnownThrough a m P) (sym same) (Tells-nothing P a holds)
 
 pub not_begun : {D O : Type 0} (request : Request) (dock_known : D → Known DockContents) (dock dock' : D) (out_known : O → Known Output) (out : O)
     → dock_known dock' ≡ dock_known dock → PathsRun request (Err faults.NoMemory) dock_known dock dock' out_known out out
@@ -120,23 +120,23 @@ not_begun request dock_known dock dock' out_known out same =
 
 -- ---- what is read of each link
 
-either_end : (options : PathOptions) (why : PathEnded) → (why ≡ ended.Idle) ⊎ (why ≡ ended.Limit) → (answers : List Answer) (taken : List (List ℕ)) → Ends options answers taken why → AreAll options answers
-either_end options why (inl idle) answers taken ends = (taken, inl (subst (λ w. Ends options answers taken w) idle ends))
-either_end options why (inr limit) answers taken ends = (taken, inr (subst (λ w. Ends options answers taken w) limit ends))
+either_end : (options : PathOptions) (why : PathEnded) → (why ≡ ended.Idle) ⊎ (why ≡ ended.Limit) → (answers : List Answer) (taken : List (List ℕ)) → PathEnds options answers taken why → AreAll options answers
+either_end options why (inl idle) answers taken ends = (taken, inl (subst (λ w. PathEnds options answers taken w) idle ends))
+either_end options why (inr limit) answers taken ends = (taken, inr (subst (λ w. PathEnds options answers taken w) limit ends))
 
-reads_link : (options : PathOptions) (why : PathEnded) (answers : List Answer) (taken : List (List ℕ)) → Ends options answers taken why → AreAll options answers ⊎ AreCut options answers ⊎ AreBroken options answers
+reads_link : (options : PathOptions) (why : PathEnded) (answers : List Answer) (taken : List (List ℕ)) → PathEnds options answers taken why → AreAll options answers ⊎ AreCut options answers ⊎ AreBroken options answers
 reads_link options ended.Idle answers taken ends = inl (taken, inl ends)
 reads_link options ended.Limit answers taken ends = inl (taken, inr ends)
 reads_link options ended.NoMemory answers taken ends = inr (inl (taken, ends))
 reads_link options ended.LinkFailed answers taken ends = inr (inr (taken, ends))
 
-reads_memory : (options : PathOptions) (why : PathEnded) → (why ≡ ended.LinkFailed → ⊥) → (answers : List Answer) (taken : List (List ℕ)) → Ends options answers taken why → AreAll options answers ⊎ AreCut options answers
+reads_memory : (options : PathOptions) (why : PathEnded) → (why ≡ ended.LinkFailed → ⊥) → (answers : List Answer) (taken : List (List ℕ)) → PathEnds options answers taken why → AreAll options answers ⊎ AreCut options answers
 reads_memory options ended.Idle sound answers taken ends = inl (taken, inl ends)
 reads_memory options ended.Limit sound answers taken ends = inl (taken, inr ends)
 reads_memory options ended.NoMemory sound answers taken ends = inr (taken, ends)
 reads_memory options ended.LinkFailed sound answers taken ends = absurd (sound refl)
 
-reads_fault : (options : PathOptions) (fault : Fault) (why : PathEnded) → Fits (let r : Result Report Fault = Err fault in r) why → (answers : List Answer) (taken : List (List ℕ)) → Ends options answers taken why
+reads_fault : (options : PathOptions) (fault : Fault) (why : PathEnded) → PathFaultFits (let r : Result Report Fault = Err fault in r) why → (answers : List Answer) (taken : List (List ℕ)) → PathEnds options answers taken why
     → ReadsBy options (Err fault) answers
 reads_fault options faults.Link why fits answers taken ends = reads_link options why answers taken ends
 reads_fault options faults.NoMemory why fits answers taken ends = reads_memory options why fits answers taken ends
@@ -165,8 +165,8 @@ module _ {D O L : Type 0} (request : Request) (range : IsInRange request) (dock_
 
   -- what was read of each link
   opens : (ending : Result Bool Fault)
-      → ((why : PathEnded) → Fits result why → (answers : List Answer) (taken : List (List ℕ)) → Ends (options_in request) answers taken why → ReadsBy (options_in request) ending answers)
-      → Tells (dock_known dock) (dock_known dock') (OpensEach request ending)
+      → ((why : PathEnded) → PathFaultFits result why → (answers : List Answer) (taken : List (List ℕ)) → PathEnds (options_in request) answers taken why → ReadsBy (options_in request) ending answers)
+      → KnownThrough (dock_known dock) (dock_known dock') (OpensEach request ending)
   opens ending reads =
       Tells-weaker (HearsEach (ReadsBy (options_in request) ending) request.addresses) (OpensEach request ending) (dock_known dock) (dock_known dock')
       (hears_each itself known (ReadsBy (options_in request) ending) request.addresses links run.read.last many (run.read.read.as_many ∙ many) (dock_known dock) run.mid (dock_known dock') run.opened run.have
@@ -187,7 +187,7 @@ module _ {D O L : Type 0} (request : Request) (range : IsInRange request) (dock_
       let ends : EndsLinks request known links (Err fault) = subst (EndsLinks request known links) is run.ends in
       paths_run request (Err fault) dock_known dock dock' out_known out out
       (not_words fault ends)
-      (opens (Err fault) (λ why fits answers taken ends. reads_fault (options_in request) fault why (subst (λ r. Fits r why) is fits) answers taken ends))
+      (opens (Err fault) (λ why fits answers taken ends. reads_fault (options_in request) fault why (subst (λ r. PathFaultFits r why) is fits) answers taken ends))
       (then_docked _ (nothing fault ends))
       (λ other is any. refl)
       (then_docked _ (exactly fault ends))
@@ -240,8 +240,8 @@ module _ {D O L : Type 0} (request : Request) (range : IsInRange request) (dock_
     ends : EndsLinks request known links (Ok report)
     ends = subst (EndsLinks request known links) is run.ends
 
-    all_of : (why : PathEnded) → Fits result why → (answers : List Answer) (taken : List (List ℕ)) → Ends (options_in request) answers taken why → AreAll (options_in request) answers
-    all_of why fits answers taken done = either_end (options_in request) why (subst (λ r. Fits r why) is fits) answers taken done
+    all_of : (why : PathEnded) → PathFaultFits result why → (answers : List Answer) (taken : List (List ℕ)) → PathEnds (options_in request) answers taken why → AreAll (options_in request) answers
+    all_of why fits answers taken done = either_end (options_in request) why (subst (λ r. PathFaultFits r why) is fits) answers taken done
 
     abbrev entries : List (ℕ × List ℕ)
     entries = ends.journal.entries

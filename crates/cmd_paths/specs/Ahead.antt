@@ -5,14 +5,14 @@ use Rattle.drm_links.specs.Hearing.{AreNext}
 use Rattle.drm_paths.specs.declared.run.PathOptions.{PathOptions}
 use Rattle.drm_paths.specs.declared.run.PathEnded.{PathEnded}
 use Rattle.drm_paths.specs.declared.run.PathEnded.TheVariants.{Idle, Limit, LinkFailed}
-use Rattle.drm_paths.specs.Reading.{Ends}
+use Rattle.drm_paths.specs.Reading.{PathEnds}
 
 -- Of the answers ahead these are read, the shortest after which a path ends, and it took these datagrams.
 pub record IsRead (options : PathOptions) (ahead : List Answer) (taken : List (List ℕ)) (why : PathEnded) : Type 0 where
   pub answers : List Answer
   pub rest : List Answer
   pub next : AreNext ahead answers rest
-  pub ends : Ends options answers taken why
+  pub ends : PathEnds options answers taken why
 
 -- these are all datagrams that are read of what is ahead: nothing fails
 abbrev pub IsAllOf : PathOptions → List Answer → List (List ℕ) → Type 0

@@ -1,6 +1,6 @@
 -- The links of a run, read side by side.
 use Rattle.std.specs.Prelude.{ℕ, ◌≡◌, ◌<◌, ◌⊎◌, List, length, slice_index_or, Result, Ok, Err}
-use Rattle.drm_links.specs.Told.{Known, HasFailed, Tells}
+use Rattle.drm_links.specs.Told.{Known, HasFailed, KnownThrough}
 use Rattle.drm_links.specs.Link.{Traffic}
 use Rattle.drm_links.specs.Dock.{DockContents, Docked, after_openings}
 use Rattle.link_group.specs.Binding.{BindsFew}
@@ -13,7 +13,7 @@ use Rattle.drm_paths.specs.declared.run.PathEnded.{PathEnded}
 use Rattle.drm_paths.specs.declared.run.PathEnded.TheVariants.{Idle, Limit, LinkFailed, NoMemory}
 use Rattle.drm_paths.specs.State.{PathState}
 use Rattle.drm_paths.specs.Reading.{ReadsPath}
-use Rattle.drm_paths.specs.Closing.{Closes}
+use Rattle.drm_paths.specs.Closing.{BookCloses}
 use Rattle.drm_paths.specs.declared.close.Difference.{Difference}
 use Rattle.drm_paths.specs.declared.close.Closed.{Closed}
 use Rattle.drm_paths.specs.declared.close.Closed.TheVariants as closed
@@ -54,7 +54,7 @@ pub record AreClosed {L : Type 0} (request : Request) (known : L → Known Traff
   pub paths : List PathState
   pub read : ReadAll (options_in request) known links paths
   pub journal : JournalState
-  pub closes : Closes (settings_in request) journal paths closed
+  pub closes : BookCloses (settings_in request) journal paths closed
 
 -- How the reading of these links ends.
 abbrev pub EndsLinks : {L : Type 0} → Request → (L → Known Traffic) → List L → Result Report Fault → Type 0
@@ -67,30 +67,30 @@ EndsLinks request known links (Err (faults.Differs path at)) =
     (difference : Difference) × (path ≡ difference.path) × (at ≡ difference.at) × AreClosed request known links (closed.Differ difference)
 
 -- what may end a path of a run that ends so
-abbrev pub Fits : {T : Type 0} → Result T Fault → PathEnded → Type 0
-Fits (Err faults.Link) why = Unit {0}
-Fits (Err faults.NoMemory) why = why ≡ LinkFailed → ⊥
-Fits result why = (why ≡ Idle) ⊎ (why ≡ Limit)
+abbrev pub PathFaultFits : {T : Type 0} → Result T Fault → PathEnded → Type 0
+PathFaultFits (Err faults.Link) why = Unit {0}
+PathFaultFits (Err faults.NoMemory) why = why ≡ LinkFailed → ⊥
+PathFaultFits result why = (why ≡ Idle) ⊎ (why ≡ Limit)
 
 -- These links were read by paths, of a run that ends so, and now are the last ones.
 pub record AreRead {L T : Type 0} (options : PathOptions) (known : L → Known Traffic) (links last : List L) (result : Result T Fault) : Type 0 where
   pub as_many : length last ≡ length links
   pub each : (k : ℕ) (d : L) → k < length links
       → (why : PathEnded) × (taken : List (List ℕ))
-      × ReadsPath options (Heard (known (slice_index_or links k d)) (known (slice_index_or last k d))) taken why × Fits result why
+      × ReadsPath options (Heard (known (slice_index_or links k d)) (known (slice_index_or last k d))) taken why × PathFaultFits result why
 
 -- These links were read, and then closed.
 pub record ReadsAndCloses {L T : Type 0} (request : Request) (known : L → Known Traffic) (links : List L) (result : Result T Fault) (before after : Known DockContents) : Type 0 where
   pub last : List L
   pub read : AreRead (options_in request) known links last result
-  pub closed : Tells before after (IsClosed known request.addresses last)
+  pub closed : KnownThrough before after (IsClosed known request.addresses last)
 
 -- The links were opened, read and closed.
 pub record RunsOver {L : Type 0} (request : Request) (known : L → Known Traffic) (result : Result Report Fault) (before after : Known DockContents) : Type 0 where
   pub links : List L
   pub many : length links ≡ length request.addresses
   pub mid : Known DockContents
-  pub opened : Tells before mid (λ told told'. told' ≡ after_openings request.addresses told)
+  pub opened : KnownThrough before mid (λ told told'. told' ≡ after_openings request.addresses told)
   pub have : Docked before mid (λ told. HaveLinks known told request.addresses links)
   pub ends : EndsLinks request known links result
   pub read : ReadsAndCloses request known links result mid after
@@ -100,7 +100,7 @@ pub record RunsOver {L : Type 0} (request : Request) (known : L → Known Traffi
 abbrev pub RunsLinks : {L : Type 0} → Request → (L → Known Traffic) → Result Report Fault → Known DockContents → Known DockContents → Type 0
 RunsLinks request known result before after =
     ((result ≡ Err faults.NoMemory) × (after ≡ before))
-    ⊎ ((result ≡ Err faults.Link) × Tells before after (BindsFew request.addresses) × HasFailed before after)
+    ⊎ ((result ≡ Err faults.Link) × KnownThrough before after (BindsFew request.addresses) × HasFailed before after)
     ⊎ RunsOver request known result before after
 
 -- how a run ends that is closed so

@@ -1,9 +1,9 @@
 -- The run of several paths.
 use Rattle.std.specs.Prelude.{ℕ, ◌≡◌, ◌<◌, ◌≤◌, ◌⊎◌, ◌↔◌, All, Bool, List, length, slice_index_or, Result, Ok, Err}
-use Rattle.drm_links.specs.Told.{Known, HasFailed, HasCause, Tells}
+use Rattle.drm_links.specs.Told.{Known, HasFailed, HasCause, KnownThrough}
 use Rattle.drm_links.specs.Link.{Answer}
 use Rattle.drm_links.specs.Sink.{Output, Outputs, IsFront}
-use Rattle.drm_links.specs.Dock.{DockContents, LinkStart, AreDifferent, Finds, FindsNone, Docked}
+use Rattle.drm_links.specs.Dock.{DockContents, LinkStart, AreDifferent, OpeningFinds, FindsNone, Docked}
 use Rattle.drm_links.specs.declared.dock.Address.{Address}
 use Rattle.cmd_faults.specs.Causes.{OpeningFailed}
 use Rattle.cmd_faults.specs.Fault.{WritesLine}
@@ -16,8 +16,8 @@ use Rattle.report_text.specs.Reports.{Report}
 use Rattle.drm_paths.specs.declared.run.PathOptions.{PathOptions}
 use Rattle.drm_paths.specs.State.{PathState, settings_of}
 use Rattle.drm_paths.specs.declared.run.PathEnded.TheVariants.{Idle, Limit, LinkFailed, NoMemory}
-use Rattle.drm_paths.specs.Reading.{AreReasonable, Ends}
-use Rattle.drm_paths.specs.Closing.{of_path, Closes}
+use Rattle.drm_paths.specs.Reading.{AreReasonable, PathEnds}
+use Rattle.drm_paths.specs.Closing.{of_path, BookCloses}
 use Rattle.drm_paths.specs.declared.close.Difference.{Difference}
 use Rattle.drm_paths.specs.declared.close.Closed.TheVariants.{Differ}
 use Rattle.link_group.specs.Binding.{HearsEach, BindsFew}
@@ -47,7 +47,7 @@ pub record IsInRange (request : Request) : Type 0 where
 -- only the order between paths is free.
 pub record AreEntries (request : Request) (told : DockContents) (entries : List (ℕ × List ℕ)) : Type 0 where
   pub each : (k : ℕ) (at : Address) → k < length request.addresses
-      → (start : LinkStart) × Finds told k (slice_index_or request.addresses k at) start × IsAllOf (options_in request) start.ahead (of_path k entries)
+      → (start : LinkStart) × OpeningFinds told k (slice_index_or request.addresses k at) start × IsAllOf (options_in request) start.ahead (of_path k entries)
   pub others : All (λ e. e.0 < length request.addresses) entries
 
 -- Opening some address fails, or what is read of some link ends in `Failed`.
@@ -55,14 +55,14 @@ pub record FailsSome (request : Request) (told : DockContents) : Type 0 where
   pub k : ℕ
   pub within : k < length request.addresses
   pub fails : (at : Address) → FindsNone told k (slice_index_or request.addresses k at)
-      ⊎ ((start : LinkStart) × Finds told k (slice_index_or request.addresses k at) start × BreaksOff (options_in request) start.ahead)
+      ⊎ ((start : LinkStart) × OpeningFinds told k (slice_index_or request.addresses k at) start × BreaksOff (options_in request) start.ahead)
 
 -- These are the paths of the request: each took all datagrams that are read of the link at its address.
 pub record ReadAll (request : Request) (told : DockContents) (paths : List PathState) : Type 0 where
   pub as_many : length paths ≡ length request.addresses
   pub numbers : (k : ℕ) (d : PathState) → k < length request.addresses → (slice_index_or paths k d).number ≡ k
   pub each : (k : ℕ) (at : Address) (d : PathState) → k < length request.addresses
-      → (start : LinkStart) × Finds told k (slice_index_or request.addresses k at) start
+      → (start : LinkStart) × OpeningFinds told k (slice_index_or request.addresses k at) start
       × IsAllOf (options_in request) start.ahead (slice_index_or paths k d).taken
 
 -- All links are read, and their book is closed by a difference at this place of this path. What its journal has, as many entries
@@ -72,7 +72,7 @@ pub record DiffersAt (request : Request) (told : DockContents) (path at : ℕ) :
   pub read : ReadAll request told paths
   pub journal : JournalState
   pub difference : Difference
-  pub closes : Closes (settings_in request) journal paths (Differ difference)
+  pub closes : BookCloses (settings_in request) journal paths (Differ difference)
   pub path_is : path ≡ difference.path
   pub at_is : at ≡ difference.at
 
@@ -96,13 +96,13 @@ IsDiffering ending = (path : ℕ) × (at : ℕ) × (ending ≡ Err (faults.Diffe
 
 -- a path ends after these answers by its options, for want of memory, or by a link that failed
 abbrev pub AreAll : PathOptions → List Answer → Type 0
-AreAll options answers = (taken : List (List ℕ)) × (Ends options answers taken Idle ⊎ Ends options answers taken Limit)
+AreAll options answers = (taken : List (List ℕ)) × (PathEnds options answers taken Idle ⊎ PathEnds options answers taken Limit)
 
 abbrev pub AreCut : PathOptions → List Answer → Type 0
-AreCut options answers = (taken : List (List ℕ)) × Ends options answers taken NoMemory
+AreCut options answers = (taken : List (List ℕ)) × PathEnds options answers taken NoMemory
 
 abbrev pub AreBroken : PathOptions → List Answer → Type 0
-AreBroken options answers = (taken : List (List ℕ)) × Ends options answers taken LinkFailed
+AreBroken options answers = (taken : List (List ℕ)) × PathEnds options answers taken LinkFailed
 
 -- What is read of each link: all up to the end of its path. Where memory was wanting, or a link failed, some path ended by that.
 abbrev pub ReadsBy : PathOptions → Result Bool Fault → List Answer → Type 0
@@ -124,7 +124,7 @@ pub record PathsRun {D O : Type 0} (request : Request) (ending : Result Bool Fau
     (out_known : O → Known Output) (out out' : O) : Type 0 where
   pub kind : ending ≡ Err faults.Words → ⊥
   -- Where the dock tells: what is read of the links is this, and nothing else is asked of them.
-  pub opens : Tells (dock_known dock) (dock_known dock') (OpensEach request ending)
+  pub opens : KnownThrough (dock_known dock) (dock_known dock') (OpensEach request ending)
   -- Where the dock tells: the report is that of all that is read of the links that it opened. Nothing else is written.
   pub writes : Docked (dock_known dock) (dock_known dock') (λ told.
       WritesReport (settings_in request) (AreEntries request told) ending out_known out out')
@@ -154,7 +154,7 @@ abbrev pub AsksForNothing : List (List ℕ) → Type 0
 AsksForNothing words = (request : Request) → IsPathsLine words request → ⊥
 
 -- What comes of words that ask for a run: it; or memory ran out while they were read, and nothing was touched.
-abbrev pub Runs : {D O : Type 0} → Request → Result Bool Fault → (D → Known DockContents) → D → D → (O → Known Output) → O → O → Type 0
-Runs request ending dock_known dock dock' out_known out out' =
+abbrev pub RunsPaths : {D O : Type 0} → Request → Result Bool Fault → (D → Known DockContents) → D → D → (O → Known Output) → O → O → Type 0
+RunsPaths request ending dock_known dock dock' out_known out out' =
     PathsRun request ending dock_known dock dock' out_known out out'
     ⊎ ((ending ≡ Err faults.NoMemory) × (dock' ≡ dock) × (out' ≡ out))

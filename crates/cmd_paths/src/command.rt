@@ -10,21 +10,21 @@ ghost use Rattle.cmd_paths.specs.Faults.{status_of, fault_line};
 ghost use Rattle.cmd_faults.specs.Fault.{WritesLine};
 ghost use Rattle.cmd_paths.specs.Jobs.{HaveNewPaths};
 ghost use Rattle.cmd_paths.specs.Links.{EndsLinks, ReadsAndCloses, RunsLinks, ending_of};
-ghost use Rattle.cmd_paths.specs.Run.{IsInRange, settings_in, PathsRun, Runs, ReportsFault, AsksForNothing};
+ghost use Rattle.cmd_paths.specs.Run.{IsInRange, settings_in, PathsRun, RunsPaths, ReportsFault, AsksForNothing};
 
 use crate::fault::Fault;
 use crate::job::{PathJob, run_all, seats_of, some_failed, some_ran_out};
 use crate::open::{close_links, open_links, room_for};
+use cli_paths::{Request, read_paths};
+use cli_syntax::WordsFault;
 use drm_links::{Dock, Link, Sink, Status};
 use drm_paths::{Closed, PathOptions, Road, Shared, close_paths, open_paths};
 use report_journal::{Ending, Settings};
-use cli_paths::{Request, read_paths};
 use std::alloc::Global;
 use std::marker::Brand;
 use std::sync::Wait;
 use std::sync::ledger::Blank;
 use std::thread::Threads;
-use cli_syntax::WordsFault;
 
 /// Runs one command line: the words that stand behind the program's name.
 ///
@@ -45,7 +45,7 @@ where
     // Words that ask for a run are one, or memory ran out while they were read.
     ensures runs { (request : Request) → IsPathsLine (map string_bytes words.now) request
         → (ending : Result Bool Fault) × (result.code ≡ status_of ending) × ReportsFault ending E.known err.old err.new
-        × Runs request ending D.known dock.old dock.new O.known out.old out.new }
+        × RunsPaths request ending D.known dock.old dock.new O.known out.old out.new }
     // Words that ask for none are refused, and nothing is touched.
     ensures nothing { AsksForNothing (map string_bytes words.now)
         → (ending : Result Bool Fault) × (result.code ≡ status_of ending) × ReportsFault ending E.known err.old err.new
@@ -82,7 +82,7 @@ fn execute<R: Threads + Wait + Sync, O: Sink, D: Dock>(
 where
     D::L: Link + Send,
     ensures runs { (request : Request) → IsPathsLine (map string_bytes words.now) request
-        → Runs request result D.known dock.old dock.new O.known out.old out.new }
+        → RunsPaths request result D.known dock.old dock.new O.known out.old out.new }
     ensures nothing { AsksForNothing (map string_bytes words.now)
         → ((result ≡ Err Fault.Words) ⊎ (result ≡ Err Fault.NoMemory)) × (dock.new ≡ dock.old) × (out.new ≡ out.old) }
     ensures words { result ≡ Err Fault.Words → AsksForNothing (map string_bytes words.now) }
@@ -157,9 +157,9 @@ where
     requires range { IsInRange request.now }
     requires new { HaveNewPaths jobs.items }
     requires buffers { All (λ job. vec_len job.buffer ≡ 65536) jobs.items }
-    requires some { 0 < vec_len jobs }
+    requires at_least_one { 0 < vec_len jobs }
     requires parts { G.parts ≡ vec_len jobs }
-    requires many { vec_len jobs ≡ length request.now.addresses }
+    requires same_count { vec_len jobs ≡ length request.now.addresses }
     ensures ends { EndsLinks request.now D.L.known (map (λ job. job.link) jobs.items) result }
     ensures closed { ReadsAndCloses request.now D.L.known (map (λ job. job.link) jobs.items) result
         (D.known dock.old) (D.known dock.new) }

@@ -1,7 +1,7 @@
 //! Why a run stops early.
 
 ghost use Rattle.std.specs.Prelude.{◌≡◌, ◌<◌};
-ghost use Rattle.drm_links.specs.Sink.{Writes};
+ghost use Rattle.drm_links.specs.Sink.{WritesWhole};
 
 use drm_bits::NoMemory;
 use drm_links::{Sink, Status, WriteFault, write_all};
@@ -70,7 +70,7 @@ impl Fault {
     }
 
     fn write<E: Sink>(self, err: &mut E) -> Result<(), WriteFault>
-        ensures { Writes result (E.known err.old) (E.known err.new) (fault_line self) }
+        ensures { WritesWhole result (E.known err.old) (E.known err.new) (fault_line self) }
     {
         match self {
             Fault::NoMemory => write_words(err, "drmpaths: no memory\n"),
@@ -92,7 +92,7 @@ impl Fault {
 }
 
 fn write_words<E: Sink>(err: &mut E, line: &str) -> Result<(), WriteFault>
-    ensures { Writes result (E.known err.old) (E.known err.new) line.now }
+    ensures { WritesWhole result (E.known err.old) (E.known err.new) line.now }
 {
     write_all(err, line.as_bytes())
 }

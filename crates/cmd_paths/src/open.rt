@@ -1,7 +1,7 @@
 //! The links of a run.
 
 ghost use Rattle.std.specs.Prelude.{◌≡◌, ◌≤◌, ◌++◌, ◌∷◌, [], true, length, map, vec_len, vec_capacity, All, IsErr, IfOk, IfErr};
-ghost use Rattle.drm_links.specs.Told.{HasCause, Tells};
+ghost use Rattle.drm_links.specs.Told.{HasCause, KnownThrough};
 ghost use Rattle.drm_links.specs.Dock.{AreDifferent, Docked, after_openings};
 ghost use Rattle.link_group.specs.Binding.{BindsFew};
 ghost use Rattle.cmd_paths.specs.Opening.{HaveLinks, IsClosed};
@@ -9,8 +9,8 @@ ghost use Rattle.cmd_paths.specs.Opening.{HaveLinks, IsClosed};
 use crate::job::{PathJob, Seat, job_for};
 use drm_bits::NoMemory;
 use drm_links::{Addresses, Dock, Link, LinkFault, Opened};
-use drm_paths::{Path, Paths, Road};
 use drm_lists::Items;
+use drm_paths::{Path, Paths, Road};
 use std::alloc::Global;
 
 /// Takes the memory for jobs at these addresses.
@@ -19,7 +19,7 @@ pub(crate) fn room_for<G: Road, L: Link>(
     addresses: &Addresses,
 ) -> Result<Vec<PathJob<G, L>>, NoMemory>
     ensures none { IfOk result (λ room. vec_len room ≡ 0) }
-    ensures all { IfOk result (λ room. length addresses.now ≤ vec_capacity room) }
+    ensures capacity { IfOk result (λ room. length addresses.now ≤ vec_capacity room) }
 {
     Ok(Vec::with_capacity(alloc, addresses.len())?)
 }
@@ -35,17 +35,17 @@ pub(crate) fn open_links<G: Road, D: Dock>(
 ) -> Result<Vec<PathJob<G, D::L>>, LinkFault>
     requires different { AreDifferent addresses.now }
     requires none { vec_len room ≡ 0 }
-    requires all { length addresses.now ≤ vec_capacity room }
-    requires many { vec_len seats ≡ length addresses.now }
+    requires capacity { length addresses.now ≤ vec_capacity room }
+    requires same_count { vec_len seats ≡ length addresses.now }
     requires buffers { All (λ seat. vec_len seat.buffer ≡ 65536) seats.items }
-    ensures many { IfOk result (λ jobs. vec_len jobs ≡ length addresses.now) }
+    ensures same_count { IfOk result (λ jobs. vec_len jobs ≡ length addresses.now) }
     ensures paths { IfOk result (λ jobs. map (λ job. job.path) jobs.items ≡ map (λ seat. seat.path) seats.items) }
     ensures buffers { IfOk result (λ jobs. All (λ job. vec_len job.buffer ≡ 65536) jobs.items) }
-    ensures opened { IfOk result (λ _. Tells (D.known dock.old) (D.known dock.new)
+    ensures opened { IfOk result (λ _. KnownThrough (D.known dock.old) (D.known dock.new)
         (λ before after. after ≡ after_openings addresses.now before)) }
     ensures links { IfOk result (λ jobs. Docked (D.known dock.old) (D.known dock.new) (λ told.
         HaveLinks D.L.known told addresses.now (map (λ job. job.link) jobs.items))) }
-    ensures failed { IfErr result (λ _. Tells (D.known dock.old) (D.known dock.new) (BindsFew addresses.now)) }
+    ensures failed { IfErr result (λ _. KnownThrough (D.known dock.old) (D.known dock.new) (BindsFew addresses.now)) }
     ensures cause { HasCause (D.known dock.old) (D.known dock.new) (IsErr result) }
 {
     let mut jobs = room;
@@ -72,7 +72,7 @@ pub(crate) fn close_links<G: Road, D: Dock>(
 ) -> Result<Paths<G>, NoMemory>
     requires { vec_len jobs ≤ length addresses.now }
     ensures paths { IfOk result (λ paths. paths ≡ map (λ job. job.path) jobs.items) }
-    ensures closed { Tells (D.known dock.old) (D.known dock.new)
+    ensures closed { KnownThrough (D.known dock.old) (D.known dock.new)
         (IsClosed D.L.known addresses.now (map (λ job. job.link) jobs.items)) }
     ensures cause { (D.known dock.new).faults ≡ (D.known dock.old).faults }
 {

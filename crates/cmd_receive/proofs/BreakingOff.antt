@@ -1,6 +1,6 @@
 -- A link that gives a report doesn't break off.
 use Rattle.std.proofs.Common.{◌≡◌, ℕ, ◌⊎◌, inl, inr, subst}
-use Rattle.drm_links.specs.Dock.{DockContents, LinkStart, Finds, FindsNone}
+use Rattle.drm_links.specs.Dock.{DockContents, LinkStart, OpeningFinds, FindsNone}
 use Rattle.drm_links.specs.declared.dock.Address.{Address}
 use Rattle.drm_links.specs.Hearing.{AreNext}
 use Rattle.recv_reading.specs.declared.options.ReceiveOptions.{ReceiveOptions}
@@ -11,8 +11,8 @@ use Rattle.recv_reading.proofs.OneReading.{finished_whole}
 use Rattle.link_group.proofs.BindLemmas.{found_once, is_found}
 
 -- a link that gives a report neither fails to open nor breaks off
-pub report_whole : (rules : ReceiveOptions) (told : DockContents) (k number : ℕ) (at : Address) (start : LinkStart) (r : Report) → Finds told k at start → IsReportOf rules number start.ahead r
-    → FindsNone told k at ⊎ ((other : LinkStart) × Finds told k at other × BreaksOff rules other.ahead) → ⊥
+pub report_whole : (rules : ReceiveOptions) (told : DockContents) (k number : ℕ) (at : Address) (start : LinkStart) (r : Report) → OpeningFinds told k at start → IsReportOf rules number start.ahead r
+    → FindsNone told k at ⊎ ((other : LinkStart) × OpeningFinds told k at other × BreaksOff rules other.ahead) → ⊥
 report_whole rules told k number at start r finds report (inl none) = is_found told k at start finds none
 report_whole rules told k number at start r finds report (inr (other, found, breaks)) =
     let same : other ≡ start = found_once told k at other start found finds in

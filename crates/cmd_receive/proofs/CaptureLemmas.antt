@@ -12,7 +12,7 @@ use Rattle.capture_reader.specs.declared.packets.CaptureStop.TheVariants as stop
 use Rattle.capture_reader.specs.Front.{IsWhole}
 use Rattle.capture_reader.specs.Capture as capture
 use Rattle.capture_reader.specs.Laws.{ReadSomeWay}
-use Rattle.capture_reader.specs.Reading.{Breaks}
+use Rattle.capture_reader.specs.Reading.{ReadingBreaks}
 use Rattle.recv_reading.specs.declared.options.ReceiveOptions.{ReceiveOptions}
 use Rattle.recv_report.specs.declared.capture.Unfinished.{Unfinished}
 use Rattle.recv_report.specs.declared.capture.Unfinished.TheVariants as unfinished
@@ -21,14 +21,14 @@ use Rattle.recv_reading.specs.Ending.{most_answers}
 use Rattle.recv_reading.specs.Options.{AreInRange}
 use Rattle.recv_report.specs.Received.{Reported, Broken, Stopped}
 use Rattle.recv_report.specs.Captures.{EndsReceiving}
-use Rattle.recv_reading.specs.Source.{answers_of, Brings, HeardOf, HeardUntil}
+use Rattle.recv_reading.specs.Source.{answers_of, BytesBring, HeardOf, HeardUntil}
 use Rattle.recv_report.specs.Following.{HeadlinesFollow, CompletesFollow}
 use Rattle.recv_report.proofs.JobLemmas.{report_ahead}
 use Rattle.cmd_faults.specs.declared.fault.Fault.{Fault}
 use Rattle.cmd_faults.specs.declared.fault.Fault.TheVariants as faults
 use Rattle.cmd_faults.specs.Captures.{EndsEarly}
 use Rattle.cmd_faults.proofs.CauseLemmas.{inner_fault}
-use Rattle.cmd_receive.specs.Capture.{BreaksOffBy, Ends, WritesReport}
+use Rattle.cmd_receive.specs.Capture.{BreaksOffBy, CaptureReportEnds, WritesReport}
 use Rattle.cmd_receive.specs.Stopping.{ending_captured}
 use Rattle.law_capture.proofs.CaptureFronts.{packets_front}
 use Rattle.cmd_receive.proofs.CaptureStatus.{Says}
@@ -58,7 +58,7 @@ next_whole : (packets : List (List ℕ)) (ending : capture.Ending) → AreNext (
 next_whole [] ending = (refl, refl)
 next_whole (p ∷ packets) ending = (refl, next_whole packets ending)
 
-next_of : ReadSomeWay → (left : List ℕ) (answers : List Answer) → Begin left answers → (ahead : List Answer) × Brings left ahead × (later : List Answer) × AreNext ahead answers later
+next_of : ReadSomeWay → (left : List ℕ) (answers : List Answer) → Begin left answers → (ahead : List Answer) × BytesBring left ahead × (later : List Answer) × AreNext ahead answers later
 next_of some left answers (packets, inl (more, whole, is, few, are)) =
     let (all, ending, of) = some left in
     let (later, all_is) = packets_front left packets all more ending whole is few of in (
@@ -118,7 +118,7 @@ module _ {O : Type 0} (rules : ReceiveOptions) (valid : AreInRange rules) (headl
 
   broken : (stop : CaptureStop) → Broken rules 1 (HeardUntil stop before after) (known out) (known out')
       → Inputs before after (λ left rest. Says rules left (ending_captured (Err (unfinished.Stopped stop))) known out out')
-  broken stops.Read r = Inputs-weaker (Breaks r.heard.0) (λ left rest. Unit {0}) before after r.heard.2 (λ left rest is. tt)
+  broken stops.Read r = Inputs-weaker (ReadingBreaks r.heard.0) (λ left rest. Unit {0}) before after r.heard.2 (λ left rest is. tt)
   broken (stops.Capture fault) r =
       Inputs-weaker (λ left rest. capture.IsCaptureOf left r.heard.0 (capture.Fault fault)) (λ left rest. BreaksOffBy rules left (capture.Fault fault)) before after r.heard.2
       (λ left rest is. breaks (stops.Capture fault) (capture.Fault fault) left r is (sym r.heard.3))
@@ -136,7 +136,7 @@ module _ {O : Type 0} (rules : ReceiveOptions) (valid : AreInRange rules) (headl
 
 -- ---- by what it ended
 
-pub ended_as : (rules : ReceiveOptions) (before after : Known Input) (a b : Known Output) (received : Result Bool Unfinished) → EndsReceiving rules before after a b received → Ends rules (ending_captured received) before after a b
+pub ended_as : (rules : ReceiveOptions) (before after : Known Input) (a b : Known Output) (received : Result Bool Unfinished) → EndsReceiving rules before after a b received → CaptureReportEnds rules (ending_captured received) before after a b
 ended_as rules before after a b (Ok clean) ends = ends
 ended_as rules before after a b (Err (unfinished.Stopped stops.Read)) ends = ends
 ended_as rules before after a b (Err (unfinished.Stopped (stops.Capture why))) ends = ends

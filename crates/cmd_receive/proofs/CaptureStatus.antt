@@ -11,7 +11,7 @@ use Rattle.recv_reading.specs.declared.options.ReceiveOptions.{ReceiveOptions}
 use Rattle.drm_links.specs.Hearing.{AreNext}
 use Rattle.report_text.specs.Reports.{Report}
 use Rattle.recv_report.specs.Ahead.{IsInTimeAhead, IsReportOf}
-use Rattle.recv_reading.specs.Source.{answers_of, Brings}
+use Rattle.recv_reading.specs.Source.{answers_of, BytesBring}
 use Rattle.recv_report.specs.Following.{NoneBreaksOff}
 use Rattle.recv_reading.proofs.OneReading.{finished_whole}
 use Rattle.cmd_faults.specs.Fault.{UnlessMemory}
@@ -19,24 +19,24 @@ use Rattle.cmd_faults.specs.declared.fault.Fault.{Fault}
 use Rattle.cmd_faults.specs.declared.fault.Fault.TheVariants as faults
 use Rattle.cmd_faults.specs.Captures.{EndsEarly, EndsByIt}
 use Rattle.cmd_faults.proofs.CaptureLemmas.{each_early, none_by, fault_by, length_by, done_or}
-use Rattle.cmd_receive.specs.Capture.{BreaksOffBy, Ends, WritesReport, WroteReport, CaptureRun}
+use Rattle.cmd_receive.specs.Capture.{BreaksOffBy, CaptureReportEnds, WritesReport, WroteReport, CaptureRun}
 use Rattle.cmd_receive.proofs.ReceiveStatus.{clean_in_time}
 
 -- ---- bytes bring one thing
 
-same_ahead : (left : List ℕ) (ahead : List Answer) (brings : Brings left ahead) (packets : List (List ℕ)) (ending : capture.Ending) → capture.IsCaptureOf left packets ending → ahead ≡ answers_of packets ending
+same_ahead : (left : List ℕ) (ahead : List Answer) (brings : BytesBring left ahead) (packets : List (List ℕ)) (ending : capture.Ending) → capture.IsCaptureOf left packets ending → ahead ≡ answers_of packets ending
 same_ahead left ahead brings packets ending of =
     let same = read_one_way left brings.packets packets brings.ending ending brings.is of in
     brings.ahead_is ∙ ap₂ answers_of same.0 same.1
 
-one_ahead : (left : List ℕ) (ahead others : List Answer) → Brings left ahead → Brings left others → ahead ≡ others
+one_ahead : (left : List ℕ) (ahead others : List Answer) → BytesBring left ahead → BytesBring left others → ahead ≡ others
 one_ahead left ahead others brings other = same_ahead left ahead brings other.packets other.ending other.is ∙ sym other.ahead_is
 
 one_ending : (left : List ℕ) (packets : List (List ℕ)) (ending : capture.Ending) (rules : ReceiveOptions) (why : capture.Ending) → capture.IsCaptureOf left packets ending → BreaksOffBy rules left why → ending ≡ why
 one_ending left packets ending rules why of breaks = (read_one_way left packets breaks.packets ending why of breaks.is).1
 
 -- what has a report doesn't break off
-whole_report : (rules : ReceiveOptions) (left : List ℕ) (ahead : List Answer) (r : Report) (why : capture.Ending) → Brings left ahead → IsReportOf rules 1 ahead r → BreaksOffBy rules left why → ⊥
+whole_report : (rules : ReceiveOptions) (left : List ℕ) (ahead : List Answer) (r : Report) (why : capture.Ending) → BytesBring left ahead → IsReportOf rules 1 ahead r → BreaksOffBy rules left why → ⊥
 whole_report rules left ahead r why brings report by =
     let same : ahead ≡ answers_of by.packets why = same_ahead left ahead brings by.packets why by.is in
     let b = by.breaks in
@@ -91,13 +91,13 @@ module _ {O : Type 0} (rules : ReceiveOptions) (left : List ℕ) (known : O → 
   is_clean : (clean : Bool) → IsTrue clean → clean ≡ true
   is_clean clean is = is
 
-  clean_by : (ending : Result Bool Fault) (ahead : List Answer) → Brings left ahead → IsInTimeAhead rules ahead → UnlessMemory ending (WroteReport rules left ending known out out') → UnlessMemory ending (ending ≡ Ok true)
+  clean_by : (ending : Result Bool Fault) (ahead : List Answer) → BytesBring left ahead → IsInTimeAhead rules ahead → UnlessMemory ending (WroteReport rules left ending known out out') → UnlessMemory ending (ending ≡ Ok true)
   clean_by ending ahead brings time (inl memory) = inl memory
   clean_by ending ahead brings time (inr (clean, is, (others, other, r, report, text, same))) =
       let there : IsInTimeAhead rules others = subst (IsInTimeAhead rules) (one_ahead left ahead others brings other) time in
       inr (is ∙ ap Ok (same ∙ is_clean r.clean (clean_in_time rules 1 others r report there)))
 
-  never_breaks : NoneBreaksOff → (ahead : List Answer) → Brings left ahead → IsInTimeAhead rules ahead → (why : capture.Ending) → BreaksOffBy rules left why → ⊥
+  never_breaks : NoneBreaksOff → (ahead : List Answer) → BytesBring left ahead → IsInTimeAhead rules ahead → (why : capture.Ending) → BreaksOffBy rules left why → ⊥
   never_breaks law ahead brings time why by =
       law rules (answers_of by.packets why) (subst (IsInTimeAhead rules) (same_ahead left ahead brings by.packets why by.is) time) by.breaks
 
@@ -105,7 +105,7 @@ module _ {O : Type 0} (rules : ReceiveOptions) (left : List ℕ) (known : O → 
 
 pub capture_run : NoneBreaksOff → {I O : Type 0} (rules : ReceiveOptions) (ending : Result Bool Fault) (input_known : I → Known Input) (input input' : I) (out_known : O → Known Output) (out out' : O)
     → ((fault : Fault) → ending ≡ Err fault → EndsEarly fault)
-    → Ends rules ending (input_known input) (input_known input') (out_known out) (out_known out')
+    → CaptureReportEnds rules ending (input_known input) (input_known input') (out_known out) (out_known out')
     → Inputs (input_known input) (input_known input') (λ left _. Says rules left ending out_known out out')
     → (ending ≡ Err faults.NoMemory → (input' ≡ input) × (out' ≡ out))
     → HasCause (input_known input) (input_known input') (ending ≡ Err faults.Read)
@@ -123,7 +123,7 @@ capture_run law {I} {O} rules ending input_known input input' out_known out out'
       Inputs-weaker Writes (λ left rest. ((why : capture.Ending) → BreaksOffBy rules left why → ⊥) → UnlessMemory ending (WroteReport rules left ending out_known out out')) (input_known input) (input_known input') writes
       (λ left rest wrote none. whole_by rules left out_known out out' ending kind wrote (λ is. reads (read_cause.once is)) (λ is. goes (write_cause.once is)) none);
   in_time = λ reads goes.
-      Inputs-weaker Writes (λ left rest. (ahead : List Answer) → Brings left ahead → IsInTimeAhead rules ahead → UnlessMemory ending (ending ≡ Ok true)) (input_known input) (input_known input') writes
+      Inputs-weaker Writes (λ left rest. (ahead : List Answer) → BytesBring left ahead → IsInTimeAhead rules ahead → UnlessMemory ending (ending ≡ Ok true)) (input_known input) (input_known input') writes
       (λ left rest wrote ahead brings time. clean_by rules left out_known out out' ending ahead brings time
       (whole_by rules left out_known out out' ending kind wrote (λ is. reads (read_cause.once is)) (λ is. goes (write_cause.once is)) (never_breaks rules left out_known out out' law ahead brings time)));
   read_cause = read_cause;

@@ -1,11 +1,11 @@
 -- From the receiver of one link that ended to the whole command.
 use Rattle.std.proofs.Common.{◌≡◌, ℕ, zero, suc, ◌<◌, ◌≤◌, ◌⊎◌, ◌↔◌, ◌∙◌, inl, inr, Bool, List, [], ◌∷◌, length, slice_index_or, Some, Result, Err, refl, sym, ap, subst, arith, le_trans}
-use Rattle.drm_links.specs.Told.{Known, HasCause, WhileTold, CountsCall, Tells}
+use Rattle.drm_links.specs.Told.{Known, HasCause, IfBothKnown, CountsCall, KnownThrough}
 use Rattle.drm_links.proofs.ToldLemmas.{counts_as, Tells-weaker, Tells-both}
 use Rattle.cmd_faults.specs.Fault.{UnlessMemory}
 use Rattle.drm_links.specs.Link.{Answer, Traffic}
 use Rattle.drm_links.specs.Sink.{Output}
-use Rattle.drm_links.specs.Dock.{DockContents, LinkStart, Over, Closes, first_traffic, after_close, HasLink, Docked, Finds, FindsNone, after_openings}
+use Rattle.drm_links.specs.Dock.{DockContents, LinkStart, Over, DockCloses, first_traffic, after_close, HasLink, Docked, OpeningFinds, FindsNone, after_openings}
 use Rattle.drm_links.specs.declared.dock.Address.{Address}
 use Rattle.recv_reading.specs.declared.options.ReceiveOptions.{ReceiveOptions}
 use Rattle.recv_report.specs.declared.receiver.Ended.{Ended}
@@ -27,7 +27,7 @@ use Rattle.cmd_faults.specs.declared.fault.Fault.TheVariants as faults
 use Rattle.cmd_faults.proofs.CauseLemmas.{inner_fault}
 use Rattle.cmd_receive.specs.Stopping.{ending_live}
 use Rattle.cmd_receive.specs.Opening.{HaveLinks}
-use Rattle.link_group.specs.Binding.{Hears, HearsEach}
+use Rattle.link_group.specs.Binding.{LinkHears, HearsEach}
 use Rattle.cmd_receive.specs.Receive.{FailsSome, OpensEach, ReadsLive, WritesLive, ReceiveRun}
 use Rattle.link_group.proofs.OpeningLemmas.{docked_weaker, docked_still, docks_more}
 use Rattle.link_group.proofs.BindLemmas.{WentOver, went_over}
@@ -87,10 +87,10 @@ live_reads rules a b known out out' NoMemory r = record { answers = []; heard = 
 
 -- what fails of one link is the first
 abbrev FailsFirst : ReceiveOptions → DockContents → Address → Type 0
-FailsFirst rules told at = FindsNone told 0 at ⊎ ((start : LinkStart) × Finds told 0 at start × BreaksOff rules start.ahead)
+FailsFirst rules told at = FindsNone told 0 at ⊎ ((start : LinkStart) × OpeningFinds told 0 at start × BreaksOff rules start.ahead)
 
 first_by : (rules : ReceiveOptions) (told : DockContents) (at : Address) (k : ℕ) → k < 1
-    → FindsNone told k (slice_index_or (at ∷ []) k at) ⊎ ((start : LinkStart) × Finds told k (slice_index_or (at ∷ []) k at) start × BreaksOff rules start.ahead) → FailsFirst rules told at
+    → FindsNone told k (slice_index_or (at ∷ []) k at) ⊎ ((start : LinkStart) × OpeningFinds told k (slice_index_or (at ∷ []) k at) start × BreaksOff rules start.ahead) → FailsFirst rules told at
 first_by rules told at zero within fails = fails
 first_by rules told at (suc k) within fails = absurd (omega (arith, within))
 
@@ -134,7 +134,7 @@ module _ {D L O : Type 0} (rules : ReceiveOptions) (valid : AreInRange rules) (h
   live_exactly NoMemory ends no_write told has = inl refl
 
   pub live_run : NoneBreaksOff → (ended : Ended) → Ends ended → (ended ≡ NoMemory → out' ≡ out)
-      → Tells (dock_known dock) (dock_known dock') (OpensEach rules (at ∷ []) (ending_live ended) out_known out out') → (dock_known dock').faults ≡ (dock_known dock).faults
+      → KnownThrough (dock_known dock) (dock_known dock') (OpensEach rules (at ∷ []) (ending_live ended) out_known out out') → (dock_known dock').faults ≡ (dock_known dock).faults
       → HasCause (out_known out) (out_known out') (ended ≡ WriteFailed)
       → ReceiveRun rules (at ∷ []) (ending_live ended) dock_known dock dock' out_known out out'
   live_run law ended ends memory opens same write_cause =
@@ -162,16 +162,16 @@ one_of (at ∷ (other ∷ addresses)) is = absurd (omega (arith, is))
 
 -- The only link was opened at this address, what is said was read of it, and it was closed.
 pub one_hears : {L : Type 0} (known : L → Known Traffic) (P : List Answer → Type 0) (at : Address) (link link' : L) (a b c : Known DockContents)
-    → Tells a b (λ x y. (y ≡ after_openings (at ∷ []) x) × HasLink known x 0 at link)
+    → KnownThrough a b (λ x y. (y ≡ after_openings (at ∷ []) x) × HasLink known x 0 at link)
     → ((start : LinkStart) → (known link).told ≡ Some (first_traffic start) → WentOver known P link' start)
-    → WhileTold b c (Closes (known link').told at) → CountsCall (λ (d : DockContents). d.calls) b c
-    → Tells a c (HearsEach P (at ∷ []))
+    → IfBothKnown b c (DockCloses (known link').told at) → CountsCall (λ (d : DockContents). d.calls) b c
+    → KnownThrough a c (HearsEach P (at ∷ []))
 one_hears {L} known P at link link' a b c opened went closed counts =
-    docks_more (λ x y. (y ≡ after_openings (at ∷ []) x) × HasLink known x 0 at link) (Closes (known link').told at) (HearsEach P (at ∷ [])) a b c opened closed counts
+    docks_more (λ x y. (y ≡ after_openings (at ∷ []) x) × HasLink known x 0 at link) (DockCloses (known link').told at) (HearsEach P (at ∷ [])) a b c opened closed counts
     (λ x y z p q.
     let start : LinkStart = p.1.0 in
     let over = went start p.1.2 in
-    let closes : Closes (Some over.1.0) at y z = subst (λ t. Closes t at y z) over.1.1 q in
+    let closes : DockCloses (Some over.1.0) at y z = subst (λ t. DockCloses t at y z) over.1.1 q in
     record {
       overs = over.0 ∷ [];
       as_many = refl;
@@ -179,8 +179,8 @@ one_hears {L} known P at link link' a b c opened went closed counts =
       told = closes ∙ (ap (λ o. after_close at o y) over.1.2 ∙ ap (after_close at over.0) p.0);
     })
   where
-    each : (told : DockContents) (start : LinkStart) → Finds told 0 at start → (over : Over) → Hears P start over
-        → (k : ℕ) (d : Address) (none : Over) → k < 1 → (s : LinkStart) × Finds told k (slice_index_or (at ∷ []) k d) s × Hears P s (slice_index_or (over ∷ []) k none)
+    each : (told : DockContents) (start : LinkStart) → OpeningFinds told 0 at start → (over : Over) → LinkHears P start over
+        → (k : ℕ) (d : Address) (none : Over) → k < 1 → (s : LinkStart) × OpeningFinds told k (slice_index_or (at ∷ []) k d) s × LinkHears P s (slice_index_or (over ∷ []) k none)
     each told start finds over hears zero d none within = (start, finds, hears)
     each told start finds over hears (suc k) d none within = absurd (omega (arith, within))
 
@@ -198,10 +198,10 @@ pub only_run : NoneBreaksOff → {D L O : Type 0} (rules : ReceiveOptions) (vali
     (out_known : O → Known Output) (out out' : O)
     → length addresses ≡ 1 → slice_index_or jobs 0 job ≡ job → AreJobs rules (length addresses) jobs
     → Docked (dock_known dock) (dock_known mid) (λ told. HaveLinks link_known told addresses jobs)
-    → Tells (dock_known dock) (dock_known mid) (λ x y. y ≡ after_openings addresses x) → (dock_known dock').faults ≡ (dock_known dock).faults
+    → KnownThrough (dock_known dock) (dock_known mid) (λ x y. y ≡ after_openings addresses x) → (dock_known dock').faults ≡ (dock_known dock).faults
     → EndsAs (job_rules job) job.options.feed (link_known job.link) (link_known job'.link) (out_known out) (out_known out') ended → (ended ≡ NoMemory → out' ≡ out)
     → HasCause (out_known out) (out_known out') (ended ≡ WriteFailed)
-    → ((d : Address) → WhileTold (dock_known mid) (dock_known dock') (Closes (link_known job'.link).told (slice_index_or addresses 0 d))) → CountsCall (λ (d : DockContents). d.calls) (dock_known mid) (dock_known dock')
+    → ((d : Address) → IfBothKnown (dock_known mid) (dock_known dock') (DockCloses (link_known job'.link).told (slice_index_or addresses 0 d))) → CountsCall (λ (d : DockContents). d.calls) (dock_known mid) (dock_known dock')
     → ReceiveRun rules addresses (ending_live ended) dock_known dock dock' out_known out out'
 only_run law {D} {L} {O} rules valid headlines completes addresses jobs job job' ended dock_known dock mid dock' link_known out_known out out' one first are links opened same ends memory write_cause closed counts =
     let (at, only) = one_of addresses one in
@@ -219,9 +219,9 @@ only_run law {D} {L} {O} rules valid headlines completes addresses jobs job job'
     subst (λ r. EndsAs r job.options.feed (link_known job.link) (link_known job'.link) (out_known out) (out_known out') ended) rules_is ends in
     let named : EndsAs rules 1 (link_known job.link) (link_known job'.link) (out_known out) (out_known out') ended =
     subst (λ n. EndsAs rules n (link_known job.link) (link_known job'.link) (out_known out) (out_known out') ended) (ap (λ (o : Options). o.feed) is.options) raw in
-    let now : WhileTold b e (Closes (link_known job'.link).told at) = subst (λ xs. WhileTold b e (Closes (link_known job'.link).told (slice_index_or xs 0 at))) only (closed at) in
-    let all : Tells a b (λ x y. y ≡ after_openings (at ∷ []) x) = subst (λ xs. Tells a b (λ x y. y ≡ after_openings xs x)) only opened in
-    let hears : Tells a e (HearsEach (ReadsLive rules (ending_live ended) out_known out out') (at ∷ [])) =
+    let now : IfBothKnown b e (DockCloses (link_known job'.link).told at) = subst (λ xs. IfBothKnown b e (DockCloses (link_known job'.link).told (slice_index_or xs 0 at))) only (closed at) in
+    let all : KnownThrough a b (λ x y. y ≡ after_openings (at ∷ []) x) = subst (λ xs. KnownThrough a b (λ x y. y ≡ after_openings xs x)) only opened in
+    let hears : KnownThrough a e (HearsEach (ReadsLive rules (ending_live ended) out_known out out') (at ∷ [])) =
     one_hears link_known (ReadsLive rules (ending_live ended) out_known out out') at job.link job'.link a b e (Tells-both (λ x y. y ≡ after_openings (at ∷ []) x) (λ x _. HasLink link_known x 0 at job.link) a b all found)
     (λ start told. live_went link_known rules valid job.link job'.link start out_known out out' told ended named) now counts in
     subst (λ xs. ReceiveRun rules xs (ending_live ended) dock_known dock dock' out_known out out') (sym only)

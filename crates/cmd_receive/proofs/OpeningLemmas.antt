@@ -1,6 +1,6 @@
 -- Openings for receivers: nothing is sent, and the fault by which they end.
 use Rattle.std.proofs.Common.{◌≡◌, ℕ, inl, inr, Bool, List, take, Result, Err, sym, ◌∙◌, ap, arith}
-use Rattle.drm_links.specs.Told.{Counts, Known, WhileTold, Tells}
+use Rattle.drm_links.specs.Told.{RisesWhere, Known, IfBothKnown, KnownThrough}
 use Rattle.drm_links.specs.Sink.{Output}
 use Rattle.drm_links.specs.Dock.{DockContents, after_failure, after_openings}
 use Rattle.drm_links.specs.declared.dock.Address.{Address}
@@ -32,12 +32,12 @@ opens_gone rules addresses ending known out out' x y (inr (inr (memory, stops)))
 
 -- nothing is sent
 pub opens_unsent : {O : Type 0} (rules : ReceiveOptions) (addresses : List Address) (ending : Result Bool Fault) (known : O → Known Output) (out out' : O) (a b : Known DockContents)
-    → Tells a b (OpensEach rules addresses ending known out out') → WhileTold a b NothingSent
+    → KnownThrough a b (OpensEach rules addresses ending known out out') → IfBothKnown a b NothingSent
 opens_unsent rules addresses ending known out out' a b opens =
     docks_while (OpensEach rules addresses ending known out out') NothingSent a b opens (opens_gone rules addresses ending known out out')
 
 -- a call that returned early with the fault of another
-pub same_fault_counts : {T U : Type 0} {a b c : ℕ} (x fault : Fault) → b ≡ a → Counts b c ((let e : Result T Fault = Err x in e) ≡ Err fault) → Counts a c ((let e : Result U Fault = Err x in e) ≡ Err fault)
+pub same_fault_counts : {T U : Type 0} {a b c : ℕ} (x fault : Fault) → b ≡ a → RisesWhere b c ((let e : Result T Fault = Err x in e) ≡ Err fault) → RisesWhere a c ((let e : Result U Fault = Err x in e) ≡ Err fault)
 same_fault_counts x fault before counts = counts_then before (counts_as (λ is. ap Err (inner_fault x fault is)) (λ is. ap Err (inner_fault x fault is)) counts)
 
 -- the fault with which a call returned early

@@ -4,7 +4,7 @@ use Rattle.std.specs.Prelude.{not}
 use Rattle.std.specs.List.{All}
 use Rattle.std.proofs.lemmas.List.{take_at, get_or-map, length-map}
 use Rattle.std.proofs.lemmas.List.Folds.{flat_map-map}
-use Rattle.drm_links.specs.Told.{Known, HasCause, Tells}
+use Rattle.drm_links.specs.Told.{Known, HasCause, KnownThrough}
 use Rattle.drm_links.specs.Link.{Answer, Traffic}
 use Rattle.drm_links.specs.Sink.{Output, Outputs, IsFront}
 use Rattle.drm_links.specs.Dock.{DockContents, Over, Docked, FindsNone, after_openings}
@@ -23,7 +23,7 @@ use Rattle.recv_report.specs.declared.receiver.Ended.TheVariants.{Done, LinkFail
 use Rattle.recv_report.specs.Jobs.{HasEnded, IsDone, AreJobs, NoneFailed, clean_of, is_failed}
 use Rattle.cmd_receive.specs.Opening.{HaveLinks, EndsOpening, StopsOpening, members_of}
 use Rattle.link_group.specs.Reaching.{HaveGone, after_closes}
-use Rattle.recv_report.specs.Settling.{job_texts, Settles}
+use Rattle.recv_report.specs.Settling.{job_texts, ReceiversSettle}
 use Rattle.recv_report.specs.declared.stop.Stop.{Stop}
 use Rattle.recv_report.specs.declared.stop.Stop.TheVariants as stops
 use Rattle.cmd_receive.specs.Stopping.{ending_of}
@@ -48,7 +48,7 @@ texts_told jobs = sym (flat_map-map (λ (r : Report). r.text) told_of jobs)
 
 -- where all are done their reports are written
 pub reports_written : {L O : Type 0} (jobs : List (Job L)) (stopped : Result Bool Stop) (are : List Report → Type 0) (known : O → Known Output) (out out' : O)
-    → (All IsDone jobs → are (map told_of jobs)) → Settles jobs stopped known out out' → WritesReports are (ending_of stopped) known out out'
+    → (All IsDone jobs → are (map told_of jobs)) → ReceiversSettle jobs stopped known out out' → WritesReports are (ending_of stopped) known out out'
 reports_written jobs (Ok clean) are known out out' reports settled = (
   map told_of jobs,
   reports settled.0,
@@ -73,7 +73,7 @@ pub no_fault : (clean : Bool) (fault : Fault) → of_clean clean ≡ of_fault fa
 no_fault clean fault is = cc
 
 -- how it ends
-pub ending_kind : {L O : Type 0} (jobs : List (Job L)) (stopped : Result Bool Stop) (known : O → Known Output) (out out' : O) → Settles jobs stopped known out out' → (fault : Fault) → ending_of stopped ≡ Err fault
+pub ending_kind : {L O : Type 0} (jobs : List (Job L)) (stopped : Result Bool Stop) (known : O → Known Output) (out out' : O) → ReceiversSettle jobs stopped known out out' → (fault : Fault) → ending_of stopped ≡ Err fault
     → (fault ≡ faults.NoMemory) ⊎ ((fault ≡ faults.Link) × (NoneFailed jobs → ⊥)) ⊎ (fault ≡ faults.Write)
 ending_kind jobs (Ok clean) known out out' settled fault is = absurd (no_fault clean fault is)
 ending_kind jobs (Err stops.Write) known out out' settled fault is = inr (inr (sym (inner_fault faults.Write fault is)))
@@ -87,7 +87,7 @@ write_is (Err stops.Write) is = refl
 write_is (Err stops.Link) is = let one : faults.Link ≡ faults.Write = inner_fault faults.Link faults.Write is in absurd cc
 write_is (Err stops.NoMemory) is = let one : faults.NoMemory ≡ faults.Write = inner_fault faults.NoMemory faults.Write is in absurd cc
 
-settled_unwritten : {L O : Type 0} (jobs : List (Job L)) (stopped : Result Bool Stop) (known : O → Known Output) (out out' : O) → Settles jobs stopped known out out'
+settled_unwritten : {L O : Type 0} (jobs : List (Job L)) (stopped : Result Bool Stop) (known : O → Known Output) (out out' : O) → ReceiversSettle jobs stopped known out out'
     → (ending_of stopped ≡ Err faults.NoMemory) ⊎ (ending_of stopped ≡ Err faults.Link) → out' ≡ out
 settled_unwritten jobs (Ok clean) known out out' settled (inl is) = absurd (no_fault clean faults.NoMemory is)
 settled_unwritten jobs (Ok clean) known out out' settled (inr is) = absurd (no_fault clean faults.Link is)
@@ -139,7 +139,7 @@ sound_of rules WriteFailed up answers read = read
 sound_of rules NoMemory up answers read = read
 
 -- all are done, where the texts are written
-all_done : {L O : Type 0} (jobs : List (Job L)) (stopped : Result Bool Stop) (known : O → Known Output) (out out' : O) → Settles jobs stopped known out out'
+all_done : {L O : Type 0} (jobs : List (Job L)) (stopped : Result Bool Stop) (known : O → Known Output) (out out' : O) → ReceiversSettle jobs stopped known out out'
     → (ending_of stopped ≡ Err faults.Link → ⊥) → (ending_of stopped ≡ Err faults.NoMemory → ⊥) → All IsDone jobs
 all_done jobs (Ok clean) known out out' settled link memory = settled.0
 all_done jobs (Err stops.Write) known out out' settled link memory = settled.0
@@ -211,7 +211,7 @@ module _ {L : Type 0} (link_known : L → Known Traffic) (rules : ReceiveOptions
   ]
 
   -- it fails by a link exactly where one fails
-  settled_exactly : {O : Type 0} (stopped : Result Bool Stop) (known : O → Known Output) (out out' : O) → Settles after stopped known out out' → (told : DockContents) → HaveLinks link_known told addresses before
+  settled_exactly : {O : Type 0} (stopped : Result Bool Stop) (known : O → Known Output) (out out' : O) → ReceiversSettle after stopped known out out' → (told : DockContents) → HaveLinks link_known told addresses before
       → UnlessMemory (ending_of stopped) ((ending_of stopped ≡ Err faults.Link) ↔ FailsSome rules told addresses)
   settled_exactly (Ok clean) known out out' settled told has = inr (
     λ is. absurd (no_fault clean faults.Link is),
@@ -225,7 +225,7 @@ module _ {L : Type 0} (link_known : L → Known Traffic) (rules : ReceiveOptions
   settled_exactly (Err stops.NoMemory) known out out' settled told has = inl refl
 
   -- what each link has read, by how all of them ended
-  read_by : {O : Type 0} (stopped : Result Bool Stop) (known : O → Known Output) (out out' : O) → Settles after stopped known out out' → (k : ℕ) (d : Job L) → k < length after
+  read_by : {O : Type 0} (stopped : Result Bool Stop) (known : O → Known Output) (out out' : O) → ReceiversSettle after stopped known out out' → (k : ℕ) (d : Job L) → k < length after
       → (ended : Ended) → (slice_index_or after k d).ended ≡ Some ended → (answers : List Answer) → ReadAs rules ended answers → ReadsOne rules (ending_of stopped) answers
   read_by (Ok clean) known out out' settled k d within ended is answers read = whole_of rules ended (clean_of (slice_index_or after k d)) (inner_some ended (Done (clean_of (slice_index_or after k d))) (sym is ∙ (settled.0 k d within).0)) answers read
   read_by (Err stops.Write) known out out' settled k d within ended is answers read = whole_of rules ended (clean_of (slice_index_or after k d)) (inner_some ended (Done (clean_of (slice_index_or after k d))) (sym is ∙ (settled.0 k d within).0)) answers read
@@ -233,10 +233,10 @@ module _ {L : Type 0} (link_known : L → Known Traffic) (rules : ReceiveOptions
   read_by (Err stops.NoMemory) known out out' settled k d within ended is answers read = sound_of rules ended (subst (λ o. IsTrue (not (is_failed o))) is (settled.0 k d within)) answers read
 
   -- Each link was opened, what is said was read of it, and it was closed.
-  pub settled_hears : {O : Type 0} (stopped : Result Bool Stop) (known : O → Known Output) (out out' : O) (a b c : Known DockContents) → Settles after stopped known out out' → (IsLive addresses → ⊥)
-      → Tells a b (λ x y. y ≡ after_openings addresses x) → Docked a b (λ told. HaveLinks link_known told addresses before)
-      → Tells b c (λ x y. (overs : List Over) → HaveGone link_known (members_of after) overs → y ≡ after_closes overs addresses x)
-      → Tells a c (OpensEach rules addresses (ending_of stopped) known out out')
+  pub settled_hears : {O : Type 0} (stopped : Result Bool Stop) (known : O → Known Output) (out out' : O) (a b c : Known DockContents) → ReceiversSettle after stopped known out out' → (IsLive addresses → ⊥)
+      → KnownThrough a b (λ x y. y ≡ after_openings addresses x) → Docked a b (λ told. HaveLinks link_known told addresses before)
+      → KnownThrough b c (λ x y. (overs : List Over) → HaveGone link_known (members_of after) overs → y ≡ after_closes overs addresses x)
+      → KnownThrough a c (OpensEach rules addresses (ending_of stopped) known out out')
   settled_hears stopped known out out' a b c settled several opened links closed =
       let P : List Answer → Type 0 = ReadsBy rules addresses (ending_of stopped) known out out' in
       Tells-weaker (HearsEach P addresses) (OpensEach rules addresses (ending_of stopped) known out out') a c
@@ -254,8 +254,8 @@ module _ {L : Type 0} (link_known : L → Known Traffic) (rules : ReceiveOptions
   pub settled_run : NoneBreaksOff → {D O : Type 0} (stopped : Result Bool Stop) (dock_known : D → Known DockContents) (dock dock' : D)
       (out_known : O → Known Output) (out out' : O)
       → Docked (dock_known dock) (dock_known dock') (λ told. HaveLinks link_known told addresses before)
-      → Tells (dock_known dock) (dock_known dock') (OpensEach rules addresses (ending_of stopped) out_known out out') → (dock_known dock').faults ≡ (dock_known dock).faults
-      → (IsLive addresses → ⊥) → Settles after stopped out_known out out' → HasCause (out_known out) (out_known out') (stopped ≡ Err stops.Write)
+      → KnownThrough (dock_known dock) (dock_known dock') (OpensEach rules addresses (ending_of stopped) out_known out out') → (dock_known dock').faults ≡ (dock_known dock).faults
+      → (IsLive addresses → ⊥) → ReceiversSettle after stopped out_known out out' → HasCause (out_known out) (out_known out') (stopped ≡ Err stops.Write)
       → ReceiveRun rules addresses (ending_of stopped) dock_known dock dock' out_known out out'
   settled_run law stopped dock_known dock dock' out_known out out' links opens same several settled cause =
       receive_run law rules addresses (ending_of stopped) dock_known dock dock' out_known out out'
@@ -334,7 +334,7 @@ some_unwritten rules addresses fault known out (inr link) = subst (λ f. WritesS
 
 pub opening_failed : NoneBreaksOff → {D O : Type 0} (rules : ReceiveOptions) (addresses : List Address) (fault : Fault) (dock_known : D → Known DockContents) (dock dock' : D)
     (out_known : O → Known Output) (out : O)
-    → EndsOpening fault → Tells (dock_known dock) (dock_known dock') (StopsOpening addresses fault) → HasCause (dock_known dock) (dock_known dock') (of_fault fault ≡ Err faults.Link)
+    → EndsOpening fault → KnownThrough (dock_known dock) (dock_known dock') (StopsOpening addresses fault) → HasCause (dock_known dock) (dock_known dock') (of_fault fault ≡ Err faults.Link)
     → ReceiveRun rules addresses (Err fault) dock_known dock dock' out_known out out
 opening_failed law rules addresses fault dock_known dock dock' out_known out ends stopped cause =
     let a = dock_known dock in

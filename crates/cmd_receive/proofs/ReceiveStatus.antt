@@ -1,12 +1,12 @@
 -- What is said of how a run of `receive` ends.
 use Rattle.std.proofs.Common.{◌≡◌, ℕ, zero, suc, ◌<◌, ◌+◌, ◌⊎◌, ◌↔◌, inl, inr, Bool, true, false, IsTrue, List, [], ◌∷◌, length, slice_index_or, Some, Result, Ok, Err, refl, sym, ◌∙◌, ap, subst, arith}
 use Rattle.std.specs.Prelude.{IsNone}
-use Rattle.drm_links.specs.Told.{HasFailed, HasCause, Known, Tells}
+use Rattle.drm_links.specs.Told.{HasFailed, HasCause, Known, KnownThrough}
 use Rattle.drm_links.specs.Link.{Answer}
 use Rattle.drm_links.specs.Sink.{Output, Outputs}
 use Rattle.drm_links.proofs.ToldLemmas.{Outputs-weaker}
 use Rattle.std.proofs.lemmas.List.{append-nil}
-use Rattle.drm_links.specs.Dock.{DockContents, LinkStart, Docked, Finds}
+use Rattle.drm_links.specs.Dock.{DockContents, LinkStart, Docked, OpeningFinds}
 use Rattle.drm_links.specs.declared.dock.Address.{Address}
 use Rattle.recv_reading.specs.declared.options.ReceiveOptions.{ReceiveOptions}
 use Rattle.cmd_faults.specs.declared.fault.Fault.{Fault}
@@ -24,9 +24,9 @@ pub is_true : IsTrue true
 is_true = refl
 
 -- the report of one link is all there are
-one_report : (rules : ReceiveOptions) (told : DockContents) (at : Address) (start : LinkStart) (r : Report) → Finds told 0 at start → IsReportOf rules 1 start.ahead r
+one_report : (rules : ReceiveOptions) (told : DockContents) (at : Address) (start : LinkStart) (r : Report) → OpeningFinds told 0 at start → IsReportOf rules 1 start.ahead r
     → (k : ℕ) (d : Address) (none : Report) → k < 1
-    → (s : LinkStart) × Finds told k (slice_index_or (at ∷ []) k d) s × IsReportOf rules (k + 1) s.ahead (slice_index_or (r ∷ []) k none)
+    → (s : LinkStart) × OpeningFinds told k (slice_index_or (at ∷ []) k d) s × IsReportOf rules (k + 1) s.ahead (slice_index_or (r ∷ []) k none)
 one_report rules told at start r finds report zero d none within = (start, finds, report)
 one_report rules told at start r finds report (suc k) d none within = absurd (omega (arith, within))
 
@@ -114,7 +114,7 @@ none_fails law rules told addresses time some =
 
 pub receive_run : NoneBreaksOff → {D O : Type 0} (rules : ReceiveOptions) (addresses : List Address) (ending : Result Bool Fault) (dock_known : D → Known DockContents) (dock dock' : D) (out_known : O → Known Output) (out out' : O)
     → ((fault : Fault) → ending ≡ Err fault → (fault ≡ faults.NoMemory) ⊎ (fault ≡ faults.Link) ⊎ (fault ≡ faults.Write))
-    → Tells (dock_known dock) (dock_known dock') (OpensEach rules addresses ending out_known out out')
+    → KnownThrough (dock_known dock) (dock_known dock') (OpensEach rules addresses ending out_known out out')
     → Docked (dock_known dock) (dock_known dock') (λ told. WritesAll rules told addresses ending out_known out out')
     → WritesSome rules addresses ending out_known out out'
     → ((ending ≡ Err faults.NoMemory) ⊎ ((ending ≡ Err faults.Link) × (IsLive addresses → ⊥)) → out' ≡ out)

@@ -11,7 +11,7 @@ use Rattle.recv_report.specs.Received.{Reported, Broken, Stopped}
 use Rattle.report_text.specs.Reports.{Report}
 use Rattle.recv_reading.specs.OneReading.{BreaksOff}
 use Rattle.recv_report.specs.Ahead.{IsInTimeAhead, IsReportOf}
-use Rattle.recv_reading.specs.Source.{answers_of, Brings, HeardOf, HeardUntil}
+use Rattle.recv_reading.specs.Source.{answers_of, BytesBring, HeardOf, HeardUntil}
 use Rattle.cmd_faults.specs.Captures.{EndsEarly, EndsByIt}
 use Rattle.cmd_faults.specs.Fault.{UnlessMemory}
 use Rattle.cmd_faults.specs.declared.fault.Fault.{Fault}
@@ -26,19 +26,19 @@ pub record BreaksOffBy (rules : ReceiveOptions) (bytes : List ℕ) (ending : cap
 -- What is read and written: enough packets, or all, and their report; after a failed write all that was given before the last
 -- of them, and a front of what that one made ready; where no more can be read, what the packets before it give; where memory is
 -- wanting, nothing.
-abbrev pub Ends : ReceiveOptions → Result Bool Fault → Known Input → Known Input → Known Output → Known Output → Type 0
-Ends rules (Ok clean) before after out out' = Reported rules 1 (HeardOf before after) out out' clean
-Ends rules (Err faults.Write) before after out out' = Stopped rules 1 (HeardOf before after) out out'
-Ends rules (Err faults.Read) before after out out' = Broken rules 1 (HeardUntil stops.Read before after) out out'
-Ends rules (Err (faults.Capture fault)) before after out out' = Broken rules 1 (HeardUntil (stops.Capture fault) before after) out out'
-Ends rules (Err faults.CaptureTooLong) before after out out' = Broken rules 1 (HeardUntil stops.TooLong before after) out out'
-Ends rules (Err faults.NoMemory) before after out out' = (after ≡ before) × (out' ≡ out)
-Ends rules (Err fault) before after out out' = ⊥
+abbrev pub CaptureReportEnds : ReceiveOptions → Result Bool Fault → Known Input → Known Input → Known Output → Known Output → Type 0
+CaptureReportEnds rules (Ok clean) before after out out' = Reported rules 1 (HeardOf before after) out out' clean
+CaptureReportEnds rules (Err faults.Write) before after out out' = Stopped rules 1 (HeardOf before after) out out'
+CaptureReportEnds rules (Err faults.Read) before after out out' = Broken rules 1 (HeardUntil stops.Read before after) out out'
+CaptureReportEnds rules (Err (faults.Capture fault)) before after out out' = Broken rules 1 (HeardUntil (stops.Capture fault) before after) out out'
+CaptureReportEnds rules (Err faults.CaptureTooLong) before after out out' = Broken rules 1 (HeardUntil stops.TooLong before after) out out'
+CaptureReportEnds rules (Err faults.NoMemory) before after out out' = (after ≡ before) × (out' ≡ out)
+CaptureReportEnds rules (Err fault) before after out out' = ⊥
 
 -- The report of what these bytes bring is written, where they were left of the input.
 abbrev pub WritesReport : {O : Type 0} → ReceiveOptions → List ℕ → Bool → (O → Known Output) → O → O → Type 0
 WritesReport rules left clean known out out' =
-    (ahead : List Answer) × Brings left ahead
+    (ahead : List Answer) × BytesBring left ahead
     × (r : Report) × IsReportOf rules 1 ahead r × Outputs (known out) (known out') (λ text. text ≡ r.text) × (clean ≡ r.clean)
 
 -- The run is done, and the report is written.
@@ -52,7 +52,7 @@ pub record CaptureRun {I O : Type 0} (rules : ReceiveOptions) (ending : Result B
   -- It ends well, or for want of memory, by a fault of the capture, by a failed read or by a failed write.
   pub kind : (fault : Fault) → ending ≡ Err fault → EndsEarly fault
   -- What is written is of what was read. Nothing is read after the report has ended, or after a failed write.
-  pub ends : Ends rules ending (input_known input) (input_known input') (out_known out) (out_known out')
+  pub ends : CaptureReportEnds rules ending (input_known input) (input_known input') (out_known out) (out_known out')
   -- Where the input tells, a report is that of what was left of it.
   pub writes : (clean : Bool) → ending ≡ Ok clean → Inputs (input_known input) (input_known input') (λ left _. WritesReport rules left clean out_known out out')
   -- After want of memory nothing was read or written.
@@ -68,7 +68,7 @@ pub record CaptureRun {I O : Type 0} (rules : ReceiveOptions) (ending : Result B
       → UnlessMemory ending (WroteReport rules left ending out_known out out'))
   -- Where the packets are a delivery with each frame in time, none is missing, and the reading doesn't break off.
   pub in_time : (HasFailed (input_known input) (input_known input') → ⊥) → (HasFailed (out_known out) (out_known out') → ⊥)
-      → Inputs (input_known input) (input_known input') (λ left _. (ahead : List Answer) → Brings left ahead → IsInTimeAhead rules ahead
+      → Inputs (input_known input) (input_known input') (λ left _. (ahead : List Answer) → BytesBring left ahead → IsInTimeAhead rules ahead
       → UnlessMemory ending (ending ≡ Ok true))
   -- A count of faults rose, by one, exactly where a read or a write ended the run.
   pub read_cause : HasCause (input_known input) (input_known input') (ending ≡ Err faults.Read)

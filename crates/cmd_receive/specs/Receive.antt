@@ -2,10 +2,10 @@
 -- together at their end.
 use Rattle.std.specs.Prelude.{ℕ, ◌≡◌, ◌+◌, ◌<◌, ◌⊎◌, ◌↔◌, IsTrue, Bool, true, List, [], ◌∷◌, length, slice_index_or, Result, Ok, Err}
 use Rattle.std.specs.List.{flat_map, All}
-use Rattle.drm_links.specs.Told.{HasFailed, Known, HasCause, Tells}
+use Rattle.drm_links.specs.Told.{HasFailed, Known, HasCause, KnownThrough}
 use Rattle.drm_links.specs.Link.{Answer}
 use Rattle.drm_links.specs.Sink.{Output, Outputs, IsFront}
-use Rattle.drm_links.specs.Dock.{DockContents, LinkStart, Finds, FindsNone, Docked}
+use Rattle.drm_links.specs.Dock.{DockContents, LinkStart, OpeningFinds, FindsNone, Docked}
 use Rattle.drm_links.specs.declared.dock.Address.{Address}
 use Rattle.recv_reading.specs.declared.options.ReceiveOptions.{ReceiveOptions}
 use Rattle.recv_reading.specs.declared.reason.EndWord.{EndWord}
@@ -24,7 +24,7 @@ use Rattle.link_group.specs.Binding.{HearsEach, BindsFew, StopsBehind}
 pub record AreReports (rules : ReceiveOptions) (told : DockContents) (addresses : List Address) (reports : List Report) : Type 0 where
   pub as_many : length reports ≡ length addresses
   pub each : (k : ℕ) (at : Address) (none : Report) → k < length addresses
-      → (start : LinkStart) × Finds told k (slice_index_or addresses k at) start
+      → (start : LinkStart) × OpeningFinds told k (slice_index_or addresses k at) start
       × IsReportOf rules (k + 1) start.ahead (slice_index_or reports k none)
 
 -- the texts of reports, one after another
@@ -39,7 +39,7 @@ pub record FailsSome (rules : ReceiveOptions) (told : DockContents) (addresses :
   pub k : ℕ
   pub within : k < length addresses
   pub fails : (at : Address) → FindsNone told k (slice_index_or addresses k at)
-      ⊎ ((start : LinkStart) × Finds told k (slice_index_or addresses k at) start × BreaksOff rules start.ahead)
+      ⊎ ((start : LinkStart) × OpeningFinds told k (slice_index_or addresses k at) start × BreaksOff rules start.ahead)
 
 -- What is written: the reports of all links, and whether they are clean; after a failed write a front of them; after
 -- another fault nothing.
@@ -52,7 +52,7 @@ WritesReports are (Err fault) known out out' = out' ≡ out
 
 -- P holds of what is ahead of the link that the first opening from here finds at this address
 abbrev pub Ahead : DockContents → Address → (List Answer → Type 0) → Type 0
-Ahead told at P = (start : LinkStart) × Finds told 0 at start × P start.ahead
+Ahead told at P = (start : LinkStart) × OpeningFinds told 0 at start × P start.ahead
 
 -- What is written of one link: the report of what is ahead of it; after a failed write a front of that; where it breaks off,
 -- what is given before it does; where it can't be opened, or memory is wanting, nothing.
@@ -138,7 +138,7 @@ WroteReports ending are known out out' = (clean : Bool) × (ending ≡ Ok clean)
 abbrev pub AreInTime : ReceiveOptions → DockContents → List Address → Type 0
 AreInTime rules told addresses =
     (k : ℕ) (at : Address) → k < length addresses
-    → (start : LinkStart) × Finds told k (slice_index_or addresses k at) start × IsInTimeAhead rules start.ahead
+    → (start : LinkStart) × OpeningFinds told k (slice_index_or addresses k at) start × IsInTimeAhead rules start.ahead
 
 -- A run of `receive` with addresses.
 pub record ReceiveRun {D O : Type 0} (rules : ReceiveOptions) (addresses : List Address) (ending : Result Bool Fault)
@@ -147,7 +147,7 @@ pub record ReceiveRun {D O : Type 0} (rules : ReceiveOptions) (addresses : List 
   -- It ends well, or for want of memory, by a failed link or by a failed write.
   pub kind : (fault : Fault) → ending ≡ Err fault → (fault ≡ faults.NoMemory) ⊎ (fault ≡ faults.Link) ⊎ (fault ≡ faults.Write)
   -- Where the dock tells: what is read of the links is this, and nothing else is asked of them.
-  pub opens : Tells (dock_known dock) (dock_known dock') (OpensEach rules addresses ending out_known out out')
+  pub opens : KnownThrough (dock_known dock) (dock_known dock') (OpensEach rules addresses ending out_known out out')
   -- Where the dock tells: the reports are those of what was ahead of the links that it opened. Nothing else is written.
   pub writes : Docked (dock_known dock) (dock_known dock') (λ told. WritesAll rules told addresses ending out_known out out')
   -- Where nothing is told of the links, what is written is a report all the same, and the run is clean where that is.

@@ -8,8 +8,8 @@ ghost use Rattle.cmd_receive.specs.Stopping.{ending_captured};
 use capture_reader::read_some_way;
 use cmd_faults::Fault;
 use drm_links::{Sink, Source};
-use recv_report::{Unfinished, in_time_is_unbroken, receive_capture, reports_follow};
 use recv_reading::ReceiveOptions;
+use recv_report::{Unfinished, in_time_is_unbroken, receive_capture, reports_follow};
 use std::alloc::Global;
 
 /// Reads a capture from `input` until enough is read, and writes its report as it is read. Answers whether no frame is

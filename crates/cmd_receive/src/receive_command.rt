@@ -1,8 +1,8 @@
 //! The command `receive` with addresses.
 
 ghost use Rattle.std.specs.Prelude.{◌≡◌, ◌≤◌, List, length, vec_len, vec_capacity, IfOk, IfErr, Err};
-ghost use Rattle.drm_links.specs.Told.{HasCause, CountsCall, Tells, WhileTold};
-ghost use Rattle.drm_links.specs.Dock.{Opens, Over, Docked, after_openings};
+ghost use Rattle.drm_links.specs.Told.{HasCause, CountsCall, KnownThrough, IfBothKnown};
+ghost use Rattle.drm_links.specs.Dock.{DockOpens, Over, Docked, after_openings};
 ghost use Rattle.recv_reading.specs.Options.{AreInRange};
 ghost use Rattle.link_group.specs.Listed.{AreListed};
 ghost use Rattle.link_group.specs.Reaching.{HaveGone, after_closes};
@@ -13,11 +13,11 @@ ghost use Rattle.cmd_receive.specs.Stopping.{ending_of, ending_live};
 
 use cmd_faults::Fault;
 use drm_links::{Address, Addresses, Dock, Link, Opened, Sink};
+use recv_reading::ReceiveOptions;
 use recv_report::{
     Ended, Job, Stop, in_time_is_unbroken, reports_follow, run_all, run_live, seat_for, seated,
     settle,
 };
-use recv_reading::ReceiveOptions;
 use std::alloc::Global;
 use std::thread::Threads;
 
@@ -60,7 +60,7 @@ where
 // Takes the memory for receivers of these addresses.
 fn room_for<L: Link>(alloc: Global, addresses: &Addresses) -> Result<Vec<Job<L>>, Fault>
     ensures none { IfOk result (λ room. vec_len room ≡ 0) }
-    ensures all { IfOk result (λ room. length addresses.now ≤ vec_capacity room) }
+    ensures capacity { IfOk result (λ room. length addresses.now ≤ vec_capacity room) }
     ensures ends { IfErr result (λ fault. fault ≡ Fault.NoMemory) }
 {
     match Vec::with_capacity(alloc, addresses.len()) {
@@ -79,14 +79,14 @@ fn open_all<D: Dock>(
 ) -> Result<Vec<Job<D::L>>, Fault>
     requires rules { AreInRange rules.now }
     requires listed { AreListed addresses.now }
-    ensures many { IfOk result (λ jobs. vec_len jobs ≡ length addresses.now) }
+    ensures same_count { IfOk result (λ jobs. vec_len jobs ≡ length addresses.now) }
     ensures jobs { IfOk result (λ jobs. AreJobs rules.now (length addresses.now) jobs.items) }
-    ensures opened { IfOk result (λ _. Tells (D.known dock.old) (D.known dock.new)
+    ensures opened { IfOk result (λ _. KnownThrough (D.known dock.old) (D.known dock.new)
         (λ before after. after ≡ after_openings addresses.now before)) }
     ensures links { IfOk result (λ jobs. Docked (D.known dock.old) (D.known dock.new) (λ told.
         HaveLinks D.L.known told addresses.now jobs.items)) }
     ensures ends { IfErr result EndsOpening }
-    ensures stopped { IfErr result (λ fault. Tells (D.known dock.old) (D.known dock.new)
+    ensures stopped { IfErr result (λ fault. KnownThrough (D.known dock.old) (D.known dock.new)
         (StopsOpening addresses.now fault)) }
     ensures cause { HasCause (D.known dock.old) (D.known dock.new) (result ≡ Err Fault.Link) }
 {
@@ -114,9 +114,9 @@ fn open_one<D: Dock>(
     requires rules { AreInRange rules.now }
     ensures job { IfOk result (IsJob rules.now feed) }
     ensures opened { IfOk result (λ job.
-        WhileTold (D.known dock.old) (D.known dock.new) (Opens D.L.known at (Opened.Link job.link))) }
+        IfBothKnown (D.known dock.old) (D.known dock.new) (DockOpens D.L.known at (Opened.Link job.link))) }
     ensures failed { result ≡ Err Fault.Link
-        → WhileTold (D.known dock.old) (D.known dock.new) (Opens D.L.known at Opened.Failed) }
+        → IfBothKnown (D.known dock.old) (D.known dock.new) (DockOpens D.L.known at Opened.Failed) }
     ensures untouched { result ≡ Err Fault.NoMemory → dock.new ≡ dock.old }
     ensures told { (result ≡ Err Fault.NoMemory → ⊥)
         → CountsCall (λ contents. contents.calls) (D.known dock.old) (D.known dock.new) }
@@ -133,7 +133,7 @@ fn open_one<D: Dock>(
 // Closes the links of these receivers, in the order of their addresses.
 fn close_all<D: Dock>(dock: &mut D, addresses: &Addresses, jobs: Vec<Job<D::L>>)
     requires { vec_len jobs ≤ length addresses.now }
-    ensures closed { Tells (D.known dock.old) (D.known dock.new) (λ before after.
+    ensures closed { KnownThrough (D.known dock.old) (D.known dock.new) (λ before after.
         (overs : List Over) → HaveGone D.L.known (members_of jobs.items) overs → after ≡ after_closes overs addresses.now before) }
     ensures cause { (D.known dock.new).faults ≡ (D.known dock.old).faults }
 {

@@ -1,6 +1,6 @@
 -- Links that were opened, sent over and closed.
 use Rattle.std.proofs.Common.{◌≡◌, ℕ, zero, suc, ◌*◌, ◌<◌, Bool, true, false, List, [], ◌∷◌, map, length, slice_index_or, Result, refl, sym, ◌∙◌, subst, arith}
-use Rattle.drm_links.specs.Told.{Known, Tells}
+use Rattle.drm_links.specs.Told.{Known, KnownThrough}
 use Rattle.drm_links.specs.Link.{Traffic}
 use Rattle.drm_links.specs.Shelf.{Files}
 use Rattle.drm_links.specs.Dock.{DockContents, Over, Docked}
@@ -45,9 +45,9 @@ some_down (m ∷ members) none = down_by m members m.up refl none (some_down mem
 module _ {S D L : Type 0} (reading : Reading Plan) (addresses : List Address) (pace from : ℕ) (ending : Result (Unit {0}) Fault) (shelf_known : S → Known Files) (shelf shelf' : S)
     (dock_known : D → Known DockContents) (dock dock' : D) (opened : Known DockContents) (known : L → Known Traffic) (members members' : List (Member L)) where
   pub links_run : length members ≡ length addresses → OverLinks reading pace from ending shelf_known shelf shelf' known members members'
-      → Tells (dock_known dock) opened (λ before after. after ≡ after_reaches addresses before)
+      → KnownThrough (dock_known dock) opened (λ before after. after ≡ after_reaches addresses before)
       → Docked (dock_known dock) opened (λ told. HaveLinks known told addresses members)
-      → Tells opened (dock_known dock') (λ before after. (overs : List Over) → HaveGone known members' overs → after ≡ after_closes overs addresses before)
+      → KnownThrough opened (dock_known dock') (λ before after. (overs : List Over) → HaveGone known members' overs → after ≡ after_closes overs addresses before)
       → (dock_known dock').faults ≡ (dock_known dock).faults
       → LinksRun reading addresses pace from ending shelf_known shelf shelf' dock_known dock dock'
   links_run many run opens links closed same =

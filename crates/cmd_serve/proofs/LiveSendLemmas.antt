@@ -1,6 +1,6 @@
 -- A run with live streams over links that were opened and closed.
 use Rattle.std.proofs.Common.{◌≡◌, ℕ, ◌+◌, ◌*◌, ◌<◌, ◌≤◌, ◌⊎◌, inl, inr, Bool, true, List, [], ◌++◌, length, slice_index_or, Result, Err, refl, sym, ◌∙◌, ap, subst, arith}
-use Rattle.drm_links.specs.Told.{Known, Tells, WhileTold}
+use Rattle.drm_links.specs.Told.{Known, KnownThrough, IfBothKnown}
 use Rattle.drm_links.specs.Shelf.{Files}
 use Rattle.drm_links.specs.Source.{Input}
 use Rattle.drm_links.specs.Link.{Traffic}
@@ -74,7 +74,7 @@ module _ {S D : Type 0} (one : HasOneDelivery) (front : FirstOnesAreFront) (name
       (λ bytes. unopened one front (live_named name live (3 * from) bytes) addresses pace from (Err faults.NoMemory) shelf_known shelf shelf' dock_known dock dock' run))
 
   -- after want of memory nothing has gone
-  pub live_nothing_sent : (ending : Result Bool Fault) (input input' : Known Input) → AreDifferent addresses → Ran ending input input' → ending ≡ Err faults.NoMemory → WhileTold (dock_known dock) (dock_known dock') NothingSent
+  pub live_nothing_sent : (ending : Result Bool Fault) (input input' : Known Input) → AreDifferent addresses → Ran ending input input' → ending ≡ Err faults.NoMemory → IfBothKnown (dock_known dock) (dock_known dock') NothingSent
   live_nothing_sent ending input input' different (inl fed) memory =
       nothing_sent one front (live_named name live (3 * from) (fed.bytes ++ [])) addresses pace from (done_of ending) shelf_known shelf shelf' dock_known dock dock' different (fed.runs [] (λ end. refl)) (ap done_of memory)
   live_nothing_sent ending input input' different (inr broken) memory = absurd (not_memory addresses broken.up ending broken.ends memory)
@@ -93,12 +93,12 @@ module _ {S D : Type 0} (one : HasOneDelivery) (front : FirstOnesAreFront) (name
   sent_dock ending input input' (inr broken) = inl broken.same
 
   module _ {L : Type 0} (makes : InputMakesASchedule) (different : AreDifferent addresses) (opened : Known DockContents) (known : L → Known Traffic) (members members' : List (Member L)) (many : length members ≡ length addresses)
-      (opens : Tells (dock_known dock) opened (λ before after. after ≡ after_reaches addresses before)) (links : Docked (dock_known dock) opened (λ told. HaveLinks known told addresses members))
-      (shut : Tells opened (dock_known dock') (λ before after. (overs : List Over) → HaveGone known members' overs → after ≡ after_closes overs addresses before))
+      (opens : KnownThrough (dock_known dock) opened (λ before after. after ≡ after_reaches addresses before)) (links : Docked (dock_known dock) opened (λ told. HaveLinks known told addresses members))
+      (shut : KnownThrough opened (dock_known dock') (λ before after. (overs : List Over) → HaveGone known members' overs → after ≡ after_closes overs addresses before))
       (same_dock : (dock_known dock').faults ≡ (dock_known dock).faults) (input input' : Known Input) where
     -- over each link n frames of this schedule went
     went : (plan : Plan) (n : ℕ) → length members' ≡ length members → IsSchedule plan → n ≤ frame_count plan → ServedEach plan (3 * from) pace n known members members'
-        → Tells (dock_known dock) (dock_known dock') (GoesOver (λ k start over. GoFrames pace (3 * from) n plan (ups members' k) start.sends over.gone over.rests) addresses)
+        → KnownThrough (dock_known dock) (dock_known dock') (GoesOver (λ k start over. GoFrames pace (3 * from) n plan (ups members' k) start.sends over.gone over.rests) addresses)
     went plan n same valid few served =
         let many' : length members' ≡ length addresses = same ∙ many in
         over_each (λ k start over. GoFrames pace (3 * from) n plan (ups members' k) start.sends over.gone over.rests) known addresses members members' many many' (dock_known dock) opened (dock_known dock') opens links

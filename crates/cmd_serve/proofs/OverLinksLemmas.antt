@@ -1,12 +1,12 @@
 -- A run over links, by how it ends.
 use Rattle.std.proofs.Common.{◌≡◌, ℕ, ◌+◌, ◌-◌, ◌*◌, ◌<◌, ◌≤◌, ◌↔◌, Bool, true, false, List, [], ◌∷◌, ◌++◌, length, slice_index_or, Option, None, Some, Result, Ok, Err, refl, ◌∙◌, ap, subst, arith, append_assoc}
 use Rattle.drm_server.specs.Rests.{calls_of_frame}
-use Rattle.drm_links.specs.Told.{HasCause, Known, ToldThrough}
+use Rattle.drm_links.specs.Told.{HasCause, Known, Throughout}
 use Rattle.drm_links.specs.Dock.{LinkStart, Over, first_traffic}
 use Rattle.drm_links.specs.Link.{Traffic, rests_of}
 use Rattle.drm_links.specs.Shelf.{Files}
 use Rattle.drm_links.specs.ManyCalls.{MakesCalls, CountsMany}
-use Rattle.drm_links.specs.Transmission.{Transmits, SendsAll, Waits, since, still}
+use Rattle.drm_links.specs.Transmission.{LinkTransmits, SendsAll, WaitsBetween, since, still}
 use Rattle.drm_links.proofs.ToldLemmas.{counts_none, counts_as}
 use Rattle.drm_links.proofs.TransmissionLemmas.{Transmits-weaker, Transmits-both, Transmits-nothing, Transmits-no_wait}
 use Rattle.drm_links.proofs.ManyCallsLemmas.{no_calls, at_most}
@@ -37,7 +37,7 @@ few_calls : (plan : Plan) (n : ℕ) (a b : Known Traffic) → plan.length ≤ 10
 few_calls plan n a b few within made = at_most (λ (t : Traffic). t.calls) (calls_of_frame * n) most_calls a b (omega (arith, few, within)) made
 
 -- the rests of a link afterwards
-rests_after : (each : List ℕ) (last : ℕ) (x y : Traffic) → Waits each last x y → rests_of y ≡ x.waits ++ since x.waiting (each ++ last ∷ [])
+rests_after : (each : List ℕ) (last : ℕ) (x y : Traffic) → WaitsBetween each last x y → rests_of y ≡ x.waits ++ since x.waiting (each ++ last ∷ [])
 rests_after each last x y waits =
     ap (λ l. l ++ y.waiting ∷ []) waits.waits
     ∙ (append_assoc x.waits (since x.waiting each) (y.waiting ∷ [])
@@ -55,10 +55,10 @@ since_none (wait ∷ waits) = let same : 0 + wait ≡ wait = omega arith in ap (
 -- ---- what goes over one of the links
 
 -- so many frames of a schedule, or some first datagrams
-pub served_frames : (plan : Plan) (first pace n : ℕ) (up : Bool) (a b : Known Traffic) → ServedBy up plan first pace n a b → Transmits a b (GoesBy (GoFrames pace first n plan up))
+pub served_frames : (plan : Plan) (first pace n : ℕ) (up : Bool) (a b : Known Traffic) → ServedBy up plan first pace n a b → LinkTransmits a b (GoesBy (GoFrames pace first n plan up))
 served_frames plan first pace n true a b served =
-    Transmits-weaker (λ x y. SendsAll served.datagrams x y × Waits served.waits 0 x y) (GoesBy (GoFrames pace first n plan true)) a b
-    (Transmits-both (SendsAll served.datagrams) (Waits served.waits 0) a b served.sent served.waited)
+    Transmits-weaker (λ x y. SendsAll served.datagrams x y × WaitsBetween served.waits 0 x y) (GoesBy (GoFrames pace first n plan true)) a b
+    (Transmits-both (SendsAll served.datagrams) (WaitsBetween served.waits 0) a b served.sent served.waited)
     (λ x y both. (served.datagrams, served.waits ++ 0 ∷ [], (served.are, both.0.taken, served.waits, served.paced, refl), both.0.gone, rests_after served.waits 0 x y both.1, both.0.kept.answers))
 served_frames plan first pace n false a b served =
     Transmits-weaker (SendsPart plan first pace) (GoesBy (GoFrames pace first n plan false)) a b served.part
@@ -70,14 +70,14 @@ frames_calls plan first pace n false a b few within served = few_calls plan (fra
 
 -- a link that was just opened tells at the end
 pub gone_by : {L : Type 0} (P : Option ℕ → List (List ℕ) → List ℕ → Type 0) (known : L → Known Traffic) (link link' : L) (start : LinkStart) → (known link).told ≡ Some (first_traffic start)
-    → Transmits (known link) (known link') (GoesBy P) → MakesCalls (λ (t : Traffic). t.calls) most_calls (known link) (known link')
+    → LinkTransmits (known link) (known link') (GoesBy P) → MakesCalls (λ (t : Traffic). t.calls) most_calls (known link) (known link')
     → (over : Over) × HasGone known link' over × P start.sends over.gone over.rests × (over.answers ≡ [])
 gone_by P known link link' start told sent calls =
-    let Q : Option Traffic → Type 0 = λ t. ToldThrough t (known link').told (GoesBy P) in
+    let Q : Option Traffic → Type 0 = λ t. Throughout t (known link').told (GoesBy P) in
     let R : Option Traffic → Type 0 = λ t. CountsMany (λ (t : Traffic). t.calls) most_calls t (known link').told in
     by_last (known link').told refl (subst Q told sent) (subst R told calls)
   where
-    by_last : (last : Option Traffic) → (known link').told ≡ last → ToldThrough (Some (first_traffic start)) last (GoesBy P) → CountsMany (λ (t : Traffic). t.calls) most_calls (Some (first_traffic start)) last
+    by_last : (last : Option Traffic) → (known link').told ≡ last → Throughout (Some (first_traffic start)) last (GoesBy P) → CountsMany (λ (t : Traffic). t.calls) most_calls (Some (first_traffic start)) last
         → (over : Over) × HasGone known link' over × P start.sends over.gone over.rests × (over.answers ≡ [])
     by_last None is sent calls = absurd (omega (arith, calls))
     by_last (Some traffic) is sent calls =
@@ -102,8 +102,8 @@ module _ {S L : Type 0} (reading : Reading Plan) (pace from : ℕ) (shelf_known 
     ends = refl;
     sent = λ k d within.
         let a = link_known (slice_index_or members k d).link in
-        Transmits-weaker (λ x y. SendsAll [] x y × Waits [] 0 x y) (GoOver pace (3 * from) (Err fault) (slice_index_or members k d).up) a a
-        (Transmits-both (SendsAll []) (Waits [] 0) a a (Transmits-nothing a) (Transmits-no_wait a))
+        Transmits-weaker (λ x y. SendsAll [] x y × WaitsBetween [] 0 x y) (GoOver pace (3 * from) (Err fault) (slice_index_or members k d).up) a a
+        (Transmits-both (SendsAll []) (WaitsBetween [] 0) a a (Transmits-nothing a) (Transmits-no_wait a))
         (λ x y none. ([], 0 ∷ [], (refl, refl), none.0.gone, rests_after [] 0 x y none.1, none.0.kept.answers));
     calls = λ k d within.
         let a = link_known (slice_index_or members k d).link in

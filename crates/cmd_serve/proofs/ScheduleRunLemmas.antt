@@ -1,7 +1,7 @@
 -- What a run over a schedule says of how it ends.
 use Rattle.std.proofs.Common.{◌≡◌, ℕ, ◌⊎◌, inl, inr, List, Result, Ok, Err, IfOk, refl, sym, ◌∙◌, ap, subst}
 use Rattle.drm_links.specs.Told.{HasFailed, Known, HasCause}
-use Rattle.drm_links.specs.Shelf.{Files, Supplies}
+use Rattle.drm_links.specs.Shelf.{Files, ShelfSupplies}
 use Rattle.drm_links.specs.Sink.{Output, Outputs}
 use Rattle.drm_links.proofs.ToldLemmas.{Tells-weaker, counts_one, counts_none, counts_as}
 use Rattle.cmd_faults.specs.declared.fault.Fault.{Fault}
@@ -61,7 +61,7 @@ pub ends_memory : {T : Type 0} (outside : Fault) (came : Result T ScheduleFault)
 ends_memory {T} outside came ending ends is = let P : Result T ScheduleFault → Type 0 = λ v. EndsBy outside v ending in subst P is ends
 
 pub ends_exactly : {T : Type 0} (outside : Fault) (reading : Reading T) (came : Result T ScheduleFault) (ending : Result (Unit {0}) Fault) (a b : Known Files) → ReadBy reading came a b → EndsBy outside came ending
-    → Supplies a b (λ before _. UnlessMemory ending (EndsBy outside (reading before).came ending))
+    → ShelfSupplies a b (λ before _. UnlessMemory ending (EndsBy outside (reading before).came ending))
 ends_exactly {T} outside reading came ending a b loads ends =
     Tells-weaker _ _ a b loads
     (λ x y is. elim (came_or_memory reading came x y is) [
@@ -74,11 +74,11 @@ module _ {T S O : Type 0} (reading : Reading T) (is_sound : T → Type 0) (whole
   ends : EndsBy Write came ending
   ends = ends_by whole front came ending out_known out out' writes
 
-  pub exactly : Supplies (shelf_known shelf) (shelf_known shelf') (λ before _. UnlessMemory ending (EndsBy Write (reading before).came ending))
+  pub exactly : ShelfSupplies (shelf_known shelf) (shelf_known shelf') (λ before _. UnlessMemory ending (EndsBy Write (reading before).came ending))
   exactly = ends_exactly Write reading came ending (shelf_known shelf) (shelf_known shelf') loads ends
 
   pub complete : (HasFailed (out_known out) (out_known out') → ⊥)
-      → Supplies (shelf_known shelf) (shelf_known shelf') (λ before _. (x : T) → (reading before).came ≡ Ok x → UnlessMemory ending ((ending ≡ Ok tt) × Outputs (out_known out) (out_known out') (whole x)))
+      → ShelfSupplies (shelf_known shelf) (shelf_known shelf') (λ before _. (x : T) → (reading before).came ≡ Ok x → UnlessMemory ending ((ending ≡ Ok tt) × Outputs (out_known out) (out_known out') (whole x)))
   complete no_write =
       Tells-weaker _ _ (shelf_known shelf) (shelf_known shelf') loads
       (λ p q is x gives. elim (came_or_memory reading came p q is) [

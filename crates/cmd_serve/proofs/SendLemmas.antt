@@ -1,9 +1,9 @@
 -- What a run over links says of how it ends and of what has gone.
 use Rattle.std.proofs.Common.{◌≡◌, ℕ, ◌+◌, ◌*◌, ◌<◌, ◌⊎◌, ◌↔◌, inl, inr, Bool, true, false, List, [], ◌∷◌, length, slice_index_or, Option, None, Some, IsNone, Result, Ok, Err, refl, sym, ◌∙◌, ap, subst, arith, length-append}
 use Rattle.std.specs.FinMap as map
-use Rattle.drm_links.specs.Told.{Known, WhileTold, Tells}
-use Rattle.drm_links.specs.Shelf.{Files, Supplies}
-use Rattle.drm_links.specs.Dock.{DockContents, LinkStart, Over, address_key, start_at, AreDifferent, Finds, FindsNone}
+use Rattle.drm_links.specs.Told.{Known, IfBothKnown, KnownThrough}
+use Rattle.drm_links.specs.Shelf.{Files, ShelfSupplies}
+use Rattle.drm_links.specs.Dock.{DockContents, LinkStart, Over, address_key, start_at, AreDifferent, OpeningFinds, FindsNone}
 use Rattle.drm_links.specs.Transmission.{TakesSends, TakesFewer}
 use Rattle.drm_links.specs.declared.dock.Address.{Address}
 use Rattle.drm_links.proofs.ToldLemmas.{Tells-weaker, Tells-nothing, counts_none}
@@ -26,11 +26,11 @@ use Rattle.cmd_serve.proofs.ScheduleRunLemmas.{came_or_memory, ends_memory, ends
 -- ---- an opening finds a link, or none
 
 -- not both
-both : {A : Type 0} (told : DockContents) (k : ℕ) (at : Address) (start : LinkStart) → FindsNone told k at → Finds told k at start → A
+both : {A : Type 0} (told : DockContents) (k : ℕ) (at : Address) (start : LinkStart) → FindsNone told k at → OpeningFinds told k at start → A
 both told k at start (inl failing) finds = absurd (finds.allowed failing)
 both told k at start (inr none) finds = let p : IsNone (start_at told at) = none in absurd (let s : start_at told at ≡ Some start = finds.stands in cc)
 
-one_start : (told : DockContents) (k : ℕ) (at : Address) (a b : LinkStart) → Finds told k at a → Finds told k at b → a ≡ b
+one_start : (told : DockContents) (k : ℕ) (at : Address) (a b : LinkStart) → OpeningFinds told k at a → OpeningFinds told k at b → a ≡ b
 one_start told k at a b x y = let s : start_at told at ≡ Some a = x.stands in let t : start_at told at ≡ Some b = y.stands in cc
 
 no_address : Address
@@ -112,8 +112,8 @@ came_by (Err fault) ending ends (inr done) = let e : ending ≡ Ok tt = done in 
 
 module _ {S D : Type 0} (one : HasOneDelivery) (front : FirstOnesAreFront) (reading : Reading Plan) (addresses : List Address) (pace from : ℕ) (ending : Ending) (shelf_known : S → Known Files) (shelf shelf' : S) (dock_known : D → Known DockContents) (dock dock' : D) where
   -- nothing was loaded
-  unread : (P : Files → Type 0) → shelf' ≡ shelf → ((x : Files) → P x) → Supplies (shelf_known shelf) (shelf_known shelf') (λ x _. P x)
-  unread P same all = subst (λ s. Supplies (shelf_known shelf) (shelf_known s) (λ x _. P x)) (sym same) (Tells-nothing (λ x _. P x) (shelf_known shelf) all)
+  unread : (P : Files → Type 0) → shelf' ≡ shelf → ((x : Files) → P x) → ShelfSupplies (shelf_known shelf) (shelf_known shelf') (λ x _. P x)
+  unread P same all = subst (λ s. ShelfSupplies (shelf_known shelf) (shelf_known s) (λ x _. P x)) (sym same) (Tells-nothing (λ x _. P x) (shelf_known shelf) all)
 
   pub closed : ClosedRun addresses ending shelf shelf' dock_known dock dock' → SendRun reading addresses pace from ending shelf_known shelf shelf' dock_known dock dock'
   closed run = record {
@@ -145,8 +145,8 @@ module _ {S D : Type 0} (one : HasOneDelivery) (front : FirstOnesAreFront) (read
     read_cause = counts_none (λ is. let other = sym run.fault ∙ is in cc) (ap (λ s. (shelf_known s).faults) run.unread);
   }
     where
-      untold : (P : DockContents → DockContents → Type 0) → ((x : DockContents) → P x x) → Tells (dock_known dock) (dock_known dock') P
-      untold P all = subst (λ d. Tells (dock_known dock) (dock_known d) P) (sym run.unopened) (Tells-nothing P (dock_known dock) all)
+      untold : (P : DockContents → DockContents → Type 0) → ((x : DockContents) → P x x) → KnownThrough (dock_known dock) (dock_known dock') P
+      untold P all = subst (λ d. KnownThrough (dock_known dock) (dock_known d) P) (sym run.unopened) (Tells-nothing P (dock_known dock) all)
 
   module _ (different : AreDifferent addresses) (run : LinksRun reading addresses pace from ending shelf_known shelf shelf' dock_known dock dock') where
     abbrev Goes : ℕ → LinkStart → Over → Type 0
@@ -184,7 +184,7 @@ module _ {S D : Type 0} (one : HasOneDelivery) (front : FirstOnesAreFront) (read
 
     -- all has gone over a link that takes all
     all_gone : (x y : DockContents) (plan : Plan) (datagrams : List (List ℕ)) → run.came ≡ Ok plan → GoesOver Goes addresses x y → AreDatagrams plan (3 * from) datagrams
-        → (k : ℕ) (at : Address) (start : LinkStart) → k < length addresses → Finds x k (slice_index_or addresses k at) start → TakesSends start.sends (length datagrams)
+        → (k : ℕ) (at : Address) (start : LinkStart) → k < length addresses → OpeningFinds x k (slice_index_or addresses k at) start → TakesSends start.sends (length datagrams)
         → (over : GoesOver Goes addresses x y) → (run.up k ≡ true) × ((slice_index_or over.overs k nothing).gone ≡ datagrams)
     all_gone x y plan datagrams came any are k at start within finds takes over =
         let goes = over.goes.each k at nothing within in
@@ -252,19 +252,19 @@ module _ {S D : Type 0} (one : HasOneDelivery) (front : FirstOnesAreFront) (read
       read_cause = run.read_cause;
     }
 
-    none_sent : ending ≡ Err faults.NoMemory → WhileTold (dock_known dock) (dock_known dock') NothingSent
+    none_sent : ending ≡ Err faults.NoMemory → IfBothKnown (dock_known dock) (dock_known dock') NothingSent
     none_sent memory =
         docks_while (GoesOver Goes addresses) NothingSent (dock_known dock) (dock_known dock') run.told
         (λ x y over. several.nothing_sent Goes addresses x y over
         (λ k start o goes. none_by pace (3 * from) run.came ending (run.up k) start.sends o.gone o.rests run.ends goes memory))
 
-  pub nothing_sent : AreDifferent addresses → SendRun reading addresses pace from ending shelf_known shelf shelf' dock_known dock dock' → ending ≡ Err faults.NoMemory → WhileTold (dock_known dock) (dock_known dock') NothingSent
+  pub nothing_sent : AreDifferent addresses → SendRun reading addresses pace from ending shelf_known shelf shelf' dock_known dock dock' → ending ≡ Err faults.NoMemory → IfBothKnown (dock_known dock) (dock_known dock') NothingSent
   nothing_sent different sent memory = elim sent.run [
     | inl run ↦ let other : faults.Link ≡ faults.NoMemory = inner_fault faults.Link faults.NoMemory (sym run.fault ∙ memory) in absurd cc
     | inr others ↦ elim others [
       | inl run ↦ none_sent different run memory
       | inr run ↦
-          subst (λ d. WhileTold (dock_known dock) (dock_known d) NothingSent) (sym run.unopened)
+          subst (λ d. IfBothKnown (dock_known dock) (dock_known d) NothingSent) (sym run.unopened)
           (docks_while NothingSent NothingSent (dock_known dock) (dock_known dock) (Tells-nothing NothingSent (dock_known dock) (λ x. ([], refl))) (λ x y none. none))
     ]
   ]

@@ -1,7 +1,7 @@
 -- The command `serve` with live streams: they take their bytes from input.
 use Rattle.std.specs.Prelude.{ℕ, ◌≡◌, ◌+◌, ◌-◌, ◌*◌, ◌<◌, ◌⊎◌, not, Bool, true, false, List, [], ◌++◌, length, Result, Ok, Err}
-use Rattle.drm_links.specs.Told.{HasFailed, Known, Tells}
-use Rattle.drm_links.specs.Shelf.{Files, Supplies}
+use Rattle.drm_links.specs.Told.{HasFailed, Known, KnownThrough}
+use Rattle.drm_links.specs.Shelf.{Files, ShelfSupplies}
 use Rattle.drm_links.specs.Source.{Input}
 use Rattle.drm_links.specs.Sink.{Output, Outputs}
 use Rattle.drm_links.specs.Dock.{DockContents}
@@ -40,7 +40,7 @@ pub record FedRun {S : Type 0} (name : List ℕ) (live : Live) (first : ℕ) (en
   pub runs : (more : List ℕ) → (ended ≡ true → more ≡ []) → Runs (live_named name live first (bytes ++ more))
   -- After a run that is done these are the pieces of all frames from there on, or, where some frame lacks its piece, all that input had.
   pub taken : (whole : Bool) → ending ≡ Ok whole
-      → Supplies (shelf_known shelf) (shelf_known shelf') (λ files _. (plan : Plan) → (schedule_named name files).came ≡ Ok plan
+      → ShelfSupplies (shelf_known shelf) (shelf_known shelf') (λ files _. (plan : Plan) → (schedule_named name files).came ≡ Ok plan
       → (ended ≡ not whole) × AreTaken ended live plan first (first + (frame_count plan - first)) bytes)
 
 -- A run that a failed read of input broke off, within the piece of the frame behind n others, of which `Made` holds. No load failed.
@@ -82,7 +82,7 @@ pub record BrokenSend {S D : Type 0} (name : List ℕ) (addresses : List Address
   pub ends : EndsBroken addresses up ending
   -- no opening failed
   pub same : (dock_known dock').faults ≡ (dock_known dock).faults
-  pub run : BrokenRun name live (3 * from) shelf_known shelf shelf' input input' (λ p n. Tells (dock_known dock) (dock_known dock')
+  pub run : BrokenRun name live (3 * from) shelf_known shelf shelf' input input' (λ p n. KnownThrough (dock_known dock) (dock_known dock')
       (GoesOver (λ k start over. GoFrames pace (3 * from) n p (up k) start.sends over.gone over.rests) addresses))
 
 -- A run of `serve --to` these addresses: over each link goes what would go over it alone of the schedule that input makes.

@@ -4,7 +4,7 @@ use Rattle.drm_links.specs.Told.{Known, HasCause}
 use Rattle.drm_links.specs.Shelf.{Files}
 use Rattle.drm_links.specs.Link.{Traffic, rests_of}
 use Rattle.drm_links.specs.ManyCalls.{MakesCalls}
-use Rattle.drm_links.specs.Transmission.{Transmits, since}
+use Rattle.drm_links.specs.Transmission.{LinkTransmits, since}
 use Rattle.drm_schedule.specs.declared.plan.Plan.{Plan}
 use Rattle.drm_schedule.specs.Valid.{IsSchedule}
 use Rattle.link_group.specs.Reaching.{AreUp}
@@ -40,7 +40,7 @@ pub record OverLinks {S L : Type 0} (reading : Reading Plan) (pace from : ℕ) (
   pub sound : IfOk came IsSchedule
   pub ends : EndsBy faults.Link came ending
   pub sent : (k : ℕ) (d : Member L) → k < length members
-      → Transmits (link_known (slice_index_or members k d).link) (link_known (slice_index_or members' k d).link)
+      → LinkTransmits (link_known (slice_index_or members k d).link) (link_known (slice_index_or members' k d).link)
       (GoOver pace (3 * from) came (slice_index_or members' k d).up)
   pub calls : (k : ℕ) (d : Member L) → k < length members
       → MakesCalls (λ (t : Traffic). t.calls) most_calls (link_known (slice_index_or members k d).link) (link_known (slice_index_or members' k d).link)

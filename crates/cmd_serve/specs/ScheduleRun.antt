@@ -1,7 +1,7 @@
 -- A run that reads a schedule from the shelf and writes what becomes of it.
 use Rattle.std.specs.Prelude.{ℕ, ◌≡◌, ◌⊎◌, List, Result, Ok, Err, IfOk}
 use Rattle.drm_links.specs.Told.{HasFailed, Known, HasCause}
-use Rattle.drm_links.specs.Shelf.{Files, Supplies}
+use Rattle.drm_links.specs.Shelf.{Files, ShelfSupplies}
 use Rattle.drm_links.specs.Sink.{Output, Outputs}
 use Rattle.cmd_load.specs.Loading.{Reading, ReadBy}
 use Rattle.cmd_load.specs.Faults.{fault_of_schedule}
@@ -35,10 +35,10 @@ pub record ScheduleRun {T S O : Type 0} (reading : Reading T) (is_sound : T → 
   pub sound : IfOk came is_sound
   pub writes : WritesCame whole front came ending out_known out out'
   -- It is refused exactly where its files are, with the line and the reason; a load fails exactly where one is to fail.
-  pub exactly : Supplies (shelf_known shelf) (shelf_known shelf') (λ before _. UnlessMemory ending (EndsBy Write (reading before).came ending))
+  pub exactly : ShelfSupplies (shelf_known shelf) (shelf_known shelf') (λ before _. UnlessMemory ending (EndsBy Write (reading before).came ending))
   -- Where its files come to something and no write failed, the whole text of that is written.
   pub complete : (HasFailed (out_known out) (out_known out') → ⊥)
-      → Supplies (shelf_known shelf) (shelf_known shelf') (λ before _. (x : T) → (reading before).came ≡ Ok x
+      → ShelfSupplies (shelf_known shelf) (shelf_known shelf') (λ before _. (x : T) → (reading before).came ≡ Ok x
       → UnlessMemory ending ((ending ≡ Ok tt) × Outputs (out_known out) (out_known out') (whole x)))
   -- A count of faults rose, by one, exactly where a load or a write ended the run.
   pub read_cause : HasCause (shelf_known shelf) (shelf_known shelf') (ending ≡ Err Read)

@@ -1,9 +1,9 @@
 -- The command `serve --to`: a schedule becomes datagrams over links.
 use Rattle.std.specs.Prelude.{ℕ, ◌≡◌, ◌-◌, ◌*◌, ◌<◌, ◌⊎◌, ◌↔◌, Bool, true, false, List, [], ◌∷◌, ◌++◌, length, slice_index_or, Option, Some, Result, Ok, Err, IfOk}
 use Rattle.std.specs.FinMap as map
-use Rattle.drm_links.specs.Told.{HasFailed, Known, HasCause, Tells}
-use Rattle.drm_links.specs.Shelf.{Files, Supplies}
-use Rattle.drm_links.specs.Dock.{DockContents, LinkStart, address_key, Finds, Docked}
+use Rattle.drm_links.specs.Told.{HasFailed, Known, HasCause, KnownThrough}
+use Rattle.drm_links.specs.Shelf.{Files, ShelfSupplies}
+use Rattle.drm_links.specs.Dock.{DockContents, LinkStart, address_key, OpeningFinds, Docked}
 use Rattle.drm_links.specs.Transmission.{TakesSends, TakesFewer}
 use Rattle.drm_links.specs.declared.dock.Address.{Address}
 use Rattle.drm_schedule.specs.declared.plan.Plan.{Plan}
@@ -45,19 +45,19 @@ LacksSends first (Err fault) sends = ⊥
 pub record LacksSome (first : ℕ) (came : Result Plan ScheduleFault) (told : DockContents) (addresses : List Address) : Type 0 where
   pub k : ℕ
   pub within : k < length addresses
-  pub lacks : (at : Address) → (start : LinkStart) × Finds told k (slice_index_or addresses k at) start × LacksSends first came start.sends
+  pub lacks : (at : Address) → (start : LinkStart) × OpeningFinds told k (slice_index_or addresses k at) start × LacksSends first came start.sends
 
 -- The link that is opened at each address takes so many sends.
 abbrev pub TakeAll : DockContents → List Address → ℕ → Type 0
 TakeAll told addresses n =
-    (k : ℕ) (at : Address) → k < length addresses → (start : LinkStart) × Finds told k (slice_index_or addresses k at) start × TakesSends start.sends n
+    (k : ℕ) (at : Address) → k < length addresses → (start : LinkStart) × OpeningFinds told k (slice_index_or addresses k at) start × TakesSends start.sends n
 
 -- A run of which an opening failed: those before it are closed, and nothing is read.
 pub record ClosedRun {S D : Type 0} (addresses : List Address) (ending : Result (Unit {0}) Fault) (shelf shelf' : S)
     (dock_known : D → Known DockContents) (dock dock' : D) : Type 0 where
   pub fault : ending ≡ Err faults.Link
   pub unread : shelf' ≡ shelf
-  pub told : Tells (dock_known dock) (dock_known dock') (ReachesFew addresses)
+  pub told : KnownThrough (dock_known dock) (dock_known dock') (ReachesFew addresses)
   pub once : HasFailed (dock_known dock) (dock_known dock')
 
 -- A run whose links were opened, before the schedule was read, and closed at the end.
@@ -74,7 +74,7 @@ pub record LinksRun {S D : Type 0} (reading : Reading Plan) (addresses : List Ad
   -- which links didn't fail
   pub up : ℕ → Bool
   -- Over each link goes what would go over it alone, whether another one fails or not.
-  pub told : Tells (dock_known dock) (dock_known dock')
+  pub told : KnownThrough (dock_known dock) (dock_known dock')
       (GoesOver (λ k start over. Go pace (3 * from) came (up k) start.sends over.gone over.rests) addresses)
   pub failed : (ending ≡ Err faults.Link) ↔ ((k : ℕ) × (k < length addresses) × (up k ≡ false))
   -- No opening failed. The shelf's count of faults rose, by one, exactly where a load ended the run.
@@ -97,28 +97,28 @@ pub record SendRun {S D : Type 0} (reading : Reading Plan) (addresses : List Add
   -- It fails by a link where an opening fails, and where a link takes fewer sends than the schedule has datagrams from there on;
   -- nowhere else.
   pub unopened : Docked (dock_known dock) (dock_known dock') (λ told. ReachesNone told addresses → UnlessMemory ending (ending ≡ Err faults.Link))
-  pub cut : Docked (dock_known dock) (dock_known dock') (λ told. Supplies (shelf_known shelf) (shelf_known shelf') (λ files _.
+  pub cut : Docked (dock_known dock) (dock_known dock') (λ told. ShelfSupplies (shelf_known shelf) (shelf_known shelf') (λ files _.
       UnlessMemory ending ((ending ≡ Err faults.Link)
       ↔ (ReachesNone told addresses ⊎ LacksSome (3 * from) (reading files).came told addresses))))
   -- Where each opening finds a link, and one of these takes all datagrams, they have gone at its address, whatever becomes of the
   -- others.
-  pub complete : Tells (dock_known dock) (dock_known dock') (λ before after. (ReachesNone before addresses → ⊥)
-      → Supplies (shelf_known shelf) (shelf_known shelf') (λ files _. (schedule : Plan) (datagrams : List (List ℕ))
+  pub complete : KnownThrough (dock_known dock) (dock_known dock') (λ before after. (ReachesNone before addresses → ⊥)
+      → ShelfSupplies (shelf_known shelf) (shelf_known shelf') (λ files _. (schedule : Plan) (datagrams : List (List ℕ))
       → (reading files).came ≡ Ok schedule → AreDatagrams schedule (3 * from) datagrams
-      → (k : ℕ) (at : Address) (start : LinkStart) → k < length addresses → Finds before k (slice_index_or addresses k at) start
+      → (k : ℕ) (at : Address) (start : LinkStart) → k < length addresses → OpeningFinds before k (slice_index_or addresses k at) start
       → TakesSends start.sends (length datagrams)
       → UnlessMemory ending (map.get after.gone (address_key (slice_index_or addresses k at)) ≡ Some datagrams)))
   -- Where each takes them the run is done.
-  pub done : Docked (dock_known dock) (dock_known dock') (λ told. Supplies (shelf_known shelf) (shelf_known shelf') (λ files _.
+  pub done : Docked (dock_known dock) (dock_known dock') (λ told. ShelfSupplies (shelf_known shelf) (shelf_known shelf') (λ files _.
       (schedule : Plan) (datagrams : List (List ℕ)) → (reading files).came ≡ Ok schedule → AreDatagrams schedule (3 * from) datagrams
       → TakeAll told addresses (length datagrams) → UnlessMemory ending (ending ≡ Ok tt)))
   -- After a run that is done the same has gone at each address.
-  pub alike : ending ≡ Ok tt → Tells (dock_known dock) (dock_known dock') (λ _ after. (j k : ℕ) (at : Address) → j < length addresses → k < length addresses
+  pub alike : ending ≡ Ok tt → KnownThrough (dock_known dock) (dock_known dock') (λ _ after. (j k : ℕ) (at : Address) → j < length addresses → k < length addresses
       → map.get after.gone (address_key (slice_index_or addresses j at)) ≡ map.get after.gone (address_key (slice_index_or addresses k at)))
   -- Unless a link failed it is refused exactly where its files are, with the line and the reason; a load fails exactly where
   -- one is to fail.
   pub exactly : (ending ≡ Err faults.Link → ⊥)
-      → Supplies (shelf_known shelf) (shelf_known shelf') (λ files _. UnlessMemory ending (EndsBy faults.Link (reading files).came ending))
+      → ShelfSupplies (shelf_known shelf) (shelf_known shelf') (λ files _. UnlessMemory ending (EndsBy faults.Link (reading files).came ending))
   -- The dock's count of faults rose, by one, only where an opening ended the run, and that of the shelf exactly where a load did.
   pub dock_cause : OpeningFailed (dock_known dock) (dock_known dock') (ending ≡ Err faults.Link)
   pub read_cause : HasCause (shelf_known shelf) (shelf_known shelf') (ending ≡ Err faults.Read)

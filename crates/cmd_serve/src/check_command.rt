@@ -4,8 +4,8 @@ ghost use Rattle.std.specs.Prelude.{◌≡◌, IsErrOf};
 ghost use Rattle.cmd_serve.specs.Check.{CheckRun};
 
 use cmd_faults::Fault;
-use drm_links::{Shelf, Sink, write_all};
 use cmd_load::read_schedule;
+use drm_links::{Shelf, Sink, write_all};
 use drm_plan::write_plan;
 use std::alloc::Global;
 

@@ -1,7 +1,7 @@
 //! The command `serve` with live streams.
 
 ghost use Rattle.std.specs.Prelude.{◌≡◌, ◌≤◌, length, IsErrOf};
-ghost use Rattle.drm_links.specs.Told.{HasCause, WhileTold};
+ghost use Rattle.drm_links.specs.Told.{HasCause, IfBothKnown};
 ghost use Rattle.drm_links.specs.Dock.{AreDifferent};
 ghost use Rattle.link_group.specs.Reaching.{AreUp, NothingSent};
 ghost use Rattle.cmd_faults.specs.Causes.{OneFailed, OpeningFailed};
@@ -9,13 +9,13 @@ ghost use Rattle.cmd_serve.specs.Live.{LiveServeRun, LiveSendRun};
 ghost use Rattle.cmd_serve.specs.OverLiveLinks.{OverLiveLinks};
 
 use cmd_faults::Fault;
-use drm_links::{Addresses, Dock, Link, Shelf, Sink, Source};
 use cmd_load::read_schedule;
+use drm_links::{Addresses, Dock, Link, Shelf, Sink, Source};
 use drm_schedule::Live;
 use drm_server::{Server, first_ones_are_front, one_delivery};
+use link_group::{Member, ReachFault, all_up, close_each, reach_each};
 use live_server::{piece_room, serve_live_links, serve_live_sink};
 use live_streams::input_makes_a_schedule;
-use link_group::{Member, ReachFault, all_up, close_each, reach_each};
 use std::alloc::Global;
 
 /// Reads a schedule, and writes its datagrams from super frame `from` on as a capture, where the live streams take their bytes from
@@ -61,7 +61,7 @@ pub fn send_live<S: Shelf, I: Source, D: Dock>(
     input: &mut I,
     dock: &mut D,
 ) -> Result<bool, Fault>
-    requires some { 1 ≤ length to.now }
+    requires at_least_one { 1 ≤ length to.now }
     requires different { AreDifferent to.now }
     requires from { from ≤ 1000000 }
     ensures run { LiveSendRun name.now to.now pace from live.now result S.known shelf.old shelf.new
@@ -69,7 +69,7 @@ pub fn send_live<S: Shelf, I: Source, D: Dock>(
     // After want of memory nothing was read or sent. The words were judged before, and nothing is written.
     ensures memory { IsErrOf result Fault.NoMemory → input.new ≡ input.old }
     ensures unsent { IsErrOf result Fault.NoMemory
-        → WhileTold (D.known dock.old) (D.known dock.new) NothingSent }
+        → IfBothKnown (D.known dock.old) (D.known dock.new) NothingSent }
     // A failed link is told before a failed read of input.
     ensures read { (IsErrOf result Fault.Link → ⊥) → OneFailed (I.known input.old) (I.known input.new)
         (S.known shelf.old) (S.known shelf.new) (IsErrOf result Fault.Read) }
@@ -104,11 +104,11 @@ fn send_live_over<S: Shelf, I: Source, L: Link>(
     members: &mut [Member<L>],
 ) -> Result<bool, Fault>
     requires from { from ≤ 1000000 }
-    requires some { 1 ≤ length members.old }
+    requires at_least_one { 1 ≤ length members.old }
     requires up { AreUp members.old }
     ensures run { OverLiveLinks name.now pace from live.now result S.known shelf.old shelf.new
         (I.known input.old) (I.known input.new) L.known members.old members.new }
-    ensures many { length members.new ≡ length members.old }
+    ensures same_count { length members.new ≡ length members.old }
     ensures memory { IsErrOf result Fault.NoMemory → input.new ≡ input.old }
     ensures words { IsErrOf result Fault.Words → ⊥ }
     ensures write { IsErrOf result Fault.Write → ⊥ }

@@ -1,7 +1,7 @@
 //! The command `serve` to addresses.
 
 ghost use Rattle.std.specs.Prelude.{◌≤◌, length, IsErrOf};
-ghost use Rattle.drm_links.specs.Told.{WhileTold};
+ghost use Rattle.drm_links.specs.Told.{IfBothKnown};
 ghost use Rattle.drm_links.specs.Dock.{AreDifferent};
 ghost use Rattle.link_group.specs.Reaching.{AreUp, NothingSent};
 ghost use Rattle.cmd_load.specs.Schedule.{schedule_named};
@@ -9,8 +9,8 @@ ghost use Rattle.cmd_serve.specs.Send.{SendRun};
 ghost use Rattle.cmd_serve.specs.OverLinks.{OverLinks};
 
 use cmd_faults::Fault;
-use drm_links::{Addresses, Dock, Link, Shelf};
 use cmd_load::read_schedule;
+use drm_links::{Addresses, Dock, Link, Shelf};
 use drm_server::{Server, first_ones_are_front, one_delivery, serve_links};
 use link_group::{Member, ReachFault, all_up, close_each, reach_each};
 use std::alloc::Global;
@@ -32,7 +32,7 @@ pub fn send<S: Shelf, D: Dock>(
         D.known dock.old dock.new }
     // After want of memory nothing was sent. The words were judged before, and nothing is written.
     ensures unsent { IsErrOf result Fault.NoMemory
-        → WhileTold (D.known dock.old) (D.known dock.new) NothingSent }
+        → IfBothKnown (D.known dock.old) (D.known dock.new) NothingSent }
     ensures words { IsErrOf result Fault.Words → ⊥ }
     ensures write { IsErrOf result Fault.Write → ⊥ }
 {

@@ -4,8 +4,8 @@ ghost use Rattle.std.specs.Prelude.{◌≡◌, ◌≤◌, IsErrOf};
 ghost use Rattle.cmd_serve.specs.Serve.{ServeRun};
 
 use cmd_faults::Fault;
-use drm_links::{Shelf, Sink};
 use cmd_load::read_schedule;
+use drm_links::{Shelf, Sink};
 use drm_server::{Server, serve_sink};
 use std::alloc::Global;
 

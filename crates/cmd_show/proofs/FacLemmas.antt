@@ -15,7 +15,7 @@ use Rattle.cmd_faults.specs.declared.fault.Fault.TheVariants.{NoMemory, Words, F
 use Rattle.cmd_show.specs.Input.{ReadsHead, FailsWithin}
 use Rattle.report_text.specs.FacLine.{fac_line}
 use Rattle.cmd_faults.specs.Fault.{status_of}
-use Rattle.cmd_show.specs.Fac.{ComesTo, Reads, WritesCame, FacRun}
+use Rattle.cmd_show.specs.Fac.{ComesTo, ReadsFac, WritesCame, FacRun}
 
 -- bytes come to one FAC or one fault
 pub comes_once : (bytes : List ℕ) (v w : Result Fac Fault) → ComesTo bytes v → ComesTo bytes w → v ≡ w
@@ -127,7 +127,7 @@ judged came a b head reads is =
     (λ left rest p. comes_whole left came (along came head (take 10 left) p.0 is))
 
 -- the input comes to what was read
-pub comes : (came : Result Fac Fault) (a b : Known Input) → (came ≡ Err Read → ⊥) → Reads came a b → Inputs a b (λ left rest. ComesTo left came)
+pub comes : (came : Result Fac Fault) (a b : Known Input) → (came ≡ Err Read → ⊥) → ReadsFac came a b → Inputs a b (λ left rest. ComesTo left came)
 comes (Err Read) a b no_fault reads = absurd (no_fault refl)
 comes (Ok f) a b no_fault (head, reads, is) = judged (Ok f) a b head reads is
 comes (Err NoMemory) a b no_fault (head, reads, is) = judged (Err NoMemory) a b head reads is
@@ -161,11 +161,11 @@ is_read (Err CaptureTooLong) = inr (λ e. cc)
 is_read (Err (PacketSize p)) = inr (λ e. cc)
 is_read (Err (Units p)) = inr (λ e. cc)
 
-failed_within : (came : Result Fac Fault) (a b : Known Input) → came ≡ Err Read → Reads came a b → (taken : ℕ) × FailsWithin taken a b
-failed_within came a b is reads = let P : Result Fac Fault → Type 0 = λ v. Reads v a b in subst P is reads
+failed_within : (came : Result Fac Fault) (a b : Known Input) → came ≡ Err Read → ReadsFac came a b → (taken : ℕ) × FailsWithin taken a b
+failed_within came a b is reads = let P : Result Fac Fault → Type 0 = λ v. ReadsFac v a b in subst P is reads
 
 -- the input comes to nothing but what was read
-pub comes_only : (came : Result Fac Fault) (a b : Known Input) → Reads came a b → Inputs a b (λ left rest. (other : Result Fac Fault) → ComesTo left other → (came ≡ other) ⊎ (came ≡ Err Read))
+pub comes_only : (came : Result Fac Fault) (a b : Known Input) → ReadsFac came a b → Inputs a b (λ left rest. (other : Result Fac Fault) → ComesTo left other → (came ≡ other) ⊎ (came ≡ Err Read))
 comes_only came a b reads =
     let Only : List ℕ → List ℕ → Type 0 = λ left rest. (other : Result Fac Fault) → ComesTo left other → (came ≡ other) ⊎ (came ≡ Err Read) in
     elim (is_read came) [
@@ -213,7 +213,7 @@ three_exactly (Err (Units p)) ending known out out' left writes comes = absurd c
 
 -- status 3 comes exactly where the input is no FAC
 run_refused : {O : Type 0} (came : Result Fac Fault) (ending : Result (Unit {0}) Fault) (a b : Known Input) (out_known : O → Known Output) (out out' : O)
-    → Reads came a b → WritesCame came ending out_known out out' → (status_of ending ≡ 4 → ⊥)
+    → ReadsFac came a b → WritesCame came ending out_known out out' → (status_of ending ≡ 4 → ⊥)
     → Inputs a b (λ left rest. (status_of ending ≡ 3) ↔ ((fac : Fac) → IsFac fac left → ⊥))
 run_refused came ending a b out_known out out' reads writes none =
     Inputs-weaker (λ left rest. ComesTo left came) (λ left rest. (status_of ending ≡ 3) ↔ ((fac : Fac) → IsFac fac left → ⊥)) a b
@@ -239,7 +239,7 @@ printed fac (Err Read) known out out' writes none = absurd writes
 
 -- where neither side failed a FAC is printed
 run_complete : {O : Type 0} (came : Result Fac Fault) (ending : Result (Unit {0}) Fault) (a b : Known Input) (out_known : O → Known Output) (out out' : O)
-    → Reads came a b → WritesCame came ending out_known out out' → (ending ≡ Err Read → HasFailed a b) → (ending ≡ Err Write → HasFailed (out_known out) (out_known out'))
+    → ReadsFac came a b → WritesCame came ending out_known out out' → (ending ≡ Err Read → HasFailed a b) → (ending ≡ Err Write → HasFailed (out_known out) (out_known out'))
     → (HasFailed a b → ⊥) → (HasFailed (out_known out) (out_known out') → ⊥)
     → Inputs a b (λ left rest. (fac : Fac) → IsFac fac left → (ending ≡ Ok tt) × Outputs (out_known out) (out_known out') (λ text. text ≡ fac_line fac))
 run_complete came ending a b out_known out out' reads writes read_failed write_failed no_read no_write =
@@ -258,12 +258,12 @@ run_complete came ending a b out_known out out' reads writes read_failed write_f
 -- ---- runs
 
 -- no reading ends with the fault of a write
-no_write : (a b : Known Input) → Reads (Err Write) a b → ⊥
+no_write : (a b : Known Input) → ReadsFac (Err Write) a b → ⊥
 no_write a b (head, reads, is) = is
 
 -- a run, by what was read and what was written
 run_by : {I O : Type 0} (came : Result Fac Fault) (ending : Result (Unit {0}) Fault) (input_known : I → Known Input) (input input' : I) (out_known : O → Known Output) (out out' : O)
-    → Reads came (input_known input) (input_known input') → WritesCame came ending out_known out out'
+    → ReadsFac came (input_known input) (input_known input') → WritesCame came ending out_known out out'
     → HasCause (input_known input) (input_known input') (ending ≡ Err Read) → HasCause (out_known out) (out_known out') (ending ≡ Err Write)
     → FacRun ending input_known input input' out_known out out'
 run_by came ending input_known input input' out_known out out' reads writes read_cause write_cause = record {
@@ -282,7 +282,7 @@ refused fault = Err fault
 
 -- nothing is written where nothing was read
 pub run_stopped : {I O : Type 0} (fault : Fault) (ending : Result (Unit {0}) Fault) (input_known : I → Known Input) (input input' : I) (out_known : O → Known Output) (out : O)
-    → ending ≡ Err fault → Reads (Err fault) (input_known input) (input_known input')
+    → ending ≡ Err fault → ReadsFac (Err fault) (input_known input) (input_known input')
     → HasCause (input_known input) (input_known input') (refused fault ≡ Err Read)
     → FacRun ending input_known input input' out_known out out
 run_stopped fault ending input_known input input' out_known out is reads cause =
@@ -291,13 +291,13 @@ run_stopped fault ending input_known input input' out_known out is reads cause =
     (counts_none
     (λ e.
     let same : fault ≡ Write = cc in
-    let P : Fault → Type 0 = λ f. Reads (Err f) (input_known input) (input_known input') in
+    let P : Fault → Type 0 = λ f. ReadsFac (Err f) (input_known input) (input_known input') in
     no_write (input_known input) (input_known input') (subst P same reads))
     refl)
 
 -- a write failed
 pub run_cut : {I O : Type 0} (fac : Fac) (ending : Result (Unit {0}) Fault) (input_known : I → Known Input) (input input' : I) (out_known : O → Known Output) (out out' : O)
-    → ending ≡ Err Write → Reads (Ok fac) (input_known input) (input_known input') → (input_known input').faults ≡ (input_known input).faults
+    → ending ≡ Err Write → ReadsFac (Ok fac) (input_known input) (input_known input') → (input_known input').faults ≡ (input_known input).faults
     → Outputs (out_known out) (out_known out') (IsFront (fac_line fac)) → HasFailed (out_known out) (out_known out')
     → FacRun ending input_known input input' out_known out out'
 run_cut fac ending input_known input input' out_known out out' is reads same front failed =
@@ -307,7 +307,7 @@ run_cut fac ending input_known input input' out_known out out' is reads same fro
 
 -- the line was written
 pub run_done : {I O : Type 0} (fac : Fac) (input_known : I → Known Input) (input input' : I) (out_known : O → Known Output) (out out' : O)
-    → Reads (Ok fac) (input_known input) (input_known input') → (input_known input').faults ≡ (input_known input).faults
+    → ReadsFac (Ok fac) (input_known input) (input_known input') → (input_known input').faults ≡ (input_known input).faults
     → Outputs (out_known out) (out_known out') (λ text. text ≡ fac_line fac) → (out_known out').faults ≡ (out_known out).faults
     → FacRun (Ok tt) input_known input input' out_known out out'
 run_done fac input_known input input' out_known out out' reads same whole same' =
@@ -325,7 +325,7 @@ run_ends ending input_known input input' out_known out out' run = (
     along_ending : (fault : Fault) → ending ≡ Err fault → WritesCame run.came (Err fault) out_known out out'
     along_ending fault is = let P : Result (Unit {0}) Fault → Type 0 = λ e. WritesCame run.came e out_known out out' in subst P is run.writes
 
-    ended : {O : Type 0} (came : Result Fac Fault) (fault : Fault) (known : O → Known Output) (out out' : O) → WritesCame came (Err fault) known out out' → Reads came (input_known input) (input_known input') → (fault ≡ Write → ⊥) → (Reads (Err fault) (input_known input) (input_known input') → ⊥) → ⊥
+    ended : {O : Type 0} (came : Result Fac Fault) (fault : Fault) (known : O → Known Output) (out out' : O) → WritesCame came (Err fault) known out out' → ReadsFac came (input_known input) (input_known input') → (fault ≡ Write → ⊥) → (ReadsFac (Err fault) (input_known input) (input_known input') → ⊥) → ⊥
     ended (Ok fac) Words known out out' writes reads no_write none = writes
     ended (Ok fac) NoMemory known out out' writes reads no_write none = writes
     ended (Ok fac) Link known out out' writes reads no_write none = writes
@@ -342,5 +342,5 @@ run_ends ending input_known input input' out_known out out' run = (
     ended (Ok fac) Write known out out' writes reads no_write none = no_write refl
     ended (Err other) fault known out out' writes reads no_write none =
         let same : other ≡ fault = cc in
-        let P : Fault → Type 0 = λ f. Reads (Err f) (input_known input) (input_known input') in
+        let P : Fault → Type 0 = λ f. ReadsFac (Err f) (input_known input) (input_known input') in
         none (subst P same reads)

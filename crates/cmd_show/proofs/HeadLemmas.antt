@@ -5,8 +5,8 @@ use Rattle.std.proofs.lemmas.List.{append-nil, take-append-le, length-take-le, t
 use Rattle.std.proofs.Math.Seq.{take-append-add}
 use borrow.Rule.Slice.PartMut.{put_mid, post_of}
 use Rattle.drm_links.specs.declared.source.ReadOut.TheVariants.{Got, End}
-use Rattle.drm_links.specs.Told.{Known, WhileTold, CountsCall, CountsTold, ToldThrough}
-use Rattle.drm_links.specs.Source.{Input, Inputs, Takes}
+use Rattle.drm_links.specs.Told.{Known, IfBothKnown, CountsCall, CountsTold, Throughout}
+use Rattle.drm_links.specs.Source.{Input, Inputs, SourceTakes}
 use Rattle.drm_links.proofs.ToldLemmas.{Inputs-then, Inputs-got, Inputs-end, Inputs-weaker, Tells-weaker}
 use Rattle.cmd_show.specs.Input.{ReadsHead, AsksAtMost, AskedAtMost}
 
@@ -17,7 +17,7 @@ front_more len n room bytes buf size within =
     ap (λ k. take (k + n) (put_mid len room bytes buf)) (sym front)
     ∙ (take-append-add (take len bytes) (buf ++ post_of len room bytes) n ∙ ap (λ l. take len bytes ++ l) (take-append-le n buf (post_of len room bytes) within))
 
-pub got_more : (a b c : Known Input) (len n room : ℕ) (bytes buf : List ℕ) → length bytes ≡ len + room → 0 < n → n ≤ length buf → c.faults ≡ b.faults → Inputs a b (λ left rest. left ≡ take len bytes ++ rest) → WhileTold b c (Takes (Got n) buf) → CountsCall (λ (i : Input). i.calls) b c → Inputs a c (λ left rest. left ≡ take (len + n) (put_mid len room bytes buf) ++ rest)
+pub got_more : (a b c : Known Input) (len n room : ℕ) (bytes buf : List ℕ) → length bytes ≡ len + room → 0 < n → n ≤ length buf → c.faults ≡ b.faults → Inputs a b (λ left rest. left ≡ take len bytes ++ rest) → IfBothKnown b c (SourceTakes (Got n) buf) → CountsCall (λ (i : Input). i.calls) b c → Inputs a c (λ left rest. left ≡ take (len + n) (put_mid len room bytes buf) ++ rest)
 got_more a b c len n room bytes buf size some within still before told counts =
     Inputs-then (λ left rest. left ≡ take len bytes ++ rest) (λ left rest. left ≡ take n buf ++ rest) (λ left rest. left ≡ take (len + n) (put_mid len room bytes buf) ++ rest) a b c before (Inputs-got n buf b c some within still told counts)
     (λ x y z p q. p ∙ (ap (λ l. take len bytes ++ l) q ∙ (sym (append_assoc (take len bytes) (take n buf) z) ∙ ap (λ l. l ++ z) (sym (front_more len n room bytes buf size within)))))
@@ -26,7 +26,7 @@ got_more a b c len n room bytes buf size some within still before told counts =
 pub asks_more : (m n : ℕ) (a b c : Known Input) → m < n → AsksAtMost m a b → CountsCall (λ (i : Input). i.calls) b c → AsksAtMost n a c
 asks_more m n a b c more = asked a.told b.told c.told
   where
-    asked : (a b c : Option Input) → ToldThrough a b (AskedAtMost m) → CountsTold (λ (i : Input). i.calls) b c → ToldThrough a c (AskedAtMost n)
+    asked : (a b c : Option Input) → Throughout a b (AskedAtMost m) → CountsTold (λ (i : Input). i.calls) b c → Throughout a c (AskedAtMost n)
     asked a b None asks counts = tt
     asked a None (Some z) asks counts = cc
     asked None (Some y) (Some z) asks counts = absurd asks
@@ -53,7 +53,7 @@ whole_left : (head left : List ℕ) → length head ≤ 10 → left ≡ head →
 whole_left head left within is = (sym (take_all 10 left (omega (arith, ap length is, within)) ∙ is), grind (arith, common_steps, ap length is, within))
 
 -- the input has ended
-pub head_end : (a b c : Known Input) (len : ℕ) (bytes buf : List ℕ) → length bytes ≡ 10 → len < 10 → Inputs a b (λ left rest. left ≡ take len bytes ++ rest) → AsksAtMost len a b → c.faults ≡ b.faults → WhileTold b c (Takes End buf) → CountsCall (λ (i : Input). i.calls) b c → ReadsHead (take len bytes) a c
+pub head_end : (a b c : Known Input) (len : ℕ) (bytes buf : List ℕ) → length bytes ≡ 10 → len < 10 → Inputs a b (λ left rest. left ≡ take len bytes ++ rest) → AsksAtMost len a b → c.faults ≡ b.faults → IfBothKnown b c (SourceTakes End buf) → CountsCall (λ (i : Input). i.calls) b c → ReadsHead (take len bytes) a c
 head_end a b c len bytes buf size within before asks still told counts =
     let some : length (take len bytes) ≡ len = length-take-le len bytes (omega (arith, size, within)) in
     let P : List ℕ → List ℕ → Type 0 = λ left rest. (take len bytes ≡ take 10 left) × (rest ≡ drop 10 left) in

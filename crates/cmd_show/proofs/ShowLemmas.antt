@@ -5,7 +5,7 @@ use Rattle.std.specs.List.{concat}
 use Rattle.std.proofs.lemmas.List.{append-nil}
 use Rattle.std.proofs.lemmas.List.Folds.{concat-append, list_all-append}
 use Rattle.std.proofs.lemmas.Grind.{flat_map-append}
-use Rattle.drm_links.specs.Told.{Known, HasCause, Counts}
+use Rattle.drm_links.specs.Told.{Known, HasCause, RisesWhere}
 use Rattle.drm_links.specs.Source.{Input, Inputs}
 use Rattle.drm_links.specs.Sink.{Output, Outputs, IsFront, IsFrontBehind}
 use Rattle.drm_links.proofs.ToldLemmas.{counts_as, counts_none, Inputs-nothing, Inputs-weaker, Outputs-nothing, Outputs-then, Outputs-weaker}
@@ -16,10 +16,10 @@ use Rattle.capture_reader.specs.Capture as capture
 use Rattle.capture_reader.specs.Front.{IsWhole}
 use Rattle.capture_reader.specs.Laws.{ReadOneWay}
 use Rattle.capture_reader.specs.Walking.{WalkerState, new_walker}
-use Rattle.capture_reader.specs.Reading.{HasRead, Stops}
+use Rattle.capture_reader.specs.Reading.{HasRead, ReadingStops}
 use Rattle.report_dump.specs.declared.packet.ShowFault.{ShowFault}
 use Rattle.report_dump.specs.Text.{IsPacketText}
-use Rattle.report_dump.specs.Shown.{Shows}
+use Rattle.report_dump.specs.Shown.{ShowsPacket}
 use Rattle.report_dump.specs.Laws.{HasOneText}
 use Rattle.report_dump.specs.Lines.{end_packets_line}
 use Rattle.cmd_faults.specs.Fault.{UnlessMemory}
@@ -27,7 +27,7 @@ use Rattle.cmd_faults.specs.declared.fault.Fault.{Fault}
 use Rattle.cmd_faults.specs.declared.fault.Fault.TheVariants as faults
 use Rattle.cmd_faults.specs.Captures.{EndsEarly, stop_fault}
 use Rattle.cmd_faults.proofs.CauseLemmas.{inner_fault}
-use Rattle.cmd_show.specs.Show.{PacketText, AreTexts, all_texts, capture_text, are_clean, IsShown, Ends, IsWholeText, IsFrontOfText, IsSound, EndsByIt, ShowRun}
+use Rattle.cmd_show.specs.Show.{PacketText, AreTexts, all_texts, capture_text, are_clean, IsShown, ShowEnds, IsWholeText, IsFrontOfText, IsSound, EndsByIt, ShowRun}
 
 -- ---- texts one after another
 
@@ -114,7 +114,7 @@ pub record ShowsNext (reader : WalkerState) (before after : Known Input) (a b : 
 
 pub shows_next : {old whole reader : WalkerState} {before then after : Known Input} {a b d : Known Output} {at count bytes : ℕ} {clean : Bool} {packet : List ℕ} {result : Result Bool ShowFault}
     (has : HasShown old before then a b count bytes clean) → HasRead has.packets whole before after → HasRead (has.packets ++ packet ∷ []) reader before after → at ≡ whole.at
-    → (shown : Shows result b d at packet) → ShowsNext reader before after a b count bytes clean packet shown.text shown.bad
+    → (shown : ShowsPacket result b d at packet) → ShowsNext reader before after a b count bytes clean packet shown.text shown.bad
 shows_next {whole = whole} {packet = packet} has read more here shown =
     record { whole = whole; has = still_shown has read; more = more; is = subst (λ k. IsPacketText k packet shown.text shown.bad) (here ∙ read.at) shown.is }
 
@@ -143,7 +143,7 @@ shown_more reader before after a b d count bytes clean packet text bad next wrot
 
 -- What is read and written at the end, and that it is a text whatever was read.
 pub record HasEnded (ending : Result Bool Fault) (before after : Known Input) (out out' : Known Output) : Type 0 where
-  pub ends : Ends ending before after out out'
+  pub ends : ShowEnds ending before after out out'
   pub sound : IsSound ending out out'
 
 front_of_text : (packets : List (List ℕ)) (texts : List PacketText) (text : List ℕ) → All IsWhole packets → AreTexts 0 packets texts → IsFront (capture_text packets texts) text → IsFrontOfText text
@@ -162,7 +162,7 @@ module _ (o now : Known Output) (reader : WalkerState) (before after : Known Inp
       Outputs-weaker (λ t. t ≡ all_texts has.texts) IsFrontOfText o now has.wrote
       (λ t is. front_of_text has.packets has.texts t has.read.whole has.are (end_packets_line (length has.packets) (length (concat has.packets)), ap (λ l. l ++ end_packets_line (length has.packets) (length (concat has.packets))) (sym is)))
 
-  pub stopped : (stop : CaptureStop) (later : Known Input) → Stops has.packets stop before later → HasEnded (Err (stop_fault stop)) before later o now
+  pub stopped : (stop : CaptureStop) (later : Known Input) → ReadingStops has.packets stop before later → HasEnded (Err (stop_fault stop)) before later o now
   stopped stops.Read later is = record { ends = (has.packets, has.texts, has.are, has.read.whole, is, has.wrote); sound = front_so_far }
   stopped (stops.Capture fault) later is = record { ends = (has.packets, has.texts, has.are, has.read.whole, is, has.wrote); sound = front_so_far }
   stopped stops.TooLong later is = record { ends = (has.packets, has.texts, has.are, has.read.whole, is, has.wrote); sound = front_so_far }
@@ -240,7 +240,7 @@ module _ {I O : Type 0} (one_way : ReadOneWay) (one_text : HasOneText) (input_kn
   as_they_end : (ending : Result Bool Fault) (is : capture.Ending) (packets : List (List ℕ)) (left : List ℕ) → EndsByIt ending is → capture.IsCaptureOf left packets is → Exactly ending left
   as_they_end ending is packets left by of = inr (λ why others read. subst (EndsByIt ending) (one_way left packets others is why of read).1 by)
 
-  ends_exactly : (ending : Result Bool Fault) → (ending ≡ Err faults.Read → ⊥) → (ending ≡ Err faults.Write → ⊥) → Ends ending i i' o o' → Inputs i i' (λ left _. Exactly ending left)
+  ends_exactly : (ending : Result Bool Fault) → (ending ≡ Err faults.Read → ⊥) → (ending ≡ Err faults.Write → ⊥) → ShowEnds ending i i' o o' → Inputs i i' (λ left _. Exactly ending left)
   ends_exactly (Ok clean) no_read no_write (packets, texts, are, is, wrote, same) =
       Inputs-weaker (λ left _. capture.IsCaptureOf left packets capture.End) (λ left _. Exactly (Ok clean) left) i i' is (λ left rest of. as_they_end (Ok clean) capture.End packets left (clean, refl) of)
   ends_exactly (Err faults.NoMemory) no_read no_write (same, none) = unread (λ left _. Exactly (Err faults.NoMemory) left) same (λ left. inl refl)
@@ -281,7 +281,7 @@ module _ {I O : Type 0} (one_way : ReadOneWay) (one_text : HasOneText) (input_kn
   not_faulty : (left : List ℕ) (packets : List (List ℕ)) (texts : List PacketText) → IsShown left capture.End packets texts → (why : capture.Ending) (others : List (List ℕ)) → capture.IsCaptureOf left others why → capture.End ≡ why
   not_faulty left packets texts shown why others is = (one_way left packets others capture.End why shown.is is).1
 
-  completes : (ending : Result Bool Fault) → (ending ≡ Err faults.Read → ⊥) → (ending ≡ Err faults.Write → ⊥) → Ends ending i i' o o' → Inputs i i' (λ left _. Complete ending left)
+  completes : (ending : Result Bool Fault) → (ending ≡ Err faults.Read → ⊥) → (ending ≡ Err faults.Write → ⊥) → ShowEnds ending i i' o o' → Inputs i i' (λ left _. Complete ending left)
   completes (Ok clean) no_read no_write (others, other_texts, are, is, wrote, same) =
       Inputs-weaker (λ left _. capture.IsCaptureOf left others capture.End) (λ left _. Complete (Ok clean) left) i i' is
       (λ left rest also packets texts shown. inr (is_wanted left packets texts shown clean others other_texts also are wrote same))
@@ -348,12 +348,12 @@ stop_is_read (stops.Capture f) is = absurd (let x = inner_fault _ _ is in cc)
 stop_is_read stops.TooLong is = absurd (let x = inner_fault _ _ is in cc)
 
 -- the run ends by a failed read exactly where the reading does
-pub stopped_counts : {a b : ℕ} {result : Result Bool CaptureStop} {stop : CaptureStop} → result ≡ Err stop → Counts a b (result ≡ Err stops.Read) → Counts a b (of_fault (stop_fault stop) ≡ of_fault faults.Read)
+pub stopped_counts : {a b : ℕ} {result : Result Bool CaptureStop} {stop : CaptureStop} → result ≡ Err stop → RisesWhere a b (result ≡ Err stops.Read) → RisesWhere a b (of_fault (stop_fault stop) ≡ of_fault faults.Read)
 stopped_counts {stop = stop} was counts =
     counts_as (λ is. was ∙ ap Err (stop_is_read stop is)) (λ is. let same : stop ≡ stops.Read = cc in ap (λ s. of_fault (stop_fault s)) same) counts
 
 -- no read failed where the reading came on
-pub found_counts : {a b : ℕ} {result : Result Bool CaptureStop} {found : Bool} → result ≡ Ok found → Counts a b (result ≡ Err stops.Read) → b ≡ a
+pub found_counts : {a b : ℕ} {result : Result Bool CaptureStop} {found : Bool} → result ≡ Ok found → RisesWhere a b (result ≡ Err stops.Read) → b ≡ a
 found_counts is counts = counts.same (λ failed. cc)
 
 pub write_no_memory : of_fault faults.Write ≡ of_fault faults.NoMemory → ⊥

@@ -21,9 +21,9 @@ ComesTo bytes (Err (FacCrc stands computed)) = IsCrcFault bytes stands computed
 ComesTo bytes (Err fault) = ⊥
 
 -- What is read: unless a read fails, a head of the input, and what it comes to.
-abbrev pub Reads : Result Fac Fault → Known Input → Known Input → Type 0
-Reads (Err Read) before after = (taken : ℕ) × FailsWithin taken before after
-Reads came before after = (head : List ℕ) × ReadsHead head before after × ComesTo head came
+abbrev pub ReadsFac : Result Fac Fault → Known Input → Known Input → Type 0
+ReadsFac (Err Read) before after = (taken : ℕ) × FailsWithin taken before after
+ReadsFac came before after = (head : List ℕ) × ReadsHead head before after × ComesTo head came
 
 -- What out gets: the line of the FAC that was read, or after a failed write a front of it; after another fault nothing.
 abbrev pub WritesCame : {O : Type 0} → Result Fac Fault → Result (Unit {0}) Fault → (O → Known Output) → O → O → Type 0
@@ -37,7 +37,7 @@ pub record FacRun {I O : Type 0} (ending : Result (Unit {0}) Fault)
     (input_known : I → Known Input) (input input' : I)
     (out_known : O → Known Output) (out out' : O) : Type 0 where
   pub came : Result Fac Fault
-  pub reads : Reads came (input_known input) (input_known input')
+  pub reads : ReadsFac came (input_known input) (input_known input')
   pub writes : WritesCame came ending out_known out out'
   -- What the input comes to is what was read, unless a read failed.
   pub only : Inputs (input_known input) (input_known input') (λ left rest. (other : Result Fac Fault) → ComesTo left other → (came ≡ other) ⊎ (came ≡ Err Read))

@@ -1,6 +1,6 @@
 -- The front of an input.
 use Rattle.std.specs.Prelude.{ℕ, ◌≡◌, ◌+◌, ◌<◌, ◌≤◌, List, length, take, drop, min}
-use Rattle.drm_links.specs.Told.{Known, Tells}
+use Rattle.drm_links.specs.Told.{Known, KnownThrough}
 use Rattle.drm_links.specs.Source.{Input, Inputs}
 
 -- it was asked n times at the most
@@ -9,7 +9,7 @@ AskedAtMost n before after = after.calls ≤ before.calls + n
 
 -- where a source tells at the end, it told before, and was asked n times at the most
 abbrev pub AsksAtMost : ℕ → Known Input → Known Input → Type 0
-AsksAtMost n before after = Tells before after (AskedAtMost n)
+AsksAtMost n before after = KnownThrough before after (AskedAtMost n)
 
 -- The head is the first ten bytes of the input, or all of them, and no other byte was taken. After its last byte the
 -- source is asked once at the most, and after a tenth byte not at all.

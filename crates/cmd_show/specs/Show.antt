@@ -9,7 +9,7 @@ use Rattle.capture_reader.specs.declared.packets.CaptureStop.TheVariants as stop
 use Rattle.capture_reader.specs.Front.{IsWhole}
 use Rattle.capture_reader.specs.Capture as capture
 use Rattle.capture_reader.specs.Walking.{WalkerState}
-use Rattle.capture_reader.specs.Reading.{HasRead, Stops}
+use Rattle.capture_reader.specs.Reading.{HasRead, ReadingStops}
 use Rattle.report_dump.specs.Text.{IsPacketText}
 use Rattle.report_dump.specs.Lines.{end_packets_line}
 use Rattle.cmd_faults.specs.Captures.{EndsEarly}
@@ -56,7 +56,7 @@ WritesAll clean before after out out' =
 abbrev pub WritesUntil : CaptureStop → Known Input → Known Input → Known Output → Known Output → Type 0
 WritesUntil stop before after out out' =
     (packets : List (List ℕ)) × (texts : List PacketText) × AreTexts 0 packets texts
-    × All IsWhole packets × Stops packets stop before after
+    × All IsWhole packets × ReadingStops packets stop before after
     × Outputs out out' (λ text. text ≡ all_texts texts)
 
 -- A write failed. The texts of some packets are written and a front of that of the next one, which is the last that was read; or
@@ -71,14 +71,14 @@ WritesFront before after out out' =
     × Outputs out out' (IsFrontBehind (all_texts texts) (end_packets_line (length packets) (length (concat packets))))))
 
 -- What is read and written; where memory is wanting, nothing.
-abbrev pub Ends : Result Bool Fault → Known Input → Known Input → Known Output → Known Output → Type 0
-Ends (Ok clean) before after out out' = WritesAll clean before after out out'
-Ends (Err faults.Write) before after out out' = WritesFront before after out out'
-Ends (Err faults.Read) before after out out' = WritesUntil stops.Read before after out out'
-Ends (Err (faults.Capture fault)) before after out out' = WritesUntil (stops.Capture fault) before after out out'
-Ends (Err faults.CaptureTooLong) before after out out' = WritesUntil stops.TooLong before after out out'
-Ends (Err faults.NoMemory) before after out out' = (after ≡ before) × (out' ≡ out)
-Ends (Err fault) before after out out' = ⊥
+abbrev pub ShowEnds : Result Bool Fault → Known Input → Known Input → Known Output → Known Output → Type 0
+ShowEnds (Ok clean) before after out out' = WritesAll clean before after out out'
+ShowEnds (Err faults.Write) before after out out' = WritesFront before after out out'
+ShowEnds (Err faults.Read) before after out out' = WritesUntil stops.Read before after out out'
+ShowEnds (Err (faults.Capture fault)) before after out out' = WritesUntil (stops.Capture fault) before after out out'
+ShowEnds (Err faults.CaptureTooLong) before after out out' = WritesUntil stops.TooLong before after out out'
+ShowEnds (Err faults.NoMemory) before after out out' = (after ≡ before) × (out' ≡ out)
+ShowEnds (Err fault) before after out out' = ⊥
 
 -- the whole text of some packets, and whether no line of it says what is wrong
 abbrev pub IsWholeText : Bool → List ℕ → Type 0
@@ -107,7 +107,7 @@ pub record ShowRun {I O : Type 0} (ending : Result Bool Fault)
   -- It ends well, or for want of memory, by a fault of the capture, by a failed read or by a failed write.
   pub kind : (fault : Fault) → ending ≡ Err fault → EndsEarly fault
   -- What is written is the text of the packets that were read. After a failed write no more is read.
-  pub ends : Ends ending (input_known input) (input_known input') (out_known out) (out_known out')
+  pub ends : ShowEnds ending (input_known input) (input_known input') (out_known out) (out_known out')
   -- Whatever the input tells, out got no other text than one that packets have.
   pub sound : IsSound ending (out_known out) (out_known out')
   -- After want of memory nothing was read or written.

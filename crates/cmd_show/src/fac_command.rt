@@ -3,11 +3,11 @@
 ghost use Rattle.std.specs.Prelude.{◌≡◌, IfOk, IsErrOf};
 ghost use Rattle.drm_links.specs.Told.{HasCause};
 ghost use Rattle.drm_fac.specs.Fac.{FacFits};
-ghost use Rattle.cmd_show.specs.Fac.{Reads, FacRun};
+ghost use Rattle.cmd_show.specs.Fac.{ReadsFac, FacRun};
 
 use crate::head::read_head;
-use drm_fac::{Fac, decode};
 use cmd_faults::Fault;
+use drm_fac::{Fac, decode};
 use drm_links::{Sink, Source};
 use report_text::write_fac;
 
@@ -26,7 +26,7 @@ pub fn fac<I: Source, O: Sink>(input: &mut I, out: &mut O) -> Result<(), Fault>
 
 /// Reads a FAC, all the bytes of the input.
 fn read_fac<I: Source>(input: &mut I) -> Result<Fac, Fault>
-    ensures reads { Reads result (I.known input.old) (I.known input.new) }
+    ensures reads { ReadsFac result (I.known input.old) (I.known input.new) }
     ensures fits { IfOk result FacFits }
     ensures cause { HasCause (I.known input.old) (I.known input.new) (result ≡ Err Fault.Read) }
 {

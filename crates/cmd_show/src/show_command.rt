@@ -1,7 +1,7 @@
 //! The command `show`.
 
-ghost use Rattle.report_dump.specs.Content.{Begins};
-ghost use Rattle.report_dump.specs.Shown.{Shows};
+ghost use Rattle.report_dump.specs.Content.{PacketBegins};
+ghost use Rattle.report_dump.specs.Shown.{ShowsPacket};
 ghost use Rattle.cmd_show.specs.Show.{ShowRun};
 
 use capture_reader::{Packet, Packets, read_one_way};
@@ -43,8 +43,8 @@ fn show_packet<O: Sink>(
     packet: &Packet<'_>,
     out: &mut O,
 ) -> Result<bool, ShowFault>
-    requires { Begins packet.now.bytes.now }
-    ensures { Shows result (O.known out.old) (O.known out.new) packet.now.at packet.now.bytes.now }
+    requires { PacketBegins packet.now.bytes.now }
+    ensures { ShowsPacket result (O.known out.old) (O.known out.new) packet.now.at packet.now.bytes.now }
 {
     lines.clear();
     let Ok(bad) = write_packet(alloc, lines, packet) else {

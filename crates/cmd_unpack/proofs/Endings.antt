@@ -19,7 +19,7 @@ use Rattle.cmd_unpack.specs.declared.taker.Taker.{Taker}
 use Rattle.cmd_unpack.specs.Streams.{What}
 use Rattle.cmd_unpack.specs.Lines.{is_clean}
 use Rattle.cmd_unpack.specs.Printed.{IsWholeText}
-use Rattle.cmd_unpack.specs.Run.{WritesAll, WritesFront, Ends, IsDone, DataRun}
+use Rattle.cmd_unpack.specs.Run.{WritesAll, WritesFront, DataEnds, IsDone, DataRun}
 use Rattle.cmd_unpack.specs.Taken.{counts_in, Took, TakesAll, EndsText}
 use Rattle.cmd_unpack.proofs.Printing.{printed}
 use Rattle.cmd_unpack.proofs.Sound.{sound}
@@ -66,7 +66,7 @@ whole_broken terms what taker ended before after a b o result fault all (given, 
 -- ---- when it ends early
 
 -- which faults end it
-fault_can : (terms : Terms) (what : What) (fault : Fault) (before after : Known Input) (a b : Known Output) → Ends terms what (Err fault) before after a b → EndsEarly fault
+fault_can : (terms : Terms) (what : What) (fault : Fault) (before after : Known Input) (a b : Known Output) → DataEnds terms what (Err fault) before after a b → EndsEarly fault
 fault_can terms what faults.NoMemory before after a b ends = tt
 fault_can terms what (faults.Capture fault) before after a b ends = tt
 fault_can terms what faults.CaptureTooLong before after a b ends = tt
@@ -92,12 +92,12 @@ module _ (one_way : ReadOneWay) (in_front : PacketsInFront) (terms : Terms) (wha
       Inputs-weaker (λ left _. BreaksBy terms left why) (Exact ending) before after breaks
       (λ left rest is. inr (λ other. ((λ told. subst (BreaksOffBy terms left) (one other told) is.breaks), (λ broken. subst (EndsByIt ending) (is.only other broken) by))))
 
-  exact : (ending : Result Bool Fault) → Ends terms what ending before after a b → (ending ≡ Err faults.Read → ⊥) → (ending ≡ Err faults.Write → ⊥) → Inputs before after (Exact ending)
+  exact : (ending : Result Bool Fault) → DataEnds terms what ending before after a b → (ending ≡ Err faults.Read → ⊥) → (ending ≡ Err faults.Write → ⊥) → Inputs before after (Exact ending)
   exact (Ok clean) (given, gives, items, are, text, printed, out) no_read no_write =
       Inputs-weaker (λ left _. (why : capture.Ending) → BreaksOffBy terms left why → ⊥) (Exact (Ok clean)) before after (all_unbroken one_way in_front terms given before after gives)
       (λ left more unbroken. inr (λ why. ((λ told. absurd (none_by clean why told)), (λ broken. absurd (unbroken why broken)))))
   exact (Err fault) ends no_read no_write =
-      each_early ⊥ (λ f. Ends terms what (Err f) before after a b → (f ≡ faults.Read → ⊥) → (f ≡ faults.Write → ⊥) → Inputs before after (Exact (Err f)))
+      each_early ⊥ (λ f. DataEnds terms what (Err f) before after a b → (f ≡ faults.Read → ⊥) → (f ≡ faults.Write → ⊥) → Inputs before after (Exact (Err f)))
       (λ (same, out) reads writes. subst (λ k. Inputs before k (Exact (Err faults.NoMemory))) (sym same) (Inputs-nothing (Exact (Err faults.NoMemory)) before (λ left. inl refl)))
       (λ wrong (given, gives, items, are, text, printed, out) reads writes.
       exact_at (Err (faults.Capture wrong)) (capture.Fault wrong) refl (fault_by wrong)
@@ -108,21 +108,21 @@ module _ (one_way : ReadOneWay) (in_front : PacketsInFront) (terms : Terms) (wha
       (λ early reads writes. absurd (reads refl)) (λ early reads writes. absurd (writes refl)) (λ never number early reads writes. absurd never)
       fault (fault_can terms what fault before after a b ends) ends (λ is. no_read (ap Err is)) (λ is. no_write (ap Err is))
 
-  can_end : (ending : Result Bool Fault) → Ends terms what ending before after a b → (fault : Fault) → ending ≡ Err fault → EndsEarly fault
-  can_end ending ends fault is = fault_can terms what fault before after a b (subst (λ e. Ends terms what e before after a b) is ends)
+  can_end : (ending : Result Bool Fault) → DataEnds terms what ending before after a b → (fault : Fault) → ending ≡ Err fault → EndsEarly fault
+  can_end ending ends fault is = fault_can terms what fault before after a b (subst (λ e. DataEnds terms what e before after a b) is ends)
 
   -- nothing is lost
-  done_by : (left rest : List ℕ) (ending : Result Bool Fault) → Ends terms what ending before after a b → (ending ≡ Err faults.Read → ⊥) → (ending ≡ Err faults.Write → ⊥)
+  done_by : (left rest : List ℕ) (ending : Result Bool Fault) → DataEnds terms what ending before after a b → (ending ≡ Err faults.Read → ⊥) → (ending ≡ Err faults.Write → ⊥)
       → Exact ending left rest → ((why : capture.Ending) → BreaksOffBy terms left why → ⊥) → UnlessMemory ending (IsDone terms what ending before after a b)
   done_by left rest ending ends no_read no_write (inl memory) unbroken = inl memory
   done_by left rest ending ends no_read no_write (inr exactly) unbroken =
       elim (done_or ⊥ ending (can_end ending ends) no_read no_write (λ why is. unbroken why ((exactly why).0 is)) (λ never number. absurd never)) [
         | inl memory ↦ inl memory
-        | inr (clean, is) ↦ inr (clean, is, subst (λ e. Ends terms what e before after a b) is ends)
+        | inr (clean, is) ↦ inr (clean, is, subst (λ e. DataEnds terms what e before after a b) is ends)
       ]
 
 pub data_run : {I O : Type 0} → ReadOneWay → PacketsInFront → (terms : Terms) (what : What) (ending : Result Bool Fault) (input_known : I → Known Input) (input input' : I) (out_known : O → Known Output) (out out' : O)
-    → Ends terms what ending (input_known input) (input_known input') (out_known out) (out_known out')
+    → DataEnds terms what ending (input_known input) (input_known input') (out_known out) (out_known out')
     → (ending ≡ Err faults.NoMemory → (input' ≡ input) × (out' ≡ out))
     → HasCause (input_known input) (input_known input') (ending ≡ Err faults.Read)
     → HasCause (out_known out) (out_known out') (ending ≡ Err faults.Write)

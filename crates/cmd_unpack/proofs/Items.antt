@@ -9,8 +9,8 @@ use Rattle.drm_links.proofs.WritingLemmas.{Writes-whole}
 use Rattle.mod_feed.specs.Items.{Item, IsItemOf}
 use Rattle.drm_text.specs.Segment.{Segment}
 use Rattle.drm_text.specs.Joining as joining
-use Rattle.drm_text.specs.Taking.{Tells, text_of}
-use Rattle.law_text.specs.Runs.{Runs, with_message, messages_in}
+use Rattle.drm_text.specs.Taking.{GivesOfPiece, text_of}
+use Rattle.law_text.specs.Runs.{JoinerRuns, with_message, messages_in}
 use Rattle.law_text.proofs.WholeRuns.{runs_by_calls}
 use Rattle.cmd_unpack.specs.declared.counts.Counts.{Counts}
 use Rattle.cmd_unpack.specs.declared.messages.MessageTaker.{MessageTaker}
@@ -57,7 +57,7 @@ one_size (Some message) = refl
 
 pub message_more : (k : ℕ) (items : List Item) (item : Item) (text : List ℕ) (t u : MessageTaker) (x : Option (List ℕ)) (said : Option (List ℕ))
     → (took : TookMessages k items text t) → entries_at (TextsOf k) item ≡ x ∷ [] → u.stream ≡ t.stream
-    → Runs joining.made (reading (TextsOf k) items ++ x ∷ []) (took.told ++ said ∷ []) u.joiner
+    → JoinerRuns joining.made (reading (TextsOf k) items ++ x ∷ []) (took.told ++ said ∷ []) u.joiner
     → u.counts.given ≡ t.counts.given + told_count said → u.counts.cut ≡ t.counts.cut → u.counts.bad ≡ t.counts.bad + bad_at (TextsOf k) item → u.counts.missing ≡ t.counts.missing + missing_at item
     → TookMessages k (items ++ item ∷ []) (text ++ told_line said) u
 message_more k items item text t u x said took entries stream runs given cut bad missing =
@@ -67,7 +67,7 @@ message_more k items item text t u x said took entries stream runs given cut bad
     record {
       stream = stream ∙ took.stream;
       told = took.told ++ said ∷ [];
-      runs = subst (λ (l : List (Option (List ℕ))). Runs joining.made l (took.told ++ said ∷ []) u.joiner) (sym all) runs;
+      runs = subst (λ (l : List (Option (List ℕ))). JoinerRuns joining.made l (took.told ++ said ∷ []) u.joiner) (sym all) runs;
       text_is = ap (λ l. l ++ told_line said) took.text_is
           ∙ (ap (λ l. flat_map text_line (messages_in took.told) ++ l) (sym (lines_one said))
           ∙ (sym (flat_map-append text_line (messages_in took.told) (with_message said [])) ∙ ap (λ l. flat_map text_line l) (sym more)));
@@ -88,7 +88,7 @@ message_gap k items item text t u a took entries stream new given cut bad missin
       after = u;
       line = [];
       took = message_more k items item text t u None None took entries stream
-          (subst (λ (s : joining.State). Runs joining.made (reading (TextsOf k) items ++ None ∷ []) (took.told ++ None ∷ []) s) (sym new) runs) (omega (arith, given)) cut bad missing;
+          (subst (λ (s : joining.State). JoinerRuns joining.made (reading (TextsOf k) items ++ None ∷ []) (took.told ++ None ∷ []) s) (sym new) runs) (omega (arith, given)) cut bad missing;
       writes = Writes-whole [] a a (Outputs-nothing a (λ l. l ≡ []) refl) refl;
       after_is = refl;
     }
@@ -96,7 +96,7 @@ message_gap k items item text t u a took entries stream new given cut bad missin
 -- a piece
 pub message_piece : (k : ℕ) (items : List Item) (item : Item) (text : List ℕ) (t u : MessageTaker) (piece : List ℕ) (said : Option (Bor (List ℕ)))
     → TookMessages k items text t → entries_at (TextsOf k) item ≡ Some piece ∷ [] → u.stream ≡ t.stream
-    → Tells t.joiner piece said → ((read : Option Segment) → joining.ReadsIn (joining.gather t.joiner.segment piece) read → u.joiner ≡ joining.after t.joiner piece read)
+    → GivesOfPiece t.joiner piece said → ((read : Option Segment) → joining.ReadsIn (joining.gather t.joiner.segment piece) read → u.joiner ≡ joining.after t.joiner piece read)
     → u.counts ≡ record t.counts { given = t.counts.given + told_count (text_of said) } → bad_at (TextsOf k) item ≡ 0 → missing_at item ≡ 0
     → TookMessages k (items ++ item ∷ []) (text ++ told_line (text_of said)) u
 message_piece k items item text t u piece said took entries stream tells left counts none_bad none_missing =

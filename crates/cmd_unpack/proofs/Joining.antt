@@ -15,7 +15,7 @@ use Rattle.cmd_unpack.specs.declared.counts.Counts.{Counts}
 use Rattle.cmd_unpack.specs.declared.units.UnitTaker.{UnitTaker}
 use Rattle.cmd_unpack.specs.Lines.{cut_line, answer_text, answers_text}
 use Rattle.cmd_unpack.specs.Printed.{refused_in}
-use Rattle.cmd_unpack.specs.Taken.{counted, Joins, TakesEntries}
+use Rattle.cmd_unpack.specs.Taken.{counted, JoinsEntries, TakesEntries}
 
 -- ---- answers
 
@@ -67,7 +67,7 @@ all_length s (e ∷ events) = all_length (after s e) events ∙ after_length s e
 
 -- ---- entries
 
-pub joins_none : (t : UnitTaker) → Joins t t [] 0 0 []
+pub joins_none : (t : UnitTaker) → JoinsEntries t t [] 0 0 []
 joins_none t = record {
   stream = refl;
   size = refl;
@@ -98,7 +98,7 @@ counts_one counts (Refuses fault cut) = record { given = omega arith; cut = omeg
 -- one event
 pub joins_event : (t : UnitTaker) (joiner : State) (counts : Counts) (entry : Option (List ℕ)) (event : Event)
     → AreEvents t.joiner.length (entry ∷ []) (event ∷ []) → joiner ≡ after t.joiner event → counts ≡ counted t.counts (answer t.joiner event)
-    → Joins t (record { stream = t.stream; length = t.length; joiner = joiner; counts = counts }) (entry ∷ []) 0 0 (answer_text (answer t.joiner event))
+    → JoinsEntries t (record { stream = t.stream; length = t.length; joiner = joiner; counts = counts }) (entry ∷ []) 0 0 (answer_text (answer t.joiner event))
 joins_event t joiner counts entry event are joins count =
     let one = counts_one t.counts (answer t.joiner event) in
     record {
@@ -124,17 +124,17 @@ gap_counts None counts = let none : counts.cut + 0 ≡ counts.cut = omega arith 
 gap_counts (Some u) counts = refl
 
 pub joins_gap : (t : UnitTaker) (joiner : State) (n : ℕ) (cut : Bool) → cut ≡ is_some t.joiner.begun → joiner ≡ closed t.joiner → n ≡ from_bool cut
-    → Joins t (record { stream = t.stream; length = t.length; joiner = joiner; counts = record t.counts { cut = t.counts.cut + n } }) (None ∷ []) 0 0 (cut_line cut)
+    → JoinsEntries t (record { stream = t.stream; length = t.length; joiner = joiner; counts = record t.counts { cut = t.counts.cut + n } }) (None ∷ []) 0 0 (cut_line cut)
 joins_gap t joiner n cut was now is =
     let many : n ≡ from_bool (is_some t.joiner.begun) = is ∙ ap from_bool was in
     let counts : record t.counts { cut = t.counts.cut + n } ≡ counted t.counts (cut_answer t.joiner.begun) =
     ap (λ (k : ℕ). record t.counts { cut = t.counts.cut + k }) many ∙ gap_counts t.joiner.begun t.counts in
     let line : cut_line cut ≡ answer_text (cut_answer t.joiner.begun) = ap cut_line was ∙ gap_text t.joiner.begun in
-    subst (λ (l : List ℕ). Joins t (record { stream = t.stream; length = t.length; joiner = joiner; counts = record t.counts { cut = t.counts.cut + n } }) (None ∷ []) 0 0 l) (sym line)
+    subst (λ (l : List ℕ). JoinsEntries t (record { stream = t.stream; length = t.length; joiner = joiner; counts = record t.counts { cut = t.counts.cut + n } }) (None ∷ []) 0 0 l) (sym line)
     (joins_event t joiner (record t.counts { cut = t.counts.cut + n }) None Gap (refl, refl) now counts)
 
 -- some more
-pub joins_then : (t u v : UnitTaker) (xs ys : List (Option (List ℕ))) (b m c n : ℕ) (r s : List ℕ) → Joins t u xs b m r → Joins u v ys c n s → Joins t v (xs ++ ys) (b + c) (m + n) (r ++ s)
+pub joins_then : (t u v : UnitTaker) (xs ys : List (Option (List ℕ))) (b m c n : ℕ) (r s : List ℕ) → JoinsEntries t u xs b m r → JoinsEntries u v ys c n s → JoinsEntries t v (xs ++ ys) (b + c) (m + n) (r ++ s)
 joins_then t u v xs ys b m c n r s first second =
     let mid : State = after_all t.joiner first.events in
     let said : answers u.joiner second.events ≡ answers mid second.events = ap (λ (k : State). answers k second.events) first.joiner in
@@ -157,12 +157,12 @@ joins_then t u v xs ys b m c n r s first second =
     }
 
 -- the entries of pieces that are still to come have events, too
-pub some_joining : (pieces : List (List ℕ)) (t : UnitTaker) → 1 ≤ t.joiner.length → AllByRecursion IsBytes pieces → (u : UnitTaker) × (line : List ℕ) × Joins t u (map Some pieces) 0 0 line
+pub some_joining : (pieces : List (List ℕ)) (t : UnitTaker) → 1 ≤ t.joiner.length → AllByRecursion IsBytes pieces → (u : UnitTaker) × (line : List ℕ) × JoinsEntries t u (map Some pieces) 0 0 line
 some_joining [] t some are = (t, [], joins_none t)
 some_joining (piece ∷ pieces) t some are =
     let (event, reads) = some_event t.joiner.length piece some are.0 in
     let u : UnitTaker = record { stream = t.stream; length = t.length; joiner = after t.joiner event; counts = counted t.counts (answer t.joiner event) } in
-    let one : Joins t u (Some piece ∷ []) 0 0 (answer_text (answer t.joiner event)) =
+    let one : JoinsEntries t u (Some piece ∷ []) 0 0 (answer_text (answer t.joiner event)) =
     joins_event t (after t.joiner event) (counted t.counts (answer t.joiner event)) (Some piece) event (reads, refl) refl refl in
     let (v, line, more) = some_joining pieces u (omega (arith, some, after_length t.joiner event)) are.1 in
     (v, answer_text (answer t.joiner event) ++ line, joins_then t u v (Some piece ∷ []) (map Some pieces) 0 0 0 0 (answer_text (answer t.joiner event)) line one more)

@@ -22,7 +22,7 @@ use Rattle.recv_reading.proofs.PacketLemmas.{gives_to, gives_all, gives_until}
 use Rattle.cmd_unpack.specs.declared.taker.Taker.{Taker}
 use Rattle.cmd_unpack.specs.Streams.{What}
 use Rattle.cmd_unpack.specs.Printed.{AreItems}
-use Rattle.cmd_unpack.specs.Run.{Ends, WritesUntil}
+use Rattle.cmd_unpack.specs.Run.{DataEnds, WritesUntil}
 use Rattle.cmd_unpack.specs.Taken.{AreBelow, counts_in, IsReady, Took, TakesItem, TakesAll}
 use Rattle.cmd_unpack.proofs.Items.{items_more}
 use Rattle.cmd_unpack.proofs.Printing.{printed}
@@ -55,7 +55,7 @@ none_taken taker calls c a first none_called is_ready none = record {
 on_done : {T E : Type 0} (r : Result T E) (done : T) (P : Type 0) → r ≡ Ok done → OnOk r P → P
 on_done {T} {E} r done P is holds = subst (λ (k : Result T E). OnOk k P) is holds
 
-until : (terms : Terms) (what : What) (stop : CaptureStop) (before after : Known Input) (a b : Known Output) → WritesUntil terms what stop before after a b → Ends terms what (Err (stop_fault stop)) before after a b
+until : (terms : Terms) (what : What) (stop : CaptureStop) (before after : Known Input) (a b : Known Output) → WritesUntil terms what stop before after a b → DataEnds terms what (Err (stop_fault stop)) before after a b
 until terms what stops.Read before after a b w = w
 until terms what (stops.Capture fault) before after a b w = w
 until terms what stops.TooLong before after a b w = w

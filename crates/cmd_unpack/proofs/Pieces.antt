@@ -6,15 +6,15 @@ use Rattle.std.proofs.lemmas.List.{append-nil, get_or-drop, map-append}
 use Rattle.std.proofs.lemmas.Grind.{common_steps}
 use Rattle.drm_bits.specs.Bits.{IsBytes}
 use Rattle.drm_links.specs.Told.{Known}
-use Rattle.drm_links.specs.Sink.{Output, Outputs, Writes}
+use Rattle.drm_links.specs.Sink.{Output, Outputs, WritesWhole}
 use Rattle.drm_links.proofs.ToldLemmas.{Outputs-nothing, Outputs-then, Outputs-weaker}
 use Rattle.drm_links.proofs.WritingLemmas.{Writes-broken, Writes-whole}
-use Rattle.drm_data.specs.Joining.{Event, Reads, State, Answer, Silent, Whole, CutOff, CutWhole, Refuses, answer, after}
+use Rattle.drm_data.specs.Joining.{Event, ReadsDataPacket, State, Answer, Silent, Whole, CutOff, CutWhole, Refuses, answer, after}
 use Rattle.cmd_unpack.specs.declared.counts.Counts.{Counts}
 use Rattle.cmd_unpack.specs.declared.units.UnitTaker.{UnitTaker}
 use Rattle.cmd_unpack.specs.Streams.{cut_into}
 use Rattle.cmd_unpack.specs.Lines.{answer_text}
-use Rattle.cmd_unpack.specs.Taken.{counted, AreBelow, IsJoinerOf, Joins, TakesEntries}
+use Rattle.cmd_unpack.specs.Taken.{counted, AreBelow, IsJoinerOf, JoinsEntries, TakesEntries}
 use Rattle.cmd_unpack.proofs.Joining.{joins_none, joins_event, joins_then, some_joining, after_length}
 
 -- ---- pieces
@@ -57,7 +57,7 @@ pub record Come (t u : UnitTaker) (bytes rest : List ℕ) (a b : Known Output) :
   pub whole : length rest % (t.length + 3) ≡ 0
   pub shorter : length rest ≤ length bytes
   pub written : List ℕ
-  pub joins : Joins t u (map Some done) 0 0 written
+  pub joins : JoinsEntries t u (map Some done) 0 0 written
   pub text : Outputs a b (λ l. l ≡ written)
   pub still : b.faults ≡ a.faults
   pub are : IsBytes rest
@@ -94,21 +94,21 @@ behind u joiner counts = record { stream = u.stream; length = u.length; joiner =
 -- one piece more
 pub come_one : (t u : UnitTaker) (bytes rest piece left : List ℕ) (event : Event) (joiner : State) (counts : Counts) (a b c : Known Output)
     → Come t u bytes rest a b → t.length + 3 ≤ length rest → piece ≡ take (t.length + 3) rest → left ≡ drop (t.length + 3) rest
-    → Reads u.joiner.length piece event → joiner ≡ after u.joiner event → counts ≡ counted u.counts (answer u.joiner event)
+    → ReadsDataPacket u.joiner.length piece event → joiner ≡ after u.joiner event → counts ≡ counted u.counts (answer u.joiner event)
     → Outputs b c (λ l. l ≡ answer_text (answer u.joiner event)) → c.faults ≡ b.faults → Come t (behind u joiner counts) bytes left a c
 come_one t u bytes rest piece left event joiner counts a b c i enough piece_is left_is reads joins counts_are text still =
     let n : ℕ = t.length + 3 in
     let line : List ℕ = answer_text (answer u.joiner event) in
     let size : length left ≡ length rest - n = ap length left_is ∙ length-drop n rest in
     let step : pieces n rest ≡ piece ∷ pieces n left = pieces_step n rest (omega arith) enough ∙ (ap (λ l. l ∷ pieces n (drop n rest)) (sym piece_is) ∙ ap (λ l. piece ∷ pieces n l) (sym left_is)) in
-    let one : Joins u (behind u joiner counts) (Some piece ∷ []) 0 0 line = joins_event u joiner counts (Some piece) event (reads, refl) joins counts_are in
+    let one : JoinsEntries u (behind u joiner counts) (Some piece ∷ []) 0 0 line = joins_event u joiner counts (Some piece) event (reads, refl) joins counts_are in
     record {
       done = i.done ++ piece ∷ [];
       all = i.all ∙ (ap (λ l. i.done ++ l) step ∙ sym (append_assoc i.done (piece ∷ []) (pieces n left)));
       whole = ap (λ k. k % n) size ∙ rest_whole n (length rest) (omega arith) enough i.whole;
       shorter = omega (arith, i.shorter, size);
       written = i.written ++ line;
-      joins = subst (λ (l : List (Option (List ℕ))). Joins t (behind u joiner counts) l 0 0 (i.written ++ line)) (sym (map-append Some i.done (piece ∷ [])))
+      joins = subst (λ (l : List (Option (List ℕ))). JoinsEntries t (behind u joiner counts) l 0 0 (i.written ++ line)) (sym (map-append Some i.done (piece ∷ [])))
           (joins_then t u (behind u joiner counts) (map Some i.done) (Some piece ∷ []) 0 0 0 0 i.written line i.joins one);
       text = Outputs-then (λ l. l ≡ i.written) (λ l. l ≡ line) (λ l. l ≡ i.written ++ line) a b c i.text text (λ x y p q. ap (λ l. l ++ y) p ∙ ap (λ l. i.written ++ l) q);
       still = still ∙ i.still;
@@ -122,26 +122,26 @@ come_one t u bytes rest piece left event joiner counts a b c i enough piece_is l
 -- the write of one failed
 pub come_broken : {E F : Type 0} (t u v : UnitTaker) (bytes rest piece left : List ℕ) (event : Event) (joiner : State) (counts : Counts) (a b c : Known Output) (r : Result (Unit {0}) E) (other : E) (fault : F)
     → Come t u bytes rest a b → t.length + 3 ≤ length rest → piece ≡ take (t.length + 3) rest → left ≡ drop (t.length + 3) rest
-    → Reads u.joiner.length piece event → joiner ≡ after u.joiner event → counts ≡ counted u.counts (answer u.joiner event)
-    → r ≡ Err other → Writes r b c (answer_text (answer u.joiner event))
+    → ReadsDataPacket u.joiner.length piece event → joiner ≡ after u.joiner event → counts ≡ counted u.counts (answer u.joiner event)
+    → r ≡ Err other → WritesWhole r b c (answer_text (answer u.joiner event))
     → (let broken : Result (Unit {0}) F = Err fault in TakesEntries broken t v (map Some (pieces (t.length + 3) bytes)) 0 0 a c)
 come_broken {E} {F} t u v bytes rest piece left event joiner counts a b c r other fault i enough piece_is left_is reads joins counts_are is writes =
     let n : ℕ = t.length + 3 in
     let line : List ℕ = answer_text (answer u.joiner event) in
     let w : UnitTaker = behind u joiner counts in
     let step : pieces n rest ≡ piece ∷ pieces n left = pieces_step n rest (omega arith) enough ∙ (ap (λ l. l ∷ pieces n (drop n rest)) (sym piece_is) ∙ ap (λ l. piece ∷ pieces n l) (sym left_is)) in
-    let one : Joins u w (Some piece ∷ []) 0 0 line = joins_event u joiner counts (Some piece) event (reads, refl) joins counts_are in
+    let one : JoinsEntries u w (Some piece ∷ []) 0 0 line = joins_event u joiner counts (Some piece) event (reads, refl) joins counts_are in
     let long : 1 ≤ w.joiner.length = omega (arith, ap (λ (s : State). s.length) joins, after_length u.joiner event, i.joiner.0, i.joiner.1) in
     let (x, more, last) = some_joining (pieces n left) w long (cut_bytes n (length left / n) left (subst IsBytes (sym left_is) (bytes_drop n rest i.are))) in
-    let tail : Joins u x (Some piece ∷ map Some (pieces n left)) 0 0 (line ++ more) = joins_then u w x (Some piece ∷ []) (map Some (pieces n left)) 0 0 0 0 line more one last in
-    let all : Joins t x (map Some i.done ++ map Some (piece ∷ pieces n left)) 0 0 (i.written ++ (line ++ more)) =
+    let tail : JoinsEntries u x (Some piece ∷ map Some (pieces n left)) 0 0 (line ++ more) = joins_then u w x (Some piece ∷ []) (map Some (pieces n left)) 0 0 0 0 line more one last in
+    let all : JoinsEntries t x (map Some i.done ++ map Some (piece ∷ pieces n left)) 0 0 (i.written ++ (line ++ more)) =
     joins_then t u x (map Some i.done) (Some piece ∷ map Some (pieces n left)) 0 0 0 0 i.written (line ++ more) i.joins tail in
     let entries : map Some i.done ++ map Some (piece ∷ pieces n left) ≡ map Some (pieces n bytes) =
     sym (map-append Some i.done (piece ∷ pieces n left)) ∙ ap (λ l. map Some l) (sym (i.all ∙ ap (λ l. i.done ++ l) step)) in
     record {
       after = x;
       line = i.written ++ (line ++ more);
-      joins = subst (λ (l : List (Option (List ℕ))). Joins t x l 0 0 (i.written ++ (line ++ more))) entries all;
+      joins = subst (λ (l : List (Option (List ℕ))). JoinsEntries t x l 0 0 (i.written ++ (line ++ more))) entries all;
       writes = Writes-broken (i.written ++ (line ++ more)) line more a b c r other fault
           (Outputs-weaker (λ l. l ≡ i.written) (λ l. l ++ (line ++ more) ≡ i.written ++ (line ++ more)) a b i.text (λ l e. ap (λ k. k ++ (line ++ more)) e)) i.still is writes;
       after_is = tt;
@@ -156,7 +156,7 @@ come_all t u bytes rest a b i few =
     record {
       after = u;
       line = i.written;
-      joins = subst (λ (l : List (Option (List ℕ))). Joins t u l 0 0 i.written) (ap (λ l. map Some l) (sym all)) i.joins;
+      joins = subst (λ (l : List (Option (List ℕ))). JoinsEntries t u l 0 0 i.written) (ap (λ l. map Some l) (sym all)) i.joins;
       writes = Writes-whole i.written a b i.text i.still;
       after_is = refl;
     }

@@ -17,7 +17,7 @@ use Rattle.recv_reading.specs.Packets.{Terms}
 use Rattle.cmd_unpack.specs.Streams.{What, UnitsOf, TextsOf}
 use Rattle.cmd_unpack.specs.Lines.{cut_line, units_end, texts_end, is_clean}
 use Rattle.cmd_unpack.specs.Printed.{IsPrinted, IsWholeText, unit_counts, text_counts}
-use Rattle.cmd_unpack.specs.Run.{WritesUntil, WritesFront, Ends, IsFrontOfText, IsSound}
+use Rattle.cmd_unpack.specs.Run.{WritesUntil, WritesFront, DataEnds, IsFrontOfText, IsSound}
 
 -- what an end adds to what is printed
 whole_behind : (what : What) (items : List Item) (text : List ℕ) → IsPrinted what items text → (rest : List ℕ) × (clean : Bool) × IsWholeText what items (text ++ rest) clean
@@ -51,10 +51,10 @@ module _ (terms : Terms) (what : What) (before after : Known Input) (a b : Known
   front (inr (given, gives, items, are, printed, rest, clean, was, is, out)) =
       Outputs-weaker (IsFrontBehind printed rest) (IsFrontOfText what) a b out (λ t e. (items, printed ++ rest, clean, is, front_of_both printed rest t e))
 
-  pub sound : (ending : Result Bool Fault) → ((fault : Fault) → ending ≡ Err fault → EndsEarly fault) → Ends terms what ending before after a b → IsSound what ending a b
+  pub sound : (ending : Result Bool Fault) → ((fault : Fault) → ending ≡ Err fault → EndsEarly fault) → DataEnds terms what ending before after a b → IsSound what ending a b
   sound (Ok clean) kind (given, gives, items, are, whole, is, out) =
       Outputs-weaker (λ t. t ≡ whole) (λ t. (items : List Item) × IsWholeText what items t clean) a b out (λ t e. (items, subst (λ l. IsWholeText what items l clean) (sym e) is))
   sound (Err fault) kind ends =
-      each_early ⊥ (λ f. Ends terms what (Err f) before after a b → Outputs a b (IsFrontOfText what))
+      each_early ⊥ (λ f. DataEnds terms what (Err f) before after a b → Outputs a b (IsFrontOfText what))
       (λ (same, none). subst (λ (k : Known Output). Outputs a k (IsFrontOfText what)) (sym none) (Outputs-nothing a (IsFrontOfText what) (front_printed what [] [] [] (printed_none what) ([], refl))))
       (λ wrong ends. until (stops.Capture wrong) ends) (λ ends. until stops.TooLong ends) (λ ends. until stops.Read ends) front (λ never number ends. absurd never) fault (kind fault refl) ends

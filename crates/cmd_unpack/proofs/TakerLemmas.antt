@@ -10,12 +10,12 @@ use Rattle.cmd_unpack.specs.declared.units.UnitTaker.{UnitTaker}
 use Rattle.cmd_unpack.specs.declared.messages.MessageTaker.{MessageTaker}
 use Rattle.cmd_unpack.specs.declared.taker.Taker.TheVariants.{Units, Messages}
 use Rattle.cmd_unpack.specs.Streams.{What, UnitsOf, TextsOf, reading, entries_at, bad_at, missing_at, bad_in, missing_in}
-use Rattle.cmd_unpack.specs.Taken.{no_counts, new_taker, Joins, TakesEntries, TookUnits, TookMessages, TakesMessages, Took, TakesItem, IsReady, IsJoinerOf}
+use Rattle.cmd_unpack.specs.Taken.{no_counts, new_taker, JoinsEntries, TakesEntries, TookUnits, TookMessages, TakesMessages, Took, TakesItem, IsReady, IsJoinerOf}
 use Rattle.cmd_unpack.proofs.Joining.{all_length, joins_none, joins_then}
 use Rattle.cmd_unpack.proofs.Items.{reading_more, bad_more, missing_more}
 
 units_more : (k id d : ℕ) (items : List Item) (item : Item) (text line : List ℕ) (t u : UnitTaker) → TookUnits k id d items text t
-    → Joins t u (entries_at (UnitsOf k id d) item) (bad_at (UnitsOf k id d) item) (missing_at item) line → TookUnits k id d (items ++ item ∷ []) (text ++ line) u
+    → JoinsEntries t u (entries_at (UnitsOf k id d) item) (bad_at (UnitsOf k id d) item) (missing_at item) line → TookUnits k id d (items ++ item ∷ []) (text ++ line) u
 units_more k id d items item text line t u took joins =
     let what : What = UnitsOf k id d in
     rw (reading_more what items item)

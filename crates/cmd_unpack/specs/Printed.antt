@@ -8,7 +8,7 @@ use Rattle.drm_data.specs.Joining.{Event, Answer, Refuses, made}
 use Rattle.law_data.specs.Readings.{AreEvents}
 use Rattle.law_data.specs.Runs.{answers, after_all, units_in, cuts_in}
 use Rattle.drm_text.specs.Joining as joining
-use Rattle.law_text.specs.Runs.{Runs, messages_in}
+use Rattle.law_text.specs.Runs.{JoinerRuns, messages_in}
 use Rattle.cmd_unpack.specs.declared.counts.Counts.{Counts}
 use Rattle.cmd_unpack.specs.Streams.{What, UnitsOf, TextsOf, reading, bad_in, missing_in}
 use Rattle.cmd_unpack.specs.Lines.{cut_line, answers_text, text_line, units_end, texts_end, is_clean}
@@ -33,7 +33,7 @@ abbrev pub IsPrinted : What → List Item → List ℕ → Type 0
 IsPrinted (UnitsOf k id d) items text =
     (events : List Event) × AreEvents d (reading (UnitsOf k id d) items) events × (text ≡ answers_text (answers (made id d) events))
 IsPrinted (TextsOf k) items text =
-    (told : List (Option (List ℕ))) × (left : joining.State) × Runs joining.made (reading (TextsOf k) items) told left
+    (told : List (Option (List ℕ))) × (left : joining.State) × JoinerRuns joining.made (reading (TextsOf k) items) told left
     × (text ≡ flat_map text_line (messages_in told))
 
 -- What is counted: units, cuts, and bad and missing items; a unit that is open at the end is cut. Refused packets are bad, too.
@@ -59,6 +59,6 @@ IsWholeText (UnitsOf k id d) items text clean =
     let counts = unit_counts k id d items said open_at_end in
     (text ≡ answers_text said ++ (cut_line open_at_end ++ units_end counts)) × (clean ≡ is_clean counts)
 IsWholeText (TextsOf k) items text clean =
-    (told : List (Option (List ℕ))) × (left : joining.State) × Runs joining.made (reading (TextsOf k) items) told left
+    (told : List (Option (List ℕ))) × (left : joining.State) × JoinerRuns joining.made (reading (TextsOf k) items) told left
     × let counts = text_counts k items told in
     (text ≡ flat_map text_line (messages_in told) ++ texts_end counts) × (clean ≡ is_clean counts)

@@ -42,14 +42,14 @@ WritesFront terms what before after out out' =
     × Outputs out out' (IsFrontBehind printed rest))
 
 -- What is read and written; where memory is wanting, nothing.
-abbrev pub Ends : Terms → What → Result Bool Fault → Known Input → Known Input → Known Output → Known Output → Type 0
-Ends terms what (Ok clean) before after out out' = WritesAll terms what clean before after out out'
-Ends terms what (Err faults.Write) before after out out' = WritesFront terms what before after out out'
-Ends terms what (Err faults.Read) before after out out' = WritesUntil terms what stops.Read before after out out'
-Ends terms what (Err (faults.Capture fault)) before after out out' = WritesUntil terms what (stops.Capture fault) before after out out'
-Ends terms what (Err faults.CaptureTooLong) before after out out' = WritesUntil terms what stops.TooLong before after out out'
-Ends terms what (Err faults.NoMemory) before after out out' = (after ≡ before) × (out' ≡ out)
-Ends terms what (Err fault) before after out out' = ⊥
+abbrev pub DataEnds : Terms → What → Result Bool Fault → Known Input → Known Input → Known Output → Known Output → Type 0
+DataEnds terms what (Ok clean) before after out out' = WritesAll terms what clean before after out out'
+DataEnds terms what (Err faults.Write) before after out out' = WritesFront terms what before after out out'
+DataEnds terms what (Err faults.Read) before after out out' = WritesUntil terms what stops.Read before after out out'
+DataEnds terms what (Err (faults.Capture fault)) before after out out' = WritesUntil terms what (stops.Capture fault) before after out out'
+DataEnds terms what (Err faults.CaptureTooLong) before after out out' = WritesUntil terms what stops.TooLong before after out out'
+DataEnds terms what (Err faults.NoMemory) before after out out' = (after ≡ before) × (out' ≡ out)
+DataEnds terms what (Err fault) before after out out' = ⊥
 
 -- a front of all that is printed of some items
 abbrev pub IsFrontOfText : What → List ℕ → Type 0
@@ -70,7 +70,7 @@ pub record DataRun {I O : Type 0} (terms : Terms) (what : What) (ending : Result
     (out_known : O → Known Output) (out out' : O) : Type 0 where
   -- It ends well, or for want of memory, by a fault of the capture, by a failed read or by a failed write.
   pub kind : (fault : Fault) → ending ≡ Err fault → EndsEarly fault
-  pub ends : Ends terms what ending (input_known input) (input_known input') (out_known out) (out_known out')
+  pub ends : DataEnds terms what ending (input_known input) (input_known input') (out_known out) (out_known out')
   -- Whatever the input tells, out got no other text than one that items have.
   pub sound : IsSound what ending (out_known out) (out_known out')
   -- After want of memory nothing was read or written.

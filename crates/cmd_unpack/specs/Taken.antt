@@ -5,7 +5,7 @@ use Rattle.std.specs.List.{flat_map}
 use Rattle.std.specs.Int.{from_bool}
 use Rattle.drm_links.specs.Told.{Known}
 use Rattle.drm_links.specs.Source.{Input}
-use Rattle.drm_links.specs.Sink.{Output, Outputs, Writes}
+use Rattle.drm_links.specs.Sink.{Output, Outputs, WritesWhole}
 use Rattle.dcp_collect.specs.Runs.{Item as Given}
 use Rattle.cmd_faults.specs.declared.fault.Fault.{Fault}
 use Rattle.recv_reading.specs.Packets.{Terms}
@@ -16,8 +16,8 @@ use Rattle.law_data.specs.Readings.{AreEvents}
 use Rattle.law_data.specs.Runs.{answers, after_all, units_in, cuts_in}
 use Rattle.drm_text.specs.Segment.{Segment}
 use Rattle.drm_text.specs.Joining as joining
-use Rattle.drm_text.specs.Taking.{Tells, text_of}
-use Rattle.law_text.specs.Runs.{Runs, messages_in}
+use Rattle.drm_text.specs.Taking.{GivesOfPiece, text_of}
+use Rattle.law_text.specs.Runs.{JoinerRuns, messages_in}
 use Rattle.cmd_unpack.specs.declared.counts.Counts.{Counts}
 use Rattle.cmd_unpack.specs.declared.units.UnitTaker.{UnitTaker}
 use Rattle.cmd_unpack.specs.declared.messages.MessageTaker.{MessageTaker}
@@ -26,7 +26,7 @@ use Rattle.cmd_unpack.specs.declared.taker.Taker.TheVariants.{Units, Messages}
 use Rattle.cmd_unpack.specs.Streams.{What, UnitsOf, TextsOf, cut_into, reading, bad_in, missing_in}
 use Rattle.cmd_unpack.specs.Lines.{answers_text, text_line, is_clean}
 use Rattle.cmd_unpack.specs.Printed.{refused_in, AreItems, IsWholeText}
-use Rattle.cmd_unpack.specs.Run.{Ends}
+use Rattle.cmd_unpack.specs.Run.{DataEnds}
 
 -- ---- units
 
@@ -62,7 +62,7 @@ WholePieces n pieces None = pieces ≡ None
 WholePieces n pieces (Some bytes) = (length bytes.now % n ≡ 0) × (pieces ≡ Some (cut_into n (length bytes.now / n) bytes.now))
 
 -- The entries were taken, beside so many bad and missing items, and this is printed of them.
-pub record Joins (t u : UnitTaker) (entries : List (Option (List ℕ))) (bad missing : ℕ) (line : List ℕ) : Type 0 where
+pub record JoinsEntries (t u : UnitTaker) (entries : List (Option (List ℕ))) (bad missing : ℕ) (line : List ℕ) : Type 0 where
   pub stream : u.stream ≡ t.stream
   pub size : u.length ≡ t.length
   pub events : List Event
@@ -78,8 +78,8 @@ pub record Joins (t u : UnitTaker) (entries : List (Option (List ℕ))) (bad mis
 pub record TakesEntries {E : Type 0} (result : Result (Unit {0}) E) (t u : UnitTaker) (entries : List (Option (List ℕ))) (bad missing : ℕ) (a b : Known Output) : Type 0 where
   pub after : UnitTaker
   pub line : List ℕ
-  pub joins : Joins t after entries bad missing line
-  pub writes : Writes result a b line
+  pub joins : JoinsEntries t after entries bad missing line
+  pub writes : WritesWhole result a b line
   pub after_is : OnOk result (u ≡ after)
 
 -- a taker of which nothing has come yet
@@ -89,14 +89,14 @@ new_taker k id d = record { stream = k; length = d; joiner = made id d; counts =
 -- These items were taken, and this is printed of them.
 abbrev pub TookUnits : ℕ → ℕ → ℕ → List Item → List ℕ → UnitTaker → Type 0
 TookUnits k id d items text t =
-    Joins (new_taker k id d) t (reading (UnitsOf k id d) items) (bad_in (UnitsOf k id d) items) (missing_in items) text
+    JoinsEntries (new_taker k id d) t (reading (UnitsOf k id d) items) (bad_in (UnitsOf k id d) items) (missing_in items) text
 
 -- ---- messages
 
 pub record TookMessages (k : ℕ) (items : List Item) (text : List ℕ) (t : MessageTaker) : Type 0 where
   pub stream : t.stream ≡ k
   pub told : List (Option (List ℕ))
-  pub runs : Runs joining.made (reading (TextsOf k) items) told t.joiner
+  pub runs : JoinerRuns joining.made (reading (TextsOf k) items) told t.joiner
   pub text_is : text ≡ flat_map text_line (messages_in told)
   pub given_is : t.counts.given ≡ length (messages_in told)
   pub cut_is : t.counts.cut ≡ 0
@@ -115,10 +115,10 @@ told_count (Some message) = 1
 -- A piece was taken, and the message that it makes whole, if one, was counted and written, or the write failed.
 pub record TakesPiece {E : Type 0} (result : Result (Unit {0}) E) (s left : joining.State) (piece : List ℕ) (counts counts' : Counts) (a b : Known Output) : Type 0 where
   pub said : Option (Bor (List ℕ))
-  pub tells : Tells s piece said
+  pub tells : GivesOfPiece s piece said
   pub left_is : (read : Option Segment) → joining.ReadsIn (joining.gather s.segment piece) read → left ≡ joining.after s piece read
   pub counts_are : counts' ≡ record counts { given = counts.given + told_count (text_of said) }
-  pub writes : Writes result a b (told_line (text_of said))
+  pub writes : WritesWhole result a b (told_line (text_of said))
 
 -- the last piece of a stream
 abbrev pub LastPiece : Option (List (List ℕ)) → Option (List ℕ) → Type 0
@@ -130,7 +130,7 @@ pub record TakesMessages {E : Type 0} (k : ℕ) (items : List Item) (item : Item
   pub after : MessageTaker
   pub line : List ℕ
   pub took : TookMessages k (items ++ item ∷ []) (text ++ line) after
-  pub writes : Writes result a b line
+  pub writes : WritesWhole result a b line
   pub after_is : OnOk result (u ≡ after)
 
 -- ---- either
@@ -149,14 +149,14 @@ pub record TakesItem {E : Type 0} (what : What) (items : List Item) (item : Item
   pub after : Taker
   pub line : List ℕ
   pub took : Took what (items ++ item ∷ []) (text ++ line) after
-  pub writes : Writes result a b line
+  pub writes : WritesWhole result a b line
   pub after_is : OnOk result (u ≡ after)
 
 -- The end was written, or the write failed.
 pub record EndsText {E : Type 0} (what : What) (items : List Item) (text : List ℕ) (result : Result (Unit {0}) E) (u : Taker) (a b : Known Output) : Type 0 where
   pub rest : List ℕ
   pub whole : IsWholeText what items (text ++ rest) (is_clean (counts_in u))
-  pub writes : Writes result a b rest
+  pub writes : WritesWhole result a b rest
 
 -- a taker of one of the four streams
 abbrev pub IsReady : Taker → Type 0
@@ -168,4 +168,4 @@ abbrev pub TakesAll : Terms → What → Result (Unit {0}) Fault → Taker → K
 TakesAll terms what (Ok done) taker before after a b =
     (given : List Given) × GivesAll terms given before after × (items : List Item) × AreItems given items
     × (text : List ℕ) × Took what items text taker × Outputs a b (λ t. t ≡ text)
-TakesAll terms what (Err fault) taker before after a b = Ends terms what (Err fault) before after a b
+TakesAll terms what (Err fault) taker before after a b = DataEnds terms what (Err fault) before after a b

@@ -10,12 +10,12 @@ use crate::messages::MessageTaker;
 use crate::reading::take_capture;
 use crate::taker::Taker;
 use crate::units::UnitTaker;
-use law_capture::packets_in_front;
 use capture_reader::read_one_way;
-use drm_data::Joiner;
 use cmd_faults::Fault;
+use drm_data::Joiner;
 use drm_links::{Sink, Source};
 use drm_text::TextJoiner;
+use law_capture::packets_in_front;
 use std::alloc::Global;
 
 /// Receives a capture from `input`, and writes the units in a stream of its frames, of this packet id and data length, each

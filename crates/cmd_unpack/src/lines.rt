@@ -2,7 +2,7 @@
 
 ghost use Rattle.std.specs.Prelude.{◌≡◌};
 ghost use Rattle.std.specs.List.{flat_map};
-ghost use Rattle.drm_links.specs.Sink.{Writes};
+ghost use Rattle.drm_links.specs.Sink.{WritesWhole};
 ghost use Rattle.text_output.specs.Text.{text_of};
 ghost use Rattle.drm_data.specs.Joining.{told};
 ghost use Rattle.cmd_unpack.specs.Lines.{unit_line, cut_line, answer_text, is_escaped, escaped, text_line, units_end, units_end_text, texts_end, texts_end_text};
@@ -15,7 +15,7 @@ use text_output::{Piece, write_pieces};
 
 /// Writes what is printed of a joiner's answer.
 pub(crate) fn write_answer<O: Sink>(out: &mut O, said: &Joined<'_>) -> Result<(), WriteFault>
-    ensures { Writes result (O.known out.old) (O.known out.new) (answer_text (told said.now)) }
+    ensures { WritesWhole result (O.known out.old) (O.known out.new) (answer_text (told said.now)) }
 {
     match said {
         Joined::Nothing => Ok(()),
@@ -30,7 +30,7 @@ pub(crate) fn write_answer<O: Sink>(out: &mut O, said: &Joined<'_>) -> Result<()
 }
 
 fn write_unit<O: Sink>(out: &mut O, unit: &[u8]) -> Result<(), WriteFault>
-    ensures { Writes result (O.known out.old) (O.known out.new) (unit_line unit.now) }
+    ensures { WritesWhole result (O.known out.old) (O.known out.new) (unit_line unit.now) }
 {
     let digits = if unit.is_empty() {
         Piece::Words("-")
@@ -42,7 +42,7 @@ fn write_unit<O: Sink>(out: &mut O, unit: &[u8]) -> Result<(), WriteFault>
 
 /// Writes that a unit was cut, where one was.
 pub(crate) fn write_cut<O: Sink>(out: &mut O, cut: bool) -> Result<(), WriteFault>
-    ensures { Writes result (O.known out.old) (O.known out.new) (cut_line cut) }
+    ensures { WritesWhole result (O.known out.old) (O.known out.new) (cut_line cut) }
 {
     if cut {
         write_all(out, b"cut\n")
@@ -53,7 +53,7 @@ pub(crate) fn write_cut<O: Sink>(out: &mut O, cut: bool) -> Result<(), WriteFaul
 
 /// Writes the line of a message.
 pub(crate) fn write_text<O: Sink>(out: &mut O, message: &str) -> Result<(), WriteFault>
-    ensures { Writes result (O.known out.old) (O.known out.new) (text_line message.now) }
+    ensures { WritesWhole result (O.known out.old) (O.known out.new) (text_line message.now) }
 {
     write_all(out, b"text ")?;
     write_escaped(out, message.as_bytes())?;
@@ -61,7 +61,7 @@ pub(crate) fn write_text<O: Sink>(out: &mut O, message: &str) -> Result<(), Writ
 }
 
 fn write_escaped<O: Sink>(out: &mut O, bytes: &[u8]) -> Result<(), WriteFault>
-    ensures { Writes result (O.known out.old) (O.known out.new) (flat_map escaped bytes.now) }
+    ensures { WritesWhole result (O.known out.old) (O.known out.new) (flat_map escaped bytes.now) }
 {
     for byte in bytes {
         write_byte(out, *byte)?;
@@ -70,7 +70,7 @@ fn write_escaped<O: Sink>(out: &mut O, bytes: &[u8]) -> Result<(), WriteFault>
 }
 
 fn write_byte<O: Sink>(out: &mut O, byte: u8) -> Result<(), WriteFault>
-    ensures { Writes result (O.known out.old) (O.known out.new) (escaped byte) }
+    ensures { WritesWhole result (O.known out.old) (O.known out.new) (escaped byte) }
 {
     if is_escaped(byte) {
         write_pieces(out, &[Piece::Words("\\x"), Piece::Hex(&[byte])])
@@ -87,7 +87,7 @@ fn is_escaped(byte: u8) -> bool
 
 /// Writes the last line of `unpack`.
 pub(crate) fn write_units_end<O: Sink>(out: &mut O, counts: &Counts) -> Result<(), WriteFault>
-    ensures { Writes result (O.known out.old) (O.known out.new) (units_end counts.now) }
+    ensures { WritesWhole result (O.known out.old) (O.known out.new) (units_end counts.now) }
 {
     let mut given = Buffer::new();
     let mut cut = Buffer::new();
@@ -120,7 +120,7 @@ fn units_pieces<'a>(given: &'a str, cut: &'a str, bad: &'a str, missing: &'a str
 
 /// Writes the last line of `texts`.
 pub(crate) fn write_texts_end<O: Sink>(out: &mut O, counts: &Counts) -> Result<(), WriteFault>
-    ensures { Writes result (O.known out.old) (O.known out.new) (texts_end counts.now) }
+    ensures { WritesWhole result (O.known out.old) (O.known out.new) (texts_end counts.now) }
 {
     let mut given = Buffer::new();
     let mut missing = Buffer::new();

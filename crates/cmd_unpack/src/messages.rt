@@ -2,7 +2,7 @@
 
 ghost use Rattle.std.specs.Prelude.{◌≡◌, ◌<◌, ◌≤◌, ◌+◌, ◌^◌, ℕ, List, OnOk, IsErr};
 ghost use Rattle.drm_links.specs.Told.{HasCause};
-ghost use Rattle.drm_links.specs.Sink.{Writes};
+ghost use Rattle.drm_links.specs.Sink.{WritesWhole};
 ghost use Rattle.mdi_items.specs.Frame.{frame_of};
 ghost use Rattle.mdi_items.specs.View.{IsWholeView};
 ghost use Rattle.mod_feed.specs.Items.{Item, item_of, IsRead};
@@ -62,7 +62,7 @@ impl MessageTaker {
 
     /// Writes the last line.
     pub fn end<O: Sink>(&self, out: &mut O) -> Result<(), WriteFault>
-        ensures { Writes result (O.known out.old) (O.known out.new) (texts_end self.now.counts) }
+        ensures { WritesWhole result (O.known out.old) (O.known out.new) (texts_end self.now.counts) }
     {
         write_texts_end(out, &self.counts)
     }

@@ -7,12 +7,12 @@ ghost use Rattle.capture_reader.specs.Walking.{new_walker};
 ghost use Rattle.recv_reading.specs.Packets.{Terms};
 ghost use Rattle.cmd_unpack.specs.Streams.{What};
 ghost use Rattle.cmd_unpack.specs.Taken.{AreBelow, counts_in, IsReady, Took, TakesAll};
-ghost use Rattle.cmd_unpack.specs.Run.{Ends};
+ghost use Rattle.cmd_unpack.specs.Run.{DataEnds};
 
 use crate::taker::Taker;
-use dcp_collect::Collector;
 use capture_reader::Packets;
 use cmd_faults::Fault;
+use dcp_collect::Collector;
 use drm_links::{Sink, Source};
 use mod_feed::Feed;
 use recv_reading::{Bounds, Reading};
@@ -35,7 +35,7 @@ pub(crate) fn take_capture<I: Source, O: Sink>(
     requires ready { IsReady taker.old }
     requires none { AreBelow (counts_in taker.old) 0 }
     ensures ends { (what : What) → Took what [] [] taker.old
-        → Ends (record { window = window; reach = reach; first = first; told = told }) what result
+        → DataEnds (record { window = window; reach = reach; first = first; told = told }) what result
         (I.known input.old) (I.known input.new) (O.known out.old) (O.known out.new) }
     ensures memory { result ≡ Err Fault.NoMemory → (input.new ≡ input.old) × (out.new ≡ out.old) }
     ensures read { HasCause (I.known input.old) (I.known input.new) (result ≡ Err Fault.Read) }
@@ -60,8 +60,8 @@ fn take_items<I: Source, O: Sink>(
     requires window { (1 ≤ collector.old.window) × (collector.old.window ≤ 64) }
     requires collector { collector.old ≡ made collector.old.window collector.old.reach collector.old.first }
     requires packets { packets.old ≡ new_walker }
-    requires some { IfSome told (λ n. 1 ≤ n) }
-    requires few { IfSome told (λ n. n ≤ 3000000) }
+    requires at_least_one { IfSome told (λ n. 1 ≤ n) }
+    requires within_limit { IfSome told (λ n. n ≤ 3000000) }
     requires ready { IsReady taker.old }
     requires none { AreBelow (counts_in taker.old) 0 }
     ensures takes { (what : What) → Took what [] [] taker.old

@@ -3,10 +3,10 @@
 ghost use Rattle.std.specs.Prelude.{◌≡◌, ◌<◌, ◌≤◌, ◌+◌, ◌%◌, ◌/◌, ◌^◌, ◌∷◌, [], ◌++◌, map, Some, None, length, ℕ, OnOk, IsErr, is_some};
 ghost use Rattle.drm_links.specs.Told.{HasCause};
 ghost use Rattle.mod_feed.specs.Items.{item_of, IsRead};
-ghost use Rattle.drm_links.specs.Sink.{Writes};
+ghost use Rattle.drm_links.specs.Sink.{WritesWhole};
 ghost use Rattle.mdi_items.specs.Frame.{frame_of};
 ghost use Rattle.mdi_items.specs.View.{IsWholeView};
-ghost use Rattle.drm_data.specs.Joining.{Event, Reads, told, answer, after};
+ghost use Rattle.drm_data.specs.Joining.{Event, ReadsDataPacket, told, answer, after};
 ghost use Rattle.cmd_unpack.specs.Streams.{UnitsOf, cut_into, pieces_at, entries_at, bad_at, missing_at};
 ghost use Rattle.cmd_unpack.specs.Lines.{cut_line, answer_text, units_end};
 ghost use Rattle.cmd_unpack.specs.Taken.{AreBelow, counted, ended_counts, TakesEntries, IsJoinerOf, WholePieces};
@@ -100,7 +100,7 @@ impl UnitTaker {
     pub fn end<O: Sink>(&mut self, out: &mut O) -> Result<(), WriteFault>
         requires room { AreBelow self.old.counts (2 ^ 127) }
         ensures counts { self.new.counts ≡ ended_counts self.old }
-        ensures writes { Writes result (O.known out.old) (O.known out.new)
+        ensures writes { WritesWhole result (O.known out.old) (O.known out.new)
             (cut_line (is_some self.old.joiner.begun) ++ units_end (ended_counts self.old)) }
     {
         let cut = self.joiner.end();
@@ -118,10 +118,10 @@ fn take_piece<O: Sink>(
     out: &mut O,
 ) -> Result<(), WriteFault>
     requires room { AreBelow counts.old (2 ^ 127) }
-    ensures takes { (event : Event) × Reads joiner.old.length piece.now event
+    ensures takes { (event : Event) × ReadsDataPacket joiner.old.length piece.now event
         × (joiner.new ≡ after joiner.old event)
         × (counts.new ≡ counted counts.old (answer joiner.old event))
-        × Writes result (O.known out.old) (O.known out.new) (answer_text (answer joiner.old event)) }
+        × WritesWhole result (O.known out.old) (O.known out.new) (answer_text (answer joiner.old event)) }
 {
     let said = joiner.packet(piece);
     count(counts, &said);

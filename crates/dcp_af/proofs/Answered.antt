@@ -10,7 +10,7 @@ use Rattle.dcp_af.specs.declared.read.Af.{Af}
 use Rattle.drm_bits.specs.Crc.{IsCheckOf}
 use Rattle.dcp_af.specs.Packet.{AfPacket, head, EndsWith, IsAf}
 use Rattle.dcp_af.specs.Faults.{sequence_number, minor, payload, checked_bytes, check_value, is_checked, HasKind, IsFault}
-use Rattle.dcp_af.specs.Reading.{packet_of, Compares}
+use Rattle.dcp_af.specs.Reading.{packet_of, ComparesCheckValue}
 use Rattle.dcp_af.proofs.Spellings.{IsBytes, packet_at, placed, spelled_at}
 
 pub one_fault : (f g : AfFault) (bytes : List ℕ) → IsFault f bytes → IsFault g bytes → f ≡ g
@@ -113,7 +113,7 @@ pub fault_is : (r : Result Af AfFault) (e f : AfFault) (bytes : List ℕ) → r 
 fault_is r e f bytes is same h g k = is ∙ ap (λ (x : AfFault). Err x) (same ∙ one_fault f g bytes h k)
 
 -- the fault of a check value
-pub compared : (f : AfFault) (bytes front last : List ℕ) → HasKind bytes → is_checked bytes ≡ true → front ≡ checked_bytes bytes → last ≡ drop (length bytes - 2) bytes → Compares (Err f) front last → IsFault f bytes
+pub compared : (f : AfFault) (bytes front last : List ℕ) → HasKind bytes → is_checked bytes ≡ true → front ≡ checked_bytes bytes → last ≡ drop (length bytes - 2) bytes → ComparesCheckValue (Err f) front last → IsFault f bytes
 compared Sync bytes front last kind counts is is_last h = absurd h
 compared (HeadCut n) bytes front last kind counts is is_last h = absurd h
 compared (Length s d) bytes front last kind counts is is_last h = absurd h

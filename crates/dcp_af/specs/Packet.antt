@@ -27,14 +27,14 @@ abbrev pub head : AfPacket → List ℕ
 head p = sync ++ to_be_bytes w32 (length p.payload) ++ to_be_bytes w16 p.seq ++ revision p.checked 1 p.minor ∷ tag_kind ∷ []
 
 -- what has a head
-pub record Fits (p : AfPacket) : Type 0 where
+pub record FitsPacket (p : AfPacket) : Type 0 where
   pub seq : p.seq < 2 ^ 16
   pub minor : p.minor < 2 ^ 4
   pub payload : length p.payload < 2 ^ 32
 
 -- the bytes are the packet's head and payload, and then this number in two bytes
 pub record EndsWith (p : AfPacket) (check : ℕ) (bytes : List ℕ) : Type 0 where
-  pub fits : Fits p
+  pub fits : FitsPacket p
   pub narrow : check < 2 ^ 16
   pub spelled : bytes ≡ head p ++ p.payload ++ to_be_bytes w16 check
 

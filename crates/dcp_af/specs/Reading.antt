@@ -23,7 +23,7 @@ pub record IsHeadOf (h : Head) (bytes : List ℕ) : Type 0 where
   pub kind : h.kind ≡ kind bytes
 
 -- The last two bytes have the check value of those in front, or that is the fault.
-abbrev pub Compares : Result (Unit {0}) AfFault → List ℕ → List ℕ → Type 0
-Compares (Ok _) front check = IsCheckOf front (from_be_bytes w16 check)
-Compares (Err (Crc stands computed)) front check = (stands ≡ from_be_bytes w16 check) × IsCheckOf front computed × (stands ≢ computed)
-Compares (Err other) front check = ⊥
+abbrev pub ComparesCheckValue : Result (Unit {0}) AfFault → List ℕ → List ℕ → Type 0
+ComparesCheckValue (Ok _) front check = IsCheckOf front (from_be_bytes w16 check)
+ComparesCheckValue (Err (Crc stands computed)) front check = (stands ≡ from_be_bytes w16 check) × IsCheckOf front computed × (stands ≢ computed)
+ComparesCheckValue (Err other) front check = ⊥

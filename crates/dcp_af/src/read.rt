@@ -3,7 +3,7 @@
 ghost use Rattle.std.specs.Prelude.{◌≡◌, List, ℕ, length, IfOk, IfErr, IsOk, IsOkAnd, OnOk};
 ghost use Rattle.dcp_af.specs.Packet.{AfPacket, IsAf};
 ghost use Rattle.dcp_af.specs.Faults.{IsFault, HasKind, payload};
-ghost use Rattle.dcp_af.specs.Reading.{packet_of, IsHeadOf, Compares};
+ghost use Rattle.dcp_af.specs.Reading.{packet_of, IsHeadOf, ComparesCheckValue};
 
 use crate::AfFault;
 use crate::head::{CHECK_BYTES, HEAD_BYTES, Head, MAJOR, TAG_KIND, head_of};
@@ -85,7 +85,7 @@ fn read_head(packet: &[u8]) -> Result<Head, AfFault>
 // Whether the check value is that of the bytes before it.
 fn compare(front: &[u8], check: &[u8]) -> Result<(), AfFault>
     requires { length check.now ≡ 2 }
-    ensures { Compares result front.now check.now }
+    ensures { ComparesCheckValue result front.now check.now }
 {
     match compare_crc16(front, check) {
         Ok(()) => Ok(()),

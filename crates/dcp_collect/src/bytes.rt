@@ -11,7 +11,7 @@ pub(crate) fn store(bytes: &mut [u8], start: usize, step: usize, payload: &[u8])
     ensures there { (j : ℕ) → j < length payload.now → slice_index bytes.new (start + j * step) ≡ slice_index payload.now j }
     ensures others { (p : ℕ) → ((j : ℕ) → j < length payload.now → p ≢ start + j * step)
         → slice_index bytes.new p ≡ slice_index bytes.old p }
-    ensures long { length bytes.new ≡ length bytes.old }
+    ensures same_length { length bytes.new ≡ length bytes.old }
 {
     if step == 1 {
         put_at(bytes, start, payload);

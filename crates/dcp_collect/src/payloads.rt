@@ -13,8 +13,8 @@ use crate::sizes::MOST_BYTES;
 pub(crate) fn join(bytes: &mut [u8], form: Form) -> usize
     requires { AreJoinable form bytes.old }
     ensures joined { take result bytes.new ≡ joined_to form bytes.old form.count }
-    ensures few { result ≤ most_bytes }
-    ensures long { length bytes.new ≡ length bytes.old }
+    ensures within_limit { result ≤ most_bytes }
+    ensures same_length { length bytes.new ≡ length bytes.old }
 {
     let room = MOST_BYTES / form.count as usize;
     let mut end = 0;

@@ -5,7 +5,7 @@ use Rattle.dcp_pft.specs.declared.carry.Carry.TheVariants.{Plain, Pft}
 use Rattle.dcp_pft.specs.declared.shape.Shape.{Shape}
 use Rattle.dcp_pft.specs.Limits.{longest_packet, longest_in_short, long_fragment, most_packet}
 use Rattle.dcp_pft.specs.Cutting.{IsShapeOf, shape_of}
-use Rattle.dcp_pft.specs.Carrying.{CarryFits, cut_of, shape_under, datagram_count, fragment_size, datagram_size, Carries}
+use Rattle.dcp_pft.specs.Carrying.{CarryFits, cut_of, shape_under, datagram_count, fragment_size, datagram_size, CarriesPacket}
 use Rattle.dcp_pft.specs.Head.{IsFragmentOf}
 use Rattle.dcp_pft.specs.Loss.{size, is_recoverable}
 use Rattle.dcp_pft.specs.Laws.{AnyMayBeLost}
@@ -55,12 +55,12 @@ cut_size (Pft m mtu) len i shape is =
     ap (λ (s : Shape). fragment_size s len i) (sym same)
 
 -- a datagram, where the packet isn't cut and where it is
-pub carries_whole : (carry : Carry) (sequence i : ℕ) (packet : List ℕ) → cut_of carry (length packet) ≡ None → Carries carry sequence packet i packet
+pub carries_whole : (carry : Carry) (sequence i : ℕ) (packet : List ℕ) → cut_of carry (length packet) ≡ None → CarriesPacket carry sequence packet i packet
 carries_whole Plain sequence i packet none = refl
 carries_whole (Pft m mtu) sequence i packet none = absurd cc
 
 pub carries_cut : (carry : Carry) (sequence i : ℕ) (packet datagram : List ℕ) (shape : Shape) → cut_of carry (length packet) ≡ Some shape
-    → IsFragmentOf shape sequence packet i datagram → Carries carry sequence packet i datagram
+    → IsFragmentOf shape sequence packet i datagram → CarriesPacket carry sequence packet i datagram
 carries_cut Plain sequence i packet datagram shape is fragment = absurd cc
 carries_cut (Pft m mtu) sequence i packet datagram shape is fragment =
     let same : shape_of (length packet) m mtu ≡ shape = cc in

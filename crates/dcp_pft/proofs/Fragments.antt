@@ -11,7 +11,7 @@ use Rattle.dcp_pft.specs.Limits.{most_parity}
 use Rattle.dcp_pft.specs.Cutting.{chunks_of, IsShapeOf}
 use Rattle.dcp_pft.specs.Coding.{AreParities, IsParityOf, filled, coded, every, byte_or_zero}
 use Rattle.dcp_pft.specs.Head.{PftFragment, head, sync, three_bytes, fragment_of}
-use Rattle.dcp_pft.specs.Writing.{PutsHead, Writes}
+use Rattle.dcp_pft.specs.Writing.{PutsHead, WritesFragment}
 use Rattle.dcp_pft.proofs.Shapes.{HasCode, has_code, HasNone, has_none}
 use Rattle.dcp_pft.proofs.Written.{fragment_put}
 
@@ -71,7 +71,7 @@ pub coded_writes : (shape : Shape) (rs : Rs) (seq i : ℕ) (packet parity front 
     → front ≡ sync ++ to_be_bytes w16 seq ++ three_bytes i ++ three_bytes shape.count ++ to_be_bytes w16 (32768 + shape.piece) ++ rs.k ∷ rs.z ∷ []
     → PutsHead front old mid → IsBytes window → (n room : ℕ) → n ≡ shape.piece → room ≡ shape.piece
     → ((c z : ℕ) → c * rs.k ≡ length packet + z → length parity ≡ 48 * c → window ≡ every shape.count i room (coded c rs.k (packet ++ replicate z 0) parity))
-    → Writes (fragment_of shape seq packet parity i) (16 + n) old (take 16 mid ++ (window ++ drop (16 + n - 16) (drop 16 mid)))
+    → WritesFragment (fragment_of shape seq packet parity i) (16 + n) old (take 16 mid ++ (window ++ drop (16 + n - 16) (drop 16 mid)))
 coded_writes shape rs seq i packet parity front old mid window is has is_parity is_front puts bytes n room is_n is_room all =
     let here : HasCode (length packet) shape rs = has_code (length packet) shape rs is has in
     let c : ℕ = chunks_by shape rs in
@@ -82,7 +82,7 @@ coded_writes shape rs seq i packet parity front old mid window is has is_parity 
     let size : length window ≡ shape.piece = ap length is_window ∙ length-map-range_with_len (λ (j : ℕ). byte_or_zero bytes_of (j * shape.count + i)) 0 shape.piece in
     let f : PftFragment = record { seq = seq; index = i; count = shape.count; rs = Some rs; addr = None; payload = window } in
     let behind : drop (16 + n - 16) (drop 16 mid) ≡ drop (16 + n) mid = drop-part 16 n mid in
-    let P : PftFragment → Type 0 = λ g. Writes g (16 + n) old (take 16 mid ++ (window ++ drop (16 + n - 16) (drop 16 mid))) in
+    let P : PftFragment → Type 0 = λ g. WritesFragment g (16 + n) old (take 16 mid ++ (window ++ drop (16 + n - 16) (drop 16 mid))) in
     subst P (fragment_with shape rs seq i packet parity window has is_window)
     (fragment_put f front old mid (take 16 mid ++ (window ++ drop (16 + n - 16) (drop 16 mid))) window 16 (16 + n) puts
     (is_front ∙ head_with seq i shape.count shape.piece rs window size) refl
@@ -115,12 +115,12 @@ pub plain_writes : (shape : Shape) (seq i : ℕ) (packet parity front old mid ne
     → front ≡ sync ++ to_be_bytes w16 seq ++ three_bytes i ++ three_bytes shape.count ++ to_be_bytes w16 (length payload)
     → PutsHead front old mid → IsBytes payload
     → new ≡ take 14 mid ++ payload ++ drop (14 + length payload) mid
-    → Writes (fragment_of shape seq packet parity i) (14 + length payload) old new
+    → WritesFragment (fragment_of shape seq packet parity i) (14 + length payload) old new
 plain_writes shape seq i packet parity front old mid new payload is none is_payload is_front puts bytes is_new =
     let here : HasNone (length packet) shape = has_none (length packet) shape is none in
     let size : length payload ≤ shape.piece = omega (arith, ap length is_payload, length-take shape.piece (drop (i * shape.piece) packet)) in
     let f : PftFragment = record { seq = seq; index = i; count = shape.count; rs = None; addr = None; payload = payload } in
-    let P : PftFragment → Type 0 = λ g. Writes g (14 + length payload) old new in
+    let P : PftFragment → Type 0 = λ g. WritesFragment g (14 + length payload) old new in
     subst P (fragment_none shape seq i packet parity payload none is_payload)
     (fragment_put f front old mid new payload 14 (14 + length payload) puts (is_front ∙ head_none seq i shape.count payload) refl
     (ap (λ (l : List ℕ). length l + 2) is_front) refl (omega (arith, here.piece)) bytes is_new)

@@ -8,7 +8,7 @@ use Rattle.dcp_pft.specs.declared.shape.Rs.{Rs}
 use Rattle.dcp_pft.specs.declared.shape.Shape.{Shape}
 use Rattle.dcp_pft.specs.Cutting.{chunk_size, coded_shape, plain_shape, shape_of}
 use Rattle.dcp_pft.specs.Coding.{AreParities, IsParityOf, filled}
-use Rattle.dcp_pft.specs.Head.{PftFragment, Spells, head, fragment_of}
+use Rattle.dcp_pft.specs.Head.{PftFragment, SpellsHead, head, fragment_of}
 use Rattle.dcp_pft.specs.Laws.{OneFragment}
 use Rattle.dcp_pft.proofs.Sizes.{short_chunks}
 use Rattle.dcp_pft.proofs.Shapes.{code_of}
@@ -52,7 +52,7 @@ same_by shape packet first second is here there (Some rs) has =
 pub one_parity_of : (shape : Shape) (packet first second : List ℕ) → HasShortChunks shape → IsParityOf shape packet first → IsParityOf shape packet second → second ≡ first
 one_parity_of shape packet first second is here there = same_by shape packet first second is here there shape.rs refl
 
-one_spelling : (f : PftFragment) (first second : List ℕ) → Spells f first → Spells f second → second ≡ first
+one_spelling : (f : PftFragment) (first second : List ℕ) → SpellsHead f first → SpellsHead f second → second ≡ first
 one_spelling f first second is other =
     other.spelled
     ∙ (ap (λ (n : ℕ). head f ++ to_be_bytes w16 n ++ f.payload) (one_check (head f) other.check is.check other.checks is.checks) ∙ sym is.spelled)
@@ -61,6 +61,6 @@ pub one_datagram : OneFragment
 one_datagram m mtu seq i packet first second some here there =
     let shape : Shape = shape_of (length packet) m mtu in
     let same = one_parity_of shape packet here.parity there.parity (short (length packet) m mtu some) here.is_parity there.is_parity in
-    let moved : Spells (fragment_of shape seq packet here.parity i) second =
-    subst (λ (l : List ℕ). Spells (fragment_of shape seq packet l i) second) same there.spells in
+    let moved : SpellsHead (fragment_of shape seq packet here.parity i) second =
+    subst (λ (l : List ℕ). SpellsHead (fragment_of shape seq packet l i) second) same there.spells in
     one_spelling (fragment_of shape seq packet here.parity i) first second here.spells moved

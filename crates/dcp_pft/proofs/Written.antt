@@ -6,7 +6,7 @@ use Rattle.std.proofs.lemmas.List.{take_at, drop_at, drop-drop, get_or_append_le
 use Rattle.drm_bits.specs.Bits.{IsBytes}
 use Rattle.drm_bits.specs.Crc.{IsCheckOf}
 use Rattle.dcp_pft.specs.Head.{PftFragment, head}
-use Rattle.dcp_pft.specs.Writing.{PutsHead, Writes}
+use Rattle.dcp_pft.specs.Writing.{PutsHead, WritesFragment}
 
 pub IsBytes-append : (xs ys : List ℕ) → IsBytes xs → IsBytes ys → IsBytes (xs ++ ys)
 IsBytes-append xs ys here there i =
@@ -39,7 +39,7 @@ head_put front old mid new check checks front_bytes check_bytes is_mid is_new =
 pub fragment_put : (f : PftFragment) (front old mid new payload : List ℕ) (n size : ℕ) → PutsHead front old mid → front ≡ head f → payload ≡ f.payload
     → length front + 2 ≡ n → n + length payload ≡ size → size ≤ 1500 → IsBytes payload
     → new ≡ take n mid ++ payload ++ drop size mid
-    → Writes f size old new
+    → WritesFragment f size old new
 fragment_put f front old mid new payload n size puts is_head is_payload is_n is_size small payload_bytes is_new =
     let last : List ℕ = to_be_bytes w16 puts.check in
     let long : length (front ++ last) ≡ n = length-append front last ∙ is_n in

@@ -47,6 +47,6 @@ datagram_size Plain len i = len
 datagram_size (Pft m mtu) len i = fragment_size (shape_of len m mtu) len i
 
 -- datagram i of a packet with this sequence number: the packet itself, or its fragment i
-abbrev pub Carries : Carry → ℕ → List ℕ → ℕ → List ℕ → Type 0
-Carries Plain sequence packet i datagram = datagram ≡ packet
-Carries (Pft m mtu) sequence packet i datagram = IsFragmentOf (shape_of (length packet) m mtu) sequence packet i datagram
+abbrev pub CarriesPacket : Carry → ℕ → List ℕ → ℕ → List ℕ → Type 0
+CarriesPacket Plain sequence packet i datagram = datagram ≡ packet
+CarriesPacket (Pft m mtu) sequence packet i datagram = IsFragmentOf (shape_of (length packet) m mtu) sequence packet i datagram

@@ -48,7 +48,7 @@ head f =
     ++ rs_bytes f.rs ++ addr_bytes f.addr
 
 -- The bytes are the header of this fragment, its check value, and its payload.
-pub record Spells (f : PftFragment) (bytes : List ℕ) : Type 0 where
+pub record SpellsHead (f : PftFragment) (bytes : List ℕ) : Type 0 where
   pub check : ℕ
   pub checks : IsCheckOf (head f) check
   pub spelled : bytes ≡ head f ++ to_be_bytes w16 check ++ f.payload
@@ -62,4 +62,4 @@ fragment_of shape seq packet parity i =
 pub record IsFragmentOf (shape : Shape) (seq : ℕ) (packet : List ℕ) (i : ℕ) (datagram : List ℕ) : Type 0 where
   pub parity : List ℕ
   pub is_parity : IsParityOf shape packet parity
-  pub spells : Spells (fragment_of shape seq packet parity i) datagram
+  pub spells : SpellsHead (fragment_of shape seq packet parity i) datagram

@@ -5,10 +5,10 @@ use Rattle.dcp_pft.specs.declared.carry.Carry.TheVariants.{Pft}
 use Rattle.dcp_pft.specs.declared.shape.Rs.{Rs}
 use Rattle.dcp_pft.specs.declared.shape.Shape.{Shape}
 use Rattle.dcp_pft.specs.Limits.{most_packet, most_losses, least_fragment, most_fragment, most_fragments, most_carried, most_chunks}
-use Rattle.dcp_pft.specs.Carrying.{CarryFits, shape_under, losses, Carries, datagram_size}
+use Rattle.dcp_pft.specs.Carrying.{CarryFits, shape_under, losses, CarriesPacket, datagram_size}
 use Rattle.dcp_pft.specs.Coding.{payload_of}
 use Rattle.dcp_pft.specs.Cutting.{IsShapeOf, chunk_count, chunks_of, shape_of}
-use Rattle.dcp_pft.specs.Head.{IsFragmentOf, Spells, fragment_of}
+use Rattle.dcp_pft.specs.Head.{IsFragmentOf, SpellsHead, fragment_of}
 use Rattle.dcp_pft.specs.Loss.{size, is_recoverable}
 use Rattle.dcp_pft.specs.Reading.{IsPft}
 
@@ -64,10 +64,10 @@ abbrev pub ReadAsWritten : Type 0
 ReadAsWritten =
     (shape : Shape) (seq i : ℕ) (packet parity datagram : List ℕ)
     → IsShapeOf (length packet) shape → seq < 2 ^ 16 → i < shape.count
-    → Spells (fragment_of shape seq packet parity i) datagram → IsPft (fragment_of shape seq packet parity i) datagram
+    → SpellsHead (fragment_of shape seq packet parity i) datagram → IsPft (fragment_of shape seq packet parity i) datagram
 
 -- what is counted of a datagram is its length
 abbrev pub DatagramsHaveTheirSize : Type 0
 DatagramsHaveTheirSize =
-    (carry : Carry) (seq i : ℕ) (packet datagram : List ℕ) → Carries carry seq packet i datagram
+    (carry : Carry) (seq i : ℕ) (packet datagram : List ℕ) → CarriesPacket carry seq packet i datagram
     → length datagram ≡ datagram_size carry (length packet) i

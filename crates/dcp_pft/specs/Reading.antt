@@ -6,7 +6,7 @@ use Rattle.dcp_pft.specs.declared.head.Head.{Head}
 use Rattle.dcp_pft.specs.declared.fault.PftFault.{PftFault}
 use Rattle.dcp_pft.specs.declared.fault.PftFault.TheVariants.{Sync, HeadCut, HeadCrc, Count, Index, PlenMismatch, RsK, RsZ, TooMany, TooLarge, Chunks}
 use Rattle.dcp_pft.specs.Limits.{most_fragments, most_carried}
-use Rattle.dcp_pft.specs.Head.{PftFragment, Spells}
+use Rattle.dcp_pft.specs.Head.{PftFragment, SpellsHead}
 use Rattle.dcp_pft.specs.Faults.{sequence_number, fragment_index, fragment_count, described, code, addresses}
 
 -- the fragment that is given
@@ -22,7 +22,7 @@ pub record IsCodeFor (size : ℕ) (rs : Rs) : Type 0 where
 
 -- The bytes are this fragment, one that is read.
 pub record IsPft (f : PftFragment) (bytes : List ℕ) : Type 0 where
-  pub spells : Spells f bytes
+  pub spells : SpellsHead f bytes
   pub seq : f.seq < 2 ^ 16
   pub addr : IfSome f.addr (λ addr. (addr.source < 2 ^ 16) × (addr.dest < 2 ^ 16))
   pub some : 1 ≤ f.count

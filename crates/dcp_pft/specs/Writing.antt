@@ -4,7 +4,7 @@ use Rattle.std.specs.Int.{w16, to_be_bytes}
 use Rattle.drm_bits.specs.Bits.{IsBytes}
 use Rattle.drm_bits.specs.Crc.{IsCheckOf}
 use Rattle.dcp_pft.specs.Limits.{most_fragment}
-use Rattle.dcp_pft.specs.Head.{PftFragment, Spells}
+use Rattle.dcp_pft.specs.Head.{PftFragment, SpellsHead}
 
 -- these bytes with their check value are written to the front
 pub record PutsHead (head old new : List ℕ) : Type 0 where
@@ -14,8 +14,8 @@ pub record PutsHead (head old new : List ℕ) : Type 0 where
   pub put : new ≡ head ++ to_be_bytes w16 check ++ drop (length head + 2) old
 
 -- a fragment of so many bytes is written to the front
-pub record Writes (f : PftFragment) (size : ℕ) (old new : List ℕ) : Type 0 where
+pub record WritesFragment (f : PftFragment) (size : ℕ) (old new : List ℕ) : Type 0 where
   pub small : size ≤ most_fragment
-  pub spells : Spells f (take size new)
+  pub spells : SpellsHead f (take size new)
   pub bytes : IsBytes (take size new)
   pub behind : drop size new ≡ drop size old

@@ -24,8 +24,8 @@ pub enum Carry {
 
 /// How a packet of so many bytes is cut, where it isn't carried whole.
 pub fn cut_for(carry: Carry, len: usize) -> Option<Shape>
-    requires some { 1 ≤ len }
-    requires small { len ≤ most_packet carry }
+    requires at_least_one { 1 ≤ len }
+    requires in_range { len ≤ most_packet carry }
     requires carry { CarryFits carry }
     ensures cut { result ≡ cut_of carry len }
     ensures shape { IfSome result (IsShapeOf len) }
@@ -50,7 +50,7 @@ pub fn datagrams(cut: Option<Shape>) -> u32
 pub fn datagram_len(cut: Option<Shape>, len: usize, i: u32) -> u64
     requires { len < 2 ^ 16 }
     ensures size { (carry : Carry) → cut ≡ cut_of carry len → result ≡ datagram_size carry len i }
-    ensures small { result < 2 ^ 17 }
+    ensures in_range { result < 2 ^ 17 }
 {
     match cut {
         None => len as u64,
@@ -61,7 +61,7 @@ pub fn datagram_len(cut: Option<Shape>, len: usize, i: u32) -> u64
 // The bytes of fragment `i`, of a packet of `len` bytes.
 fn fragment_len(shape: &Shape, len: usize, i: u32) -> u64
     ensures size { result ≡ fragment_size shape.now len i }
-    ensures small { result < 2 ^ 17 }
+    ensures in_range { result < 2 ^ 17 }
 {
     let piece = u64::from(shape.piece);
     match shape.rs {

@@ -25,7 +25,7 @@ pub fn code(packet: &[u8], shape: &Shape, parity: &mut [u8])
 // each chunk.
 fn code_chunks(packet: &[u8], k: usize, parity: &mut [u8])
     requires size { k ≤ 207 }
-    requires few { length parity.old < 2 ^ 32 }
+    requires within_limit { length parity.old < 2 ^ 32 }
     ensures { (c z : ℕ) → c * k ≡ length packet.now + z → z < k → length parity.old ≡ 48 * c
         → AreParities c k (packet.now ++ replicate z 0) parity.new }
 {

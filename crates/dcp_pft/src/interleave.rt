@@ -59,12 +59,12 @@ fn take_chunk(
     into: &mut [u8],
 ) -> Next
     requires size { (length chunk.now ≤ k) × (k ≤ 255) }
-    requires few { length parity.now ≤ 48 }
+    requires within_limit { length parity.now ≤ 48 }
     requires within { from.written ≤ length into.old }
-    requires small { from.skip < 2 ^ 40 }
+    requires in_range { from.skip < 2 ^ 40 }
     ensures within { result.written ≤ length into.new }
-    ensures small { result.skip < 2 ^ 40 }
-    ensures all { (rest : List ℕ) → payload_with count result into.new rest
+    ensures in_range { result.skip < 2 ^ 40 }
+    ensures written { (rest : List ℕ) → payload_with count result into.new rest
         ≡ payload_with count from into.old (chunk.now ++ replicate (k - length chunk.now) 0 ++ parity.now ++ rest) }
 {
     let behind_chunk = take_every(chunk, count, from, into);
@@ -74,12 +74,12 @@ fn take_chunk(
 
 // Goes on with these bytes, every count-th of them. They lie in one slice, so that no place is computed for a byte.
 fn take_every(bytes: &[u8], count: u32, from: Next, into: &mut [u8]) -> Next
-    requires few { length bytes.now ≤ 255 }
+    requires within_limit { length bytes.now ≤ 255 }
     requires within { from.written ≤ length into.old }
-    requires small { from.skip < 2 ^ 40 }
+    requires in_range { from.skip < 2 ^ 40 }
     ensures within { result.written ≤ length into.new }
-    ensures small { result.skip < 2 ^ 40 }
-    ensures all { (rest : List ℕ) → payload_with count result into.new rest
+    ensures in_range { result.skip < 2 ^ 40 }
+    ensures written { (rest : List ℕ) → payload_with count result into.new rest
         ≡ payload_with count from into.old (bytes.now ++ rest) }
 {
     let step = count as usize;

@@ -37,16 +37,16 @@ pub(crate) const PLAIN_HEAD: u32 = 14;
 
 /// How a packet of so many bytes is cut so that m fragments may be lost and no datagram is longer than `mtu` bytes.
 pub fn shape_for(len: usize, m: u8, mtu: u16) -> Shape
-    requires some { 1 ≤ len }
-    requires small { len ≤ most_packet (Pft m mtu) }
-    requires few { m ≤ most_losses }
+    requires at_least_one { 1 ≤ len }
+    requires in_range { len ≤ most_packet (Pft m mtu) }
+    requires within_limit { m ≤ most_losses }
     requires least { least_fragment ≤ mtu }
     requires most { mtu ≤ most_fragment }
     ensures shape { result ≡ shape_of len m mtu }
     ensures is { IsShapeOf len result }
-    ensures some { 0 < result.count }
+    ensures at_least_one { 0 < result.count }
     // No limit of a receiver is passed.
-    ensures few { result.count ≤ most_fragments }
+    ensures within_limit { result.count ≤ most_fragments }
     ensures bytes { result.count * result.piece ≤ most_carried }
     ensures chunks { chunks_of result ≤ most_chunks }
 {
@@ -59,8 +59,8 @@ pub fn shape_for(len: usize, m: u8, mtu: u16) -> Shape
 
 // Without a code.
 fn plain(len: u32, mtu: u16) -> Shape
-    requires some { 1 ≤ len }
-    requires small { len ≤ most_packet (Pft 0 mtu) }
+    requires at_least_one { 1 ≤ len }
+    requires in_range { len ≤ most_packet (Pft 0 mtu) }
     requires least { least_fragment ≤ mtu }
     ensures { result ≡ plain_shape len mtu }
 {
@@ -70,10 +70,10 @@ fn plain(len: u32, mtu: u16) -> Shape
 // With a code, in equal chunks.
 #[tactic(auto, unfolding(crate::specs::Cutting::chunk_count, crate::specs::Cutting::chunk_size, crate::specs::Cutting::coded_size, crate::specs::Cutting::most_bytes))]
 fn coded(len: u32, m: u8, mtu: u16) -> Shape
-    requires some { 1 ≤ len }
-    requires small { len ≤ most_packet (Pft m mtu) }
+    requires at_least_one { 1 ≤ len }
+    requires in_range { len ≤ most_packet (Pft m mtu) }
     requires kept { 1 ≤ m }
-    requires few { m ≤ most_losses }
+    requires within_limit { m ≤ most_losses }
     requires least { least_fragment ≤ mtu }
     ensures { result ≡ coded_shape len m mtu }
 {
@@ -89,8 +89,8 @@ fn coded(len: u32, m: u8, mtu: u16) -> Shape
 
 // As few pieces of at most so many bytes as this takes, of equal size.
 fn equal_pieces(size: u32, most: u32, rs: Option<Rs>) -> Shape
-    requires some { 0 < size }
-    requires small { size < 2 ^ 16 }
+    requires at_least_one { 0 < size }
+    requires in_range { size < 2 ^ 16 }
     requires room { 0 < most }
     ensures { result ≡ cut size most rs }
 {

@@ -6,8 +6,8 @@ ghost use Rattle.drm_bits.specs.Bits.{IsBytes};
 ghost use Rattle.dcp_pft.specs.Limits.{most_fragment};
 ghost use Rattle.dcp_pft.specs.Cutting.{IsShapeOf, chunks_of};
 ghost use Rattle.dcp_pft.specs.Coding.{IsParityOf};
-ghost use Rattle.dcp_pft.specs.Head.{Spells, IsFragmentOf, fragment_of, sync, three_bytes};
-ghost use Rattle.dcp_pft.specs.Writing.{PutsHead, Writes};
+ghost use Rattle.dcp_pft.specs.Head.{SpellsHead, IsFragmentOf, fragment_of, sync, three_bytes};
+ghost use Rattle.dcp_pft.specs.Writing.{PutsHead, WritesFragment};
 
 use crate::interleave::interleave;
 use crate::limits::MOST_FRAGMENT;
@@ -30,9 +30,9 @@ pub fn write_fragment(
     requires shape { IsShapeOf (length packet.now) shape.now }
     requires parity { IsParityOf shape.now packet.now parity.now }
     requires index { index < shape.now.count }
-    ensures fragment { Spells (fragment_of shape.now seq packet.now parity.now index) (take result into.new) }
+    ensures fragment { SpellsHead (fragment_of shape.now seq packet.now parity.now index) (take result into.new) }
     ensures is { IsFragmentOf shape.now seq packet.now index (take result into.new) }
-    ensures small { result ≤ most_fragment }
+    ensures in_range { result ≤ most_fragment }
     ensures bytes { IsBytes (take result into.new) }
     ensures behind { drop result into.new ≡ drop result into.old }
 {
@@ -55,7 +55,7 @@ fn write_coded(
     requires shape { IsShapeOf (length packet.now) shape.now }
     requires code { shape.now.rs ≡ Some rs }
     requires parity { IsParityOf shape.now packet.now parity.now }
-    ensures { Writes (fragment_of shape.now seq packet.now parity.now index) result into.old into.new }
+    ensures { WritesFragment (fragment_of shape.now seq packet.now parity.now index) result into.old into.new }
 {
     put_head(&coded_head(seq, index, shape.count, shape.piece, rs), into);
     let end = CODED_HEAD as usize + usize::from(shape.piece);
@@ -80,7 +80,7 @@ fn write_plain(
 ) -> usize
     requires shape { IsShapeOf (length packet.now) shape.now }
     requires code { shape.now.rs ≡ None }
-    ensures { (parity : List ℕ) → Writes (fragment_of shape.now seq packet.now parity index) result into.old into.new }
+    ensures { (parity : List ℕ) → WritesFragment (fragment_of shape.now seq packet.now parity index) result into.old into.new }
 {
     let size = usize::from(shape.piece);
     let payload = part(packet, index as usize * size, size);

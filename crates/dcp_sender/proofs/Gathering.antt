@@ -13,7 +13,7 @@ use Rattle.dcp_pft.specs.declared.shape.Shape.{Shape}
 use Rattle.dcp_pft.specs.declared.shape.Rs.{Rs}
 use Rattle.dcp_pft.specs.Limits.{most_carried, most_fragments, most_fragment}
 use Rattle.dcp_pft.specs.Cutting.{shape_of}
-use Rattle.dcp_pft.specs.Carrying.{fragment_size, Carries}
+use Rattle.dcp_pft.specs.Carrying.{fragment_size, CarriesPacket}
 use Rattle.dcp_pft.specs.Head.{IsFragmentOf}
 use Rattle.dcp_pft.proofs.DatagramSizes.{sizes}
 use Rattle.dcp_sender.specs.Carried.{Carried, most_room}
@@ -90,7 +90,7 @@ gathered_all m mtu shape seq packet into at i is all g =
     }
 
 -- a packet that is carried whole
-whole_each : (seq : ℕ) (packet : List ℕ) (i : ℕ) (none : List ℕ) → i < 1 → Carries Plain seq packet i (slice_index_or (packet ∷ []) i none)
+whole_each : (seq : ℕ) (packet : List ℕ) (i : ℕ) (none : List ℕ) → i < 1 → CarriesPacket Plain seq packet i (slice_index_or (packet ∷ []) i none)
 whole_each seq packet zero none below = refl
 whole_each seq packet (suc i) none below = absurd (omega (arith, below))
 

@@ -1,9 +1,9 @@
 -- Calls of links that never rest.
 use Rattle.std.proofs.Common.{◌≡◌, ℕ, zero, suc, ◌+◌, ◌≤◌, List, [], ◌∷◌, ◌++◌, length, map, replicate, refl, sym, ap, ◌∙◌}
 use Rattle.std.proofs.lemmas.List.{map-append}
-use Rattle.drm_links.specs.Told.{Known, Tells}
+use Rattle.drm_links.specs.Told.{Known, KnownThrough}
 use Rattle.drm_links.specs.Link.{Traffic}
-use Rattle.drm_links.specs.Transmission.{Transmits, SendsAll, SendsNoMore, Waits, since, still}
+use Rattle.drm_links.specs.Transmission.{LinkTransmits, SendsAll, SendsNoMore, WaitsBetween, since, still}
 use Rattle.drm_links.proofs.ToldLemmas.{Tells-nothing, Tells-then}
 use Rattle.drm_links.proofs.TransmissionLemmas.{Transmits-weaker, Transmits-both}
 use Rattle.drm_links.proofs.ManyCallsLemmas.{no_calls, more_calls, at_most}
@@ -14,10 +14,10 @@ calls t = t.calls
 
 -- ---- several calls
 
-pub still_none : (a : Known Traffic) → Tells a a NeverRests
+pub still_none : (a : Known Traffic) → KnownThrough a a NeverRests
 still_none a = Tells-nothing NeverRests a (λ x rested. rested)
 
-pub still_then : (a b c : Known Traffic) → Tells a b NeverRests → Tells b c NeverRests → Tells a c NeverRests
+pub still_then : (a b c : Known Traffic) → KnownThrough a b NeverRests → KnownThrough b c NeverRests → KnownThrough a c NeverRests
 still_then a b c first second = Tells-then NeverRests NeverRests NeverRests a b c first second (λ x y z p q rested. q (p rested))
 
 pub no_sends : (a : Known Traffic) → MakesSends 0 a a
@@ -46,7 +46,7 @@ still_none_more : (n : ℕ) → still 0 (zeros n) 0 ≡ 0
 still_none_more zero = refl
 still_none_more (suc n) = refl
 
-still_over : (datagrams : List (List ℕ)) (x y : Traffic) → y.gone ≡ x.gone ++ datagrams → Waits (replicate (length datagrams) 0) 0 x y → NeverRests x y
+still_over : (datagrams : List (List ℕ)) (x y : Traffic) → y.gone ≡ x.gone ++ datagrams → WaitsBetween (replicate (length datagrams) 0) 0 x y → NeverRests x y
 still_over datagrams x y gone waits rested =
     let n : ℕ = length datagrams in
     let none : since x.waiting (zeros n) ≡ map (λ _. 0) datagrams =
@@ -59,13 +59,13 @@ still_over datagrams x y gone waits rested =
       waiting = waits.waiting ∙ (ap (λ w. still w (zeros n) 0) rested.waiting ∙ still_none_more n);
     }
 
-pub still_all : (datagrams : List (List ℕ)) (a b : Known Traffic) → Transmits a b (SendsAll datagrams) → Transmits a b (Waits (replicate (length datagrams) 0) 0) → Tells a b NeverRests
+pub still_all : (datagrams : List (List ℕ)) (a b : Known Traffic) → LinkTransmits a b (SendsAll datagrams) → LinkTransmits a b (WaitsBetween (replicate (length datagrams) 0) 0) → KnownThrough a b NeverRests
 still_all datagrams a b sent waited =
-    Transmits-weaker (λ x y. SendsAll datagrams x y × Waits (replicate (length datagrams) 0) 0 x y) NeverRests a b
-    (Transmits-both (SendsAll datagrams) (Waits (replicate (length datagrams) 0) 0) a b sent waited)
+    Transmits-weaker (λ x y. SendsAll datagrams x y × WaitsBetween (replicate (length datagrams) 0) 0 x y) NeverRests a b
+    (Transmits-both (SendsAll datagrams) (WaitsBetween (replicate (length datagrams) 0) 0) a b sent waited)
     (λ x y both. still_over datagrams x y both.0.gone both.1)
 
-pub still_some : (datagrams : List (List ℕ)) (a b : Known Traffic) → Transmits a b (λ x y. SendsNoMore datagrams x y × Waits (replicate (length datagrams) 0) 0 x y) → Tells a b NeverRests
+pub still_some : (datagrams : List (List ℕ)) (a b : Known Traffic) → LinkTransmits a b (λ x y. SendsNoMore datagrams x y × WaitsBetween (replicate (length datagrams) 0) 0 x y) → KnownThrough a b NeverRests
 still_some datagrams a b sent =
-    Transmits-weaker (λ x y. SendsNoMore datagrams x y × Waits (replicate (length datagrams) 0) 0 x y) NeverRests a b sent
+    Transmits-weaker (λ x y. SendsNoMore datagrams x y × WaitsBetween (replicate (length datagrams) 0) 0 x y) NeverRests a b sent
     (λ x y both. still_over datagrams x y both.0.gone both.1)

@@ -4,12 +4,12 @@ use Rattle.std.specs.List.{concat}
 use Rattle.dcp_pft.specs.declared.carry.Carry.{Carry}
 use Rattle.dcp_pft.specs.declared.carry.Carry.TheVariants.{Plain, Pft}
 use Rattle.dcp_pft.specs.Limits.{most_packet, most_carried, most_fragments, most_fragment}
-use Rattle.dcp_pft.specs.Carrying.{datagram_count, Carries}
+use Rattle.dcp_pft.specs.Carrying.{datagram_count, CarriesPacket}
 
 -- all datagrams of a packet with this sequence number, in their order
 pub record AreOf (carry : Carry) (sequence : ℕ) (packet : List ℕ) (datagrams : List (List ℕ)) : Type 0 where
   pub many : length datagrams ≡ datagram_count carry (length packet)
-  pub each : (i : ℕ) (none : List ℕ) → i < length datagrams → Carries carry sequence packet i (slice_index_or datagrams i none)
+  pub each : (i : ℕ) (none : List ℕ) → i < length datagrams → CarriesPacket carry sequence packet i (slice_index_or datagrams i none)
 
 -- The text is these, one after another.
 pub record Carried (carry : Carry) (sequence : ℕ) (packet text : List ℕ) : Type 0 where

@@ -4,10 +4,10 @@ use Rattle.dcp_pft.specs.declared.carry.Carry.{Carry}
 use Rattle.dcp_pft.specs.declared.shape.Shape.{Shape}
 use Rattle.dcp_sender.specs.Sending as sending
 use Rattle.dcp_pft.specs.Limits.{most_packet, most_fragments}
-use Rattle.dcp_pft.specs.Carrying.{datagram_count, Carries}
+use Rattle.dcp_pft.specs.Carrying.{datagram_count, CarriesPacket}
 use Rattle.drm_links.specs.Told.{Known, HasFailed}
 use Rattle.drm_links.specs.Link.{Traffic}
-use Rattle.drm_links.specs.Transmission.{Transmits, SendsAll, SendsNoMore}
+use Rattle.drm_links.specs.Transmission.{LinkTransmits, SendsAll, SendsNoMore}
 use Rattle.dcp_sender.specs.Carried.{AreOf}
 use Rattle.dcp_sender.specs.Resting.{MakesSends}
 use Rattle.dcp_sender.specs.Targets.{Target}
@@ -19,17 +19,17 @@ is_large carry len = nat_lt (most_packet carry) len
 -- some first datagrams of a packet with this sequence number, and not all
 pub record AreSome (carry : Carry) (sequence : ℕ) (packet : List ℕ) (datagrams : List (List ℕ)) : Type 0 where
   pub fewer : length datagrams < datagram_count carry (length packet)
-  pub each : (i : ℕ) (none : List ℕ) → i < length datagrams → Carries carry sequence packet i (slice_index_or datagrams i none)
+  pub each : (i : ℕ) (none : List ℕ) → i < length datagrams → CarriesPacket carry sequence packet i (slice_index_or datagrams i none)
 
 -- All datagrams of a packet were sent, and they are n.
 abbrev pub SentPacket : Carry → ℕ → List ℕ → ℕ → Known Traffic → Known Traffic → Type 0
 SentPacket carry sequence packet n before after =
-    (datagrams : List (List ℕ)) × AreOf carry sequence packet datagrams × (length datagrams ≡ n) × Transmits before after (SendsAll datagrams)
+    (datagrams : List (List ℕ)) × AreOf carry sequence packet datagrams × (length datagrams ≡ n) × LinkTransmits before after (SendsAll datagrams)
 
 -- Some first ones were sent, and then the link took no more.
 abbrev pub SentSome : Carry → ℕ → List ℕ → Known Traffic → Known Traffic → Type 0
 SentSome carry sequence packet before after =
-    (datagrams : List (List ℕ)) × AreSome carry sequence packet datagrams × Transmits before after (SendsNoMore datagrams)
+    (datagrams : List (List ℕ)) × AreSome carry sequence packet datagrams × LinkTransmits before after (SendsNoMore datagrams)
 
 -- A packet over a link that hadn't failed, by whether it hasn't since: it took all its datagrams, or some first ones, and no more. The
 -- one call that failed is the last.

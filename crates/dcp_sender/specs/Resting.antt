@@ -1,6 +1,6 @@
 -- Links that never rest.
 use Rattle.std.specs.Prelude.{ℕ, ◌≡◌, map}
-use Rattle.drm_links.specs.Told.{Known, Tells}
+use Rattle.drm_links.specs.Told.{Known, KnownThrough}
 use Rattle.drm_links.specs.Link.{Traffic}
 use Rattle.drm_links.specs.ManyCalls.{MakesCalls}
 
@@ -16,4 +16,4 @@ NeverRests before after = HasNotRested before → HasNotRested after
 -- so many calls at the most, none of which is a rest
 pub record MakesSends (most : ℕ) (before after : Known Traffic) : Type 0 where
   pub calls : MakesCalls (λ traffic. traffic.calls) most before after
-  pub still : Tells before after NeverRests
+  pub still : KnownThrough before after NeverRests

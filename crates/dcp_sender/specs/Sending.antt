@@ -4,7 +4,7 @@ use Rattle.dcp_pft.specs.declared.shape.Shape.{Shape}
 use Rattle.dcp_pft.specs.Head.{IsFragmentOf}
 use Rattle.drm_links.specs.Told.{Known}
 use Rattle.drm_links.specs.Link.{Traffic}
-use Rattle.drm_links.specs.Transmission.{Transmits, SendsAll, SendsNoMore, Waits}
+use Rattle.drm_links.specs.Transmission.{LinkTransmits, SendsAll, SendsNoMore, WaitsBetween}
 
 -- so many calls were made
 abbrev pub MadeCalls : ℕ → Traffic → Traffic → Type 0
@@ -29,14 +29,14 @@ AreFirst cut sequence packet datagrams =
 abbrev pub SentPacket : Option Shape → ℕ → List ℕ → ℕ → Known Traffic → Known Traffic → Type 0
 SentPacket cut sequence packet n before after =
     (datagrams : List (List ℕ)) × AreFirst cut sequence packet datagrams × (length datagrams ≡ count_of cut) × (n ≡ length datagrams)
-    × Transmits before after (SendsAll datagrams)
+    × LinkTransmits before after (SendsAll datagrams)
 
 -- Some first ones were sent, without a rest between them, and no more were taken: not the next one.
 abbrev pub SentSome : Option Shape → ℕ → List ℕ → Known Traffic → Known Traffic → Type 0
 SentSome cut sequence packet before after =
     (datagrams : List (List ℕ)) × AreFirst cut sequence packet datagrams × (length datagrams < count_of cut)
     × (next : List ℕ) × IsDatagramOf cut sequence packet (length datagrams) next
-    × Transmits before after (λ x y. SendsNoMore datagrams x y × Waits (replicate (length datagrams) 0) 0 x y)
+    × LinkTransmits before after (λ x y. SendsNoMore datagrams x y × WaitsBetween (replicate (length datagrams) 0) 0 x y)
 
 -- the same of a packet that is cut
 abbrev pub SentFragments : Shape → ℕ → List ℕ → ℕ → Known Traffic → Known Traffic → Type 0

@@ -13,7 +13,7 @@ use dcp_pft::{MOST_FRAGMENT, Shape, all_taken, chunks, code, write_fragment};
 fn parity_len(shape: &Shape, len: usize) -> usize
     requires { IsShapeOf len shape.now }
     ensures len { result ≡ 48 * chunks_of shape.now }
-    ensures few { result ≤ most_parity }
+    ensures within_limit { result ≤ most_parity }
 {
     all_taken();
     let _ = len;
@@ -25,7 +25,7 @@ pub fn write_parity(packet: &[u8], cut: Option<Shape>, into: &mut [u8])
     requires shape { IfSome cut (IsShapeOf (length packet.now)) }
     requires room { length into.old ≡ most_parity }
     ensures parity { HoldsParity cut packet.now into.new }
-    ensures all { length into.new ≡ most_parity }
+    ensures whole_length { length into.new ≡ most_parity }
 {
     if let Some(shape) = cut {
         write_front(packet, &shape, into);
@@ -37,7 +37,7 @@ fn write_front(packet: &[u8], shape: &Shape, into: &mut [u8])
     requires shape { IsShapeOf (length packet.now) shape.now }
     requires room { length into.old ≡ most_parity }
     ensures parity { IsParityOf shape.now packet.now (take (48 * chunks_of shape.now) into.new) }
-    ensures all { length into.new ≡ length into.old }
+    ensures same_length { length into.new ≡ length into.old }
 {
     let len = parity_len(shape, packet.len());
     code(packet, shape, &mut into[..len]);
@@ -55,7 +55,7 @@ pub fn write_cut(
     requires coded { IsCoded shape.now packet.now parity.now i }
     requires room { most_fragment ≤ length into.old }
     ensures fragment { IsFragmentOf shape.now seq packet.now i (take result into.new) }
-    ensures small { result ≤ most_fragment }
+    ensures in_range { result ≤ most_fragment }
     ensures room { length into.new ≡ length into.old }
 {
     match into.first_chunk_mut() {
@@ -75,8 +75,8 @@ fn write_in(
 ) -> usize
     requires { IsCoded shape.now packet.now parity.now i }
     ensures fragment { IsFragmentOf shape.now seq packet.now i (take result room.new) }
-    ensures small { result ≤ most_fragment }
-    ensures long { length room.new ≡ most_fragment }
+    ensures in_range { result ≤ most_fragment }
+    ensures length { length room.new ≡ most_fragment }
 {
     let len = parity_len(shape, packet.len());
     write_fragment(shape, seq, i, packet, &parity[..len], room)

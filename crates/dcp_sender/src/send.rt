@@ -6,7 +6,7 @@ ghost use Rattle.dcp_pft.specs.Cutting.{IsShapeOf};
 ghost use Rattle.drm_links.specs.Told.{HasCause};
 ghost use Rattle.drm_links.specs.Link.{longest_told};
 ghost use Rattle.drm_links.specs.ManyCalls.{MakesCalls};
-ghost use Rattle.drm_links.specs.Transmission.{Transmits, SendsAll, SendsNoMore, Waits};
+ghost use Rattle.drm_links.specs.Transmission.{LinkTransmits, SendsAll, SendsNoMore, WaitsBetween};
 ghost use Rattle.dcp_sender.specs.Parity.{HoldsParity};
 ghost use Rattle.dcp_sender.specs.Sending.{MadeCalls, SentPacket, SentSome, SentFragments, SentFewer};
 
@@ -26,14 +26,14 @@ pub fn send_packet<L: Link>(
 ) -> Result<u64, LinkFault>
     requires shaped { IfSome cut (IsShapeOf (length packet.now)) }
     requires stands { HoldsParity cut packet.now parity.now }
-    requires all { length parity.now ≡ most_parity }
-    requires small { length packet.now ≤ longest_told }
+    requires whole_length { length parity.now ≡ most_parity }
+    requires in_range { length packet.now ≤ longest_told }
     requires room { most_fragment ≤ length room.old }
     ensures whole { IfOk result (λ n. SentPacket cut seq packet.now n (L.known link.old) (L.known link.new)) }
-    ensures waits { IfOk result (λ n. Transmits (L.known link.old) (L.known link.new) (Waits (replicate n 0) 0)) }
-    ensures some { IfOk result (λ n. 1 ≤ n) }
-    ensures few { IfOk result (λ n. n ≤ most_fragments) }
-    ensures counted { IfOk result (λ n. Transmits (L.known link.old) (L.known link.new) (MadeCalls n)) }
+    ensures waits { IfOk result (λ n. LinkTransmits (L.known link.old) (L.known link.new) (WaitsBetween (replicate n 0) 0)) }
+    ensures at_least_one { IfOk result (λ n. 1 ≤ n) }
+    ensures within_limit { IfOk result (λ n. n ≤ most_fragments) }
+    ensures counted { IfOk result (λ n. LinkTransmits (L.known link.old) (L.known link.new) (MadeCalls n)) }
     ensures part { OnErr result (SentSome cut seq packet.now (L.known link.old) (L.known link.new)) }
     ensures cause { HasCause (L.known link.old) (L.known link.new) (IsErr result) }
     ensures idle { L.idles link.new ≡ L.idles link.old }
@@ -60,13 +60,13 @@ fn send_fragments<L: Link>(
 ) -> Result<u64, LinkFault>
     requires shaped { IsShapeOf (length packet.now) shape.now }
     requires stands { HoldsParity (Some shape.now) packet.now parity.now }
-    requires all { length parity.now ≡ most_parity }
+    requires whole_length { length parity.now ≡ most_parity }
     requires room { most_fragment ≤ length room.old }
     ensures whole { IfOk result (λ n. SentFragments shape.now seq packet.now n (L.known link.old) (L.known link.new)) }
-    ensures waits { IfOk result (λ n. Transmits (L.known link.old) (L.known link.new) (Waits (replicate n 0) 0)) }
-    ensures some { IfOk result (λ n. 1 ≤ n) }
-    ensures few { IfOk result (λ n. n ≤ most_fragments) }
-    ensures counted { IfOk result (λ n. Transmits (L.known link.old) (L.known link.new) (MadeCalls n)) }
+    ensures waits { IfOk result (λ n. LinkTransmits (L.known link.old) (L.known link.new) (WaitsBetween (replicate n 0) 0)) }
+    ensures at_least_one { IfOk result (λ n. 1 ≤ n) }
+    ensures within_limit { IfOk result (λ n. n ≤ most_fragments) }
+    ensures counted { IfOk result (λ n. LinkTransmits (L.known link.old) (L.known link.new) (MadeCalls n)) }
     ensures part { OnErr result (SentFewer shape.now seq packet.now (L.known link.old) (L.known link.new)) }
     ensures cause { HasCause (L.known link.old) (L.known link.new) (IsErr result) }
     ensures idle { L.idles link.new ≡ L.idles link.old }
@@ -84,11 +84,11 @@ fn send_fragments<L: Link>(
 /// Sends a datagram.
 pub fn send_datagram<L: Link>(link: &mut L, datagram: &[u8]) -> Result<(), LinkFault>
     requires { length datagram.now ≤ longest_told }
-    ensures sent { OnOk result (Transmits (L.known link.old) (L.known link.new) (SendsAll (datagram.now ∷ []))) }
-    ensures none { OnErr result (Transmits (L.known link.old) (L.known link.new) (SendsNoMore [])) }
-    ensures waited { OnOk result (Transmits (L.known link.old) (L.known link.new) (Waits (0 ∷ []) 0)) }
-    ensures waits { OnErr result (Transmits (L.known link.old) (L.known link.new) (Waits [] 0)) }
-    ensures counted { Transmits (L.known link.old) (L.known link.new) (MadeCalls 1) }
+    ensures sent { OnOk result (LinkTransmits (L.known link.old) (L.known link.new) (SendsAll (datagram.now ∷ []))) }
+    ensures none { OnErr result (LinkTransmits (L.known link.old) (L.known link.new) (SendsNoMore [])) }
+    ensures waited { OnOk result (LinkTransmits (L.known link.old) (L.known link.new) (WaitsBetween (0 ∷ []) 0)) }
+    ensures waits { OnErr result (LinkTransmits (L.known link.old) (L.known link.new) (WaitsBetween [] 0)) }
+    ensures counted { LinkTransmits (L.known link.old) (L.known link.new) (MadeCalls 1) }
     ensures cause { HasCause (L.known link.old) (L.known link.new) (IsErr result) }
     ensures idle { L.idles link.new ≡ L.idles link.old }
     ensures calls { MakesCalls (λ traffic. traffic.calls) 1 (L.known link.old) (L.known link.new) }

@@ -8,7 +8,7 @@ ghost use Rattle.dcp_pft.specs.Carrying.{CarryFits};
 ghost use Rattle.dcp_pft.specs.Head.{IsFragmentOf};
 ghost use Rattle.dcp_pft.specs.declared.carry.Carry.TheVariants.{Pft};
 ghost use Rattle.drm_links.specs.Link.{longest_told};
-ghost use Rattle.drm_links.specs.Sink.{Writes};
+ghost use Rattle.drm_links.specs.Sink.{WritesWhole};
 ghost use Rattle.dcp_sender.specs.Parity.{HoldsParity, IsCoded};
 ghost use Rattle.dcp_sender.specs.Carried.{Carried, most_room, is_too_long};
 ghost use Rattle.dcp_sender.specs.OverLinks.{is_large, SentTo, CutOver};
@@ -84,10 +84,10 @@ impl PacketSender {
 
     /// Writes the datagrams that carry a packet with this sequence number, one after another.
     pub fn write<O: Sink>(&mut self, seq: u16, packet: &[u8], out: &mut O) -> Result<(), WriteFault>
-        requires some { 1 ≤ length packet.now }
-        requires small { is_too_long self.old (length packet.now) ≡ false }
+        requires at_least_one { 1 ≤ length packet.now }
+        requires in_range { is_too_long self.old (length packet.now) ≡ false }
         ensures written { (text : List ℕ) × Carried self.old seq packet.now text
-            × Writes result (O.known out.old) (O.known out.new) text }
+            × WritesWhole result (O.known out.old) (O.known out.new) text }
         ensures carry { self.new ≡ self.old }
     {
         match self.carry {
@@ -109,11 +109,11 @@ impl PacketSender {
     /// Sends the datagrams of a packet with this sequence number over each link that hasn't failed, in their order, and gives their
     /// number. The packet is coded once.
     pub fn send<K: Link>(&mut self, seq: u16, packet: &[u8], links: &mut [Member<K>]) -> u64
-        requires some { 1 ≤ length packet.now }
-        requires small { is_large self.old (length packet.now) ≡ false }
+        requires at_least_one { 1 ≤ length packet.now }
+        requires in_range { is_large self.old (length packet.now) ≡ false }
         ensures each { (k : ℕ) (d : _) → k < length links.old → SentTo self.old seq packet.now result
             (target K.known (slice_index_or links.old k d)) (target K.known (slice_index_or links.new k d)) }
-        ensures few { result ≤ most_fragments }
+        ensures within_limit { result ≤ most_fragments }
         ensures carry { self.new ≡ self.old }
     {
         all_taken();
@@ -128,9 +128,9 @@ impl PacketSender {
 
 // Writes the fragments of a packet one after another to the front, and gives their length.
 fn gather(packet: &[u8], seq: u16, m: u8, mtu: u16, parity: &mut [u8], into: &mut [u8]) -> usize
-    requires some { 1 ≤ length packet.now }
-    requires small { length packet.now ≤ most_packet (Pft m mtu) }
-    requires few { m ≤ most_losses }
+    requires at_least_one { 1 ≤ length packet.now }
+    requires in_range { length packet.now ≤ most_packet (Pft m mtu) }
+    requires within_limit { m ≤ most_losses }
     requires least { least_fragment ≤ mtu }
     requires most { mtu ≤ most_fragment }
     requires parity { length parity.old ≡ most_parity }
@@ -163,8 +163,8 @@ fn write_behind(
     requires room { at + most_fragment ≤ length into.old }
     ensures before { take at into.new ≡ take at into.old }
     ensures fragment { IsFragmentOf shape.now seq packet.now i (take result (drop at into.new)) }
-    ensures small { result ≤ most_fragment }
-    ensures all { length into.new ≡ length into.old }
+    ensures in_range { result ≤ most_fragment }
+    ensures same_length { length into.new ≡ length into.old }
 {
     write_cut(packet, shape, parity, seq, i, &mut into[at..])
 }
@@ -180,8 +180,8 @@ fn send_over<K: Link>(
 )
     requires shaped { IfSome cut (IsShapeOf (length packet.now)) }
     requires stands { HoldsParity cut packet.now parity.now }
-    requires all { length parity.now ≡ most_parity }
-    requires small { length packet.now ≤ longest_told }
+    requires whole_length { length parity.now ≡ most_parity }
+    requires in_range { length packet.now ≤ longest_told }
     requires room { most_fragment ≤ length room.old }
     ensures sent { CutOver link.old.up cut seq packet.now (target K.known link.old) (target K.known link.new) }
     ensures room { length room.new ≡ length room.old }

@@ -4,7 +4,7 @@ use Rattle.std.proofs.lemmas.List.{take_rest, drop_at, drop-drop, take-append-dr
 use Rattle.dcp_tag.specs.declared.items.Item.{Item}
 use Rattle.dcp_tag.specs.Tag.{TagItem, bytes_for, head, HasHead, IsSpelling, IsPayload}
 use Rattle.dcp_tag.specs.Place.{Place, left}
-use Rattle.dcp_tag.specs.Reading.{tag_of, Gives}
+use Rattle.dcp_tag.specs.Reading.{tag_of, GivesItem}
 use Rattle.dcp_tag.specs.Laws.{GivesAll}
 use Rattle.dcp_tag.proofs.TagLemmas.{length-head, head_size, padded, one_front}
 
@@ -31,7 +31,7 @@ first_item tag bytes spelling rest spelled stands others = (
 
 pub gives : (item : Item) (payload : List ℕ) (at : ℕ) (behind : List ℕ) (len : ℕ) → HasHead (drop at payload) item.name item.bits behind → len ≡ bytes_for item.bits → len ≤ length behind
     → item.value.now ≡ take len behind → item.at ≡ at + 8
-    → Gives item (record { payload = payload; at = at }) (record { payload = payload; at = at + 8 + len })
+    → GivesItem item (record { payload = payload; at = at }) (record { payload = payload; at = at + 8 + len })
 gives item payload at behind len begins is_len within is_value is_at =
     let place : behind ≡ drop (at + 8) payload = behind_is payload at item.name item.bits behind begins in
     let size : length item.value.now ≡ bytes_for item.bits = ap length is_value ∙ (length-take-le len behind within ∙ is_len) in
@@ -56,10 +56,10 @@ gives item payload at behind len begins is_len within is_value is_at =
 pub gives_at : (item : Item) (place : Place) (payload : List ℕ) (at : ℕ) (behind : List ℕ) (len : ℕ) → record { payload = payload; at = at } ≡ place
     → HasHead (take (length payload - at) (drop at payload)) item.name item.bits behind → len ≡ bytes_for item.bits → len ≤ length behind
     → item.value.now ≡ take len behind → item.at ≡ at + 8
-    → Gives item place (record { payload = payload; at = at + 8 + len })
+    → GivesItem item place (record { payload = payload; at = at + 8 + len })
 gives_at item place payload at behind len is begins is_len within is_value is_at =
     let stands : HasHead (drop at payload) item.name item.bits behind = begins_left (record { payload = payload; at = at }) payload at item.name item.bits behind refl begins in
-    subst (λ (p : Place). Gives item p (record { payload = payload; at = at + 8 + len })) is (gives item payload at behind len stands is_len within is_value is_at)
+    subst (λ (p : Place). GivesItem item p (record { payload = payload; at = at + 8 + len })) is (gives item payload at behind len stands is_len within is_value is_at)
 
 pub given_payload : (old new : Place) (given others : List TagItem) → GivesAll old given new → IsPayload (given ++ others) (left old) ↔ IsPayload others (left new)
 given_payload old new [] others same =

@@ -3,7 +3,7 @@ use Rattle.std.specs.Prelude.{ℕ, ◌≡◌, ◌<◌, ◌↔◌, List, [], ◌�
 use Rattle.dcp_tag.specs.declared.items.Item.{Item}
 use Rattle.dcp_tag.specs.Tag.{TagItem, IsSpelling, IsWritten, IsPayload, IsCut}
 use Rattle.dcp_tag.specs.Place.{Place, left}
-use Rattle.dcp_tag.specs.Reading.{tag_of, Gives}
+use Rattle.dcp_tag.specs.Reading.{tag_of, GivesItem}
 
 -- bytes are a payload of one list of items at most
 abbrev pub HasOneList : Type 0
@@ -28,7 +28,7 @@ HasOneWriting = (item : TagItem) (bytes others : List ℕ) → AreBytes bytes �
 -- from the old place to the new one these items are given, one after another
 abbrev pub GivesAll : Place → List TagItem → Place → Type 0
 GivesAll old [] new = new ≡ old
-GivesAll old (tag ∷ tags) new = (item : Item) × (next : Place) × Gives item old next × (tag_of item ≡ tag) × GivesAll next tags new
+GivesAll old (tag ∷ tags) new = (item : Item) × (next : Place) × GivesItem item old next × (tag_of item ≡ tag) × GivesAll next tags new
 
 -- However many items were given, the items of the bytes from the old place on are these, and then those of what is left.
 abbrev pub GivesThePayload : Type 0

@@ -45,7 +45,7 @@ impl<'a> Model for Items<'a> {
 
 impl<'a> Items<'a> {
     ghost use Rattle.dcp_tag.specs.Place.{left};
-    ghost use Rattle.dcp_tag.specs.Reading.{Answers, IsGiven};
+    ghost use Rattle.dcp_tag.specs.Reading.{AnswersItem, IsGiven};
 
     /// The items of this payload, from its front.
     pub fn new(payload: &'a [u8]) -> Items<'a>
@@ -57,7 +57,7 @@ impl<'a> Items<'a> {
     /// The next item, or None where fewer than eight bytes are left, which are padding. After None and after a cut
     /// each further call answers the same.
     pub fn next_item(&mut self) -> Result<Option<Item<'a>>, ValueCut>
-        ensures answer { Answers result self.old self.new }
+        ensures answer { AnswersItem result self.old self.new }
         // Each answer comes exactly where it is due.
         ensures item { (item : TagItem) (spelling rest : List ℕ) → IsSpelling item spelling
             → left self.old ≡ spelling ++ rest → IsGiven item result }

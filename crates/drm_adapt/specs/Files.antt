@@ -5,11 +5,11 @@ use Rattle.drm_links.specs.declared.shelf.Loaded.TheVariants.{Bytes, TooLong, Fa
 
 -- The file is given whole; it is too long only where it has more than limit bytes. A read may fail, and memory may run
 -- out.
-abbrev pub Holds : Loaded → ℕ → List ℕ → Type 0
-Holds (Bytes octets) limit file = octets ≡ file
-Holds TooLong limit file = limit < length file
-Holds Failed limit file = Unit {0}
-Holds NoMemory limit file = Unit {0}
+abbrev pub HoldsFile : Loaded → ℕ → List ℕ → Type 0
+HoldsFile (Bytes octets) limit file = octets ≡ file
+HoldsFile TooLong limit file = limit < length file
+HoldsFile Failed limit file = Unit {0}
+HoldsFile NoMemory limit file = Unit {0}
 
 -- a copy of these bytes, unless memory ran out
 abbrev pub IsCopy : Loaded → List ℕ → Type 0

@@ -1,9 +1,9 @@
 //! The files of the system as a shelf. It tells no contents.
 
 ghost use Rattle.std.specs.Prelude.{◌≡◌, None, IfOk, IfSome, take};
-ghost use Rattle.drm_links.specs.Told.{Counts};
+ghost use Rattle.drm_links.specs.Told.{RisesWhere};
 ghost use Rattle.drm_links.specs.Shelf.{IsWithin};
-ghost use Rattle.drm_adapt.specs.Files.{Holds, IsCopy};
+ghost use Rattle.drm_adapt.specs.Files.{HoldsFile, IsCopy};
 
 use drm_bits::{NoMemory, Octets};
 use drm_links::{Loaded, Shelf};
@@ -32,7 +32,7 @@ impl<'a, R: Files> Shelf for FileShelf<'a, R> {
 
     fn load(&mut self, alloc: Global, name: &str, limit: usize) -> Loaded
         ensures within { IsWithin result limit }
-        ensures cause { Counts self.old.faults self.new.faults (result ≡ Loaded.Failed) }
+        ensures cause { RisesWhere self.old.faults self.new.faults (result ≡ Loaded.Failed) }
     {
         let loaded = match File::open(self.system, name) {
             Ok(file) => read_within(alloc, file, limit),
@@ -50,7 +50,7 @@ impl<'a, R: Files> Shelf for FileShelf<'a, R> {
 fn read_within<F: Read + Drop>(alloc: Global, file: F, limit: usize) -> Loaded
     ensures within { IsWithin result limit }
     // Where the file's bytes are known, the answer is about them.
-    ensures file { IfSome (F.remaining file) (Holds result limit) }
+    ensures file { IfSome (F.remaining file) (HoldsFile result limit) }
 {
     let most = (limit as u64).saturating_add(1);
     match read_front(alloc, file, most) {

@@ -1,7 +1,7 @@
 //! Sources and sinks over std's streams. They tell no contents.
 
 ghost use Rattle.std.specs.Prelude.{◌≡◌, ◌<◌, None, length};
-ghost use Rattle.drm_links.specs.Told.{Counts};
+ghost use Rattle.drm_links.specs.Told.{RisesWhere};
 ghost use Rattle.drm_links.specs.Source.{ReadsSome};
 ghost use Rattle.drm_links.specs.Sink.{WritesSome};
 ghost use Rattle.drm_adapt.specs.Streams.{StreamReads, StreamWrites};
@@ -40,10 +40,10 @@ impl<'a, C: Clock, R: Read> Source for StreamSource<'a, C, R> {
     // Where the stream's bytes are known, the answer is about them.
     fn read(&mut self, buf: &mut [u8]) -> ReadOut
         requires { 0 < length buf.old }
-        ensures some { ReadsSome result buf.old }
+        ensures moves_bytes { ReadsSome result buf.old }
         ensures stream { StreamReads result buf.new
             (R.remaining self.old.stream) (R.remaining self.new.stream) }
-        ensures cause { Counts self.old.faults self.new.faults (result ≡ ReadOut.Failed) }
+        ensures cause { RisesWhere self.old.faults self.new.faults (result ≡ ReadOut.Failed) }
     {
         for _ in 0..u64::MAX {
             match self.stream.read(buf) {
@@ -84,10 +84,10 @@ impl<'a, C: Clock, W: Write> Sink for StreamSink<'a, C, W> {
     // Where the stream's bytes are known, the answer is about them.
     fn write(&mut self, bytes: &[u8]) -> WriteOut
         requires { 0 < length bytes.now }
-        ensures some { WritesSome result bytes.now }
+        ensures moves_bytes { WritesSome result bytes.now }
         ensures stream { StreamWrites result bytes.now
             (W.contents self.old.stream) (W.contents self.new.stream) }
-        ensures cause { Counts self.old.faults self.new.faults (result ≡ WriteOut.Failed) }
+        ensures cause { RisesWhere self.old.faults self.new.faults (result ≡ WriteOut.Failed) }
     {
         for _ in 0..u64::MAX {
             match self.stream.write(bytes) {

@@ -1,7 +1,7 @@
 //! The network of the system as a dock. It tells nothing.
 
 ghost use Rattle.std.specs.Prelude.{◌≡◌, None, IfOk};
-ghost use Rattle.drm_links.specs.Told.{Counts};
+ghost use Rattle.drm_links.specs.Told.{RisesWhere};
 ghost use Rattle.drm_links.specs.Dock.{IsFresh, IsFailed};
 
 use crate::UdpLink;
@@ -32,7 +32,7 @@ impl<'a, R: Net + Clock> UdpDock<'a, R> {
 
     fn open(&mut self, at: Address, dest: Option<Address>) -> Opened<UdpLink<'a, R>>
         ensures fresh { IsFresh ⟦<UdpLink<'a, R> as Link>⟧.known ⟦<UdpLink<'a, R> as Link>⟧.idles result }
-        ensures cause { Counts self.old.faults self.new.faults (IsFailed result) }
+        ensures cause { RisesWhere self.old.faults self.new.faults (IsFailed result) }
     {
         match open_link(self.system, at, dest) {
             Ok(link) => Opened::Link(link),

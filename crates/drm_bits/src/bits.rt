@@ -36,7 +36,7 @@ impl<'a> Bits<'a> {
     pub fn new(bytes: &'a [u8], bits: usize) -> Bits<'a>
         requires { bits ≤ 8 * length bytes.now }
         ensures bits { result ≡ take bits (bits_of bytes.now) }
-        ensures left { length result ≡ bits }
+        ensures remaining { length result ≡ bits }
         ensures whole { bits ≡ 8 * length bytes.now → result ≡ bits_of bytes.now }
     {
         Bits {

@@ -35,7 +35,7 @@ impl MuxDesc {
 
     /// Reads the description of so many streams from the front.
     pub fn read(bits: &mut Bits<'_>, count: u8) -> MuxDesc
-        requires few { count ≤ 4 }
+        requires within_limit { count ≤ 4 }
         requires enough { 4 + 24 * count ≤ length bits.old }
         ensures is { result ≡ description_from count bits.old }
         ensures description { IsDescription result }
@@ -62,7 +62,7 @@ impl MuxDesc {
         requires fits { Fit (description_fields self.now) }
         requires room { 4 + 24 * self.now.count ≤ length (unwritten sink.old) }
         ensures wrote { Wrote (spelled (description_fields self.now)) sink.old sink.new }
-        ensures left { length (unwritten sink.new) + (4 + 24 * self.now.count) ≡ length (unwritten sink.old) }
+        ensures remaining { length (unwritten sink.new) + (4 + 24 * self.now.count) ≡ length (unwritten sink.old) }
     {
         sink.put_u8(self.prot_a, 2);
         sink.put_u8(self.prot_b, 2);
@@ -90,7 +90,7 @@ fn read_part(bits: &mut Bits<'_>) -> Part
     ensures part { result ≡ record { a = front 12 bits.old; b = front 12 (drop 12 bits.old) } }
     ensures fits { (result.a < 2 ^ 12) × (result.b < 2 ^ 12) }
     ensures rest { bits.new ≡ drop 12 (drop 12 bits.old) }
-    ensures left { length bits.new + 24 ≡ length bits.old }
+    ensures remaining { length bits.new + 24 ≡ length bits.old }
 {
     Part {
         a: bits.take_u16(12),
@@ -102,7 +102,7 @@ fn write_parts(sink: &mut BitSink<'_>, parts: &[Part])
     requires fits { Fit (part_fields parts.now) }
     requires room { 24 * length parts.now ≤ length (unwritten sink.old) }
     ensures wrote { Wrote (spelled (part_fields parts.now)) sink.old sink.new }
-    ensures left { length (unwritten sink.new) + 24 * length parts.now ≡ length (unwritten sink.old) }
+    ensures remaining { length (unwritten sink.new) + 24 * length parts.now ≡ length (unwritten sink.old) }
 {
     for part in parts {
         sink.put_u16(part.a, 12);

@@ -14,7 +14,7 @@ impl<'a> Bits<'a> {
         ensures bit { result ≡ bit self.old }
         ensures number { front 1 self.old ≡ from_bool result }
         ensures rest { self.new ≡ drop 1 self.old }
-        ensures left { length self.new + 1 ≡ length self.old }
+        ensures remaining { length self.new + 1 ≡ length self.old }
     {
         self.take_u32(1) == 1
     }
@@ -26,7 +26,7 @@ impl<'a> Bits<'a> {
         ensures number { result ≡ front width self.old }
         ensures fits { result < 2 ^ width }
         ensures rest { self.new ≡ drop width self.old }
-        ensures left { length self.new + width ≡ length self.old }
+        ensures remaining { length self.new + width ≡ length self.old }
     {
         self.take_u32(width) as u8
     }
@@ -38,7 +38,7 @@ impl<'a> Bits<'a> {
         ensures number { result ≡ front width self.old }
         ensures fits { result < 2 ^ width }
         ensures rest { self.new ≡ drop width self.old }
-        ensures left { length self.new + width ≡ length self.old }
+        ensures remaining { length self.new + width ≡ length self.old }
     {
         self.take_u32(width) as u16
     }
@@ -50,7 +50,7 @@ impl<'a> Bits<'a> {
         ensures number { result ≡ front width self.old }
         ensures fits { result < 2 ^ width }
         ensures rest { self.new ≡ drop width self.old }
-        ensures left { length self.new + width ≡ length self.old }
+        ensures remaining { length self.new + width ≡ length self.old }
     {
         match self.take(width) {
             Ok(number) => number as u32,
@@ -64,7 +64,7 @@ impl<'a> BitSink<'a> {
     pub fn put_flag(&mut self, set: bool)
         requires { 1 ≤ length (unwritten self.old) }
         ensures wrote { Wrote (digits 1 (from_bool set)) self.old self.new }
-        ensures left { length (unwritten self.new) + 1 ≡ length (unwritten self.old) }
+        ensures remaining { length (unwritten self.new) + 1 ≡ length (unwritten self.old) }
     {
         self.put_u32(u32::from(set), 1);
     }
@@ -75,7 +75,7 @@ impl<'a> BitSink<'a> {
         requires fits { number < 2 ^ width }
         requires room { width ≤ length (unwritten self.old) }
         ensures wrote { Wrote (digits width number) self.old self.new }
-        ensures left { length (unwritten self.new) + width ≡ length (unwritten self.old) }
+        ensures remaining { length (unwritten self.new) + width ≡ length (unwritten self.old) }
     {
         self.put_u32(u32::from(number), width);
     }
@@ -86,7 +86,7 @@ impl<'a> BitSink<'a> {
         requires fits { number < 2 ^ width }
         requires room { width ≤ length (unwritten self.old) }
         ensures wrote { Wrote (digits width number) self.old self.new }
-        ensures left { length (unwritten self.new) + width ≡ length (unwritten self.old) }
+        ensures remaining { length (unwritten self.new) + width ≡ length (unwritten self.old) }
     {
         self.put_u32(u32::from(number), width);
     }
@@ -97,7 +97,7 @@ impl<'a> BitSink<'a> {
         requires fits { number < 2 ^ width }
         requires room { width ≤ length (unwritten self.old) }
         ensures wrote { Wrote (digits width number) self.old self.new }
-        ensures left { length (unwritten self.new) + width ≡ length (unwritten self.old) }
+        ensures remaining { length (unwritten self.new) + width ≡ length (unwritten self.old) }
     {
         match self.put(u64::from(number), width) {
             Ok(()) => {}

@@ -6,12 +6,12 @@ use Rattle.drm_data.specs.declared.joiner.Joiner.TheInside.{Inside}
 use Rattle.drm_data.specs.declared.room.UnitRoom.{UnitRoom}
 use Rattle.drm_data.specs.Packet.{Packet, IsPacket}
 use Rattle.drm_data.specs.Faults.{IsFault}
-use Rattle.drm_data.specs.Joining.{Event, Came, Broken, Gap, Reads, Begun, State, Answer, Silent, Refuses, begun_after, answer_after, answer, after}
+use Rattle.drm_data.specs.Joining.{Event, Came, Broken, Gap, ReadsDataPacket, Begun, State, Answer, Silent, Refuses, begun_after, answer_after, answer, after}
 use Rattle.drm_data.specs.Room.{begun_in, IsRoom, state}
 use Rattle.drm_data.proofs.Answered.{one_packet, one_fault, no_fault}
 
 -- bytes are one event
-pub one_event : (d : ℕ) (bytes : List ℕ) (e f : Event) → Reads d bytes e → Reads d bytes f → e ≡ f
+pub one_event : (d : ℕ) (bytes : List ℕ) (e f : Event) → ReadsDataPacket d bytes e → ReadsDataPacket d bytes f → e ≡ f
 one_event d bytes (Came p) (Came q) h k = ap Came (one_packet d p q bytes h k)
 one_event d bytes (Came p) (Broken g) h k = absurd (no_fault d p g bytes h k)
 one_event d bytes (Came p) Gap h k = absurd k
@@ -21,7 +21,7 @@ one_event d bytes (Broken f) Gap h k = absurd k
 one_event d bytes Gap f h k = absurd h
 
 -- what is left after one event is left after any that the bytes are
-pub left_by : (s : State) (bytes : List ℕ) (e : Event) (left : State) → Reads s.length bytes e → left ≡ after s e → (f : Event) → Reads s.length bytes f → left ≡ after s f
+pub left_by : (s : State) (bytes : List ℕ) (e : Event) (left : State) → ReadsDataPacket s.length bytes e → left ≡ after s e → (f : Event) → ReadsDataPacket s.length bytes f → left ≡ after s f
 left_by s bytes e left h is f k = is ∙ ap (after s) (one_event s.length bytes e f h k)
 
 -- the joiner with another unit open
@@ -36,11 +36,11 @@ state_with j new begun old_room new_room is =
 
 -- what is left after these bytes
 abbrev pub Leaves : State → List ℕ → State → Type 0
-Leaves s bytes left = (f : Event) → Reads s.length bytes f → left ≡ after s f
+Leaves s bytes left = (f : Event) → ReadsDataPacket s.length bytes f → left ≡ after s f
 
 -- the bytes are an event with this answer
 abbrev pub AnswersBy : State → List ℕ → Answer → Type 0
-AnswersBy s bytes a = (event : Event) × Reads s.length bytes event × (a ≡ answer s event)
+AnswersBy s bytes a = (event : Event) × ReadsDataPacket s.length bytes event × (a ≡ answer s event)
 
 -- a packet of the id
 pub joined : (s : State) (j : Inside) (new : UnitRoom) (bytes : List ℕ) (p : Packet) → state j ≡ s → IsPacket j.length p bytes → p.id ≡ j.id → IsRoom j.room → IsRoom new

@@ -5,7 +5,7 @@ use Rattle.std.proofs.lemmas.Bool.{lt-ltb, le-ltb, cases_lt}
 use Rattle.std.proofs.lemmas.List.{take_at, drop_at, take-append-drop, length-take-le, get_or-drop, get_or-take, drop_more}
 use Rattle.std.proofs.lemmas.Nat.{be_bytes_2, from_be_bytes-to_be_bytes_2}
 use Rattle.drm_bits.specs.Crc.{IsCheckOf}
-use Rattle.drm_data.specs.Packet.{Packet, is_padded, head, data_field, front, Spells, IsPacket}
+use Rattle.drm_data.specs.Packet.{Packet, is_padded, head, data_field, front, SpellsDataPacket, IsPacket}
 use Rattle.drm_data.specs.Faults.{checked_bytes, check_value, says_padded, said_count, HasLength, HasCheck}
 use Rattle.drm_data.specs.Reading.{flag_at, useful_in}
 use Rattle.drm_data.proofs.Heads.{AreFields, fields_of_head, head_of_fields, head_byte}
@@ -46,12 +46,12 @@ useful_there d p rest true is =
 useful_there d p rest false is =
     ap (λ b. if b then length p.useful ∷ p.useful ++ rest else p.useful) is
 
-count_there : (d : ℕ) (p : Packet) (rest : List ℕ) (check : ℕ) (bytes : List ℕ) → Spells d p rest check bytes → is_padded d p ≡ true → said_count bytes ≡ length p.useful
+count_there : (d : ℕ) (p : Packet) (rest : List ℕ) (check : ℕ) (bytes : List ℕ) → SpellsDataPacket d p rest check bytes → is_padded d p ≡ true → said_count bytes ≡ length p.useful
 count_there d p rest check bytes s is =
     let field : data_field d p.useful rest ≡ length p.useful ∷ p.useful ++ rest = ap (λ b. if b then length p.useful ∷ p.useful ++ rest else p.useful) is in
     ap said_count s.spelled ∙ ap (λ l. get_or (l ++ to_be_bytes w16 check) 0 0) field
 
-pub placed : (d : ℕ) (p : Packet) (rest : List ℕ) (check : ℕ) (bytes : List ℕ) → Spells d p rest check bytes → IsPlaced d p rest check bytes
+pub placed : (d : ℕ) (p : Packet) (rest : List ℕ) (check : ℕ) (bytes : List ℕ) → SpellsDataPacket d p rest check bytes → IsPlaced d p rest check bytes
 placed d p rest check bytes s =
     let last : List ℕ = to_be_bytes w16 check in
     let size : length bytes ≡ d + 3 = omega (arith, ap length s.spelled, length-append (front d p rest) last, s.size) in
@@ -66,7 +66,7 @@ placed d p rest check bytes s =
       useful_is = useful_there d p rest (is_padded d p) refl;
     }
 
-pub head_fields : (d : ℕ) (p : Packet) (rest : List ℕ) (check : ℕ) (bytes : List ℕ) → Spells d p rest check bytes → AreFields (get_or bytes 0 0) p.first p.last p.id (is_padded d p) p.continuity
+pub head_fields : (d : ℕ) (p : Packet) (rest : List ℕ) (check : ℕ) (bytes : List ℕ) → SpellsDataPacket d p rest check bytes → AreFields (get_or bytes 0 0) p.first p.last p.id (is_padded d p) p.continuity
 head_fields d p rest check bytes s =
     let P : ℕ → Type 0 = λ n. AreFields n p.first p.last p.id (is_padded d p) p.continuity in
     subst P (sym (placed d p rest check bytes s).first_is) (fields_of_head p.first p.last p.id (is_padded d p) p.continuity s.id s.continuity)

@@ -14,10 +14,10 @@ pub data Event : Type 0 where
   Gap : Event
 
 -- what these bytes are, with data fields of d bytes
-abbrev pub Reads : ℕ → List ℕ → Event → Type 0
-Reads d bytes (Came p) = IsPacket d p bytes
-Reads d bytes (Broken fault) = IsFault d fault bytes
-Reads d bytes Gap = ⊥
+abbrev pub ReadsDataPacket : ℕ → List ℕ → Event → Type 0
+ReadsDataPacket d bytes (Came p) = IsPacket d p bytes
+ReadsDataPacket d bytes (Broken fault) = IsFault d fault bytes
+ReadsDataPacket d bytes Gap = ⊥
 
 -- a unit that was begun: its bytes so far, and the continuity of its last packet
 pub record Begun : Type 0 where
@@ -100,5 +100,5 @@ told (CutUnit bytes) = CutWhole bytes.now
 told (Refused fault cut) = Refuses fault cut
 
 -- The bytes are one event, and the call answered by it.
-abbrev pub Takes : State → List ℕ → Joined → Type 0
-Takes s bytes result = (event : Event) × Reads s.length bytes event × (told result ≡ answer s event)
+abbrev pub TakesEvent : State → List ℕ → Joined → Type 0
+TakesEvent s bytes result = (event : Event) × ReadsDataPacket s.length bytes event × (told result ≡ answer s event)

@@ -29,7 +29,7 @@ abbrev pub front : ℕ → Packet → List ℕ → List ℕ
 front d p rest = head d p ∷ data_field d p.useful rest
 
 -- the bytes are the packet with this rest, and the check value of all before it
-pub record Spells (d : ℕ) (p : Packet) (rest : List ℕ) (check : ℕ) (bytes : List ℕ) : Type 0 where
+pub record SpellsDataPacket (d : ℕ) (p : Packet) (rest : List ℕ) (check : ℕ) (bytes : List ℕ) : Type 0 where
   pub id : p.id < 4
   pub continuity : p.continuity < 8
   pub size : length (data_field d p.useful rest) ≡ d
@@ -38,4 +38,4 @@ pub record Spells (d : ℕ) (p : Packet) (rest : List ℕ) (check : ℕ) (bytes 
 
 -- the bytes are this packet
 abbrev pub IsPacket : ℕ → Packet → List ℕ → Type 0
-IsPacket d p bytes = (rest : List ℕ) × (check : ℕ) × Spells d p rest check bytes
+IsPacket d p bytes = (rest : List ℕ) × (check : ℕ) × SpellsDataPacket d p rest check bytes

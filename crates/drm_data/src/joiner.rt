@@ -2,8 +2,8 @@
 
 ghost use Rattle.std.specs.Prelude.{◌≡◌, ◌<◌, ◌≤◌, IfOk, is_some};
 ghost use Rattle.std.specs.Borrow.{sem};
-ghost use Rattle.drm_data.specs.Joining.{made, closed, Takes};
-ghost use Rattle.drm_data.specs.Lending.{Joins};
+ghost use Rattle.drm_data.specs.Joining.{made, closed, TakesEvent};
+ghost use Rattle.drm_data.specs.Lending.{JoinerAfterEvent};
 
 use crate::room::{Step, UnitRoom};
 use crate::{Joined, read_packet};
@@ -43,8 +43,8 @@ impl Joiner {
 
     /// Takes the bytes of the next packet.
     pub fn packet(&mut self, bytes: &[u8]) -> Joined<'_>
-        ensures takes { Takes self.old bytes.now result }
-        ensures* after { sem 𝓛 (Joins bytes.now self.entry) }
+        ensures takes { TakesEvent self.old bytes.now result }
+        ensures* after { sem 𝓛 (JoinerAfterEvent bytes.now self.entry) }
     {
         let packet = match read_packet(bytes, self.length) {
             Ok(packet) => packet,

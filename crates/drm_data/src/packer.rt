@@ -45,7 +45,7 @@ impl Packer {
     /// Writes packet `k` of a unit, and answers how many bytes it has. The packets of a unit are asked for in their order,
     /// from 0 on, and those of the next unit behind them.
     pub fn unit_packet(&mut self, unit: &[u8], k: usize, into: &mut [u8; 258]) -> usize
-        requires few { length unit.now ≤ most_unit }
+        requires within_limit { length unit.now ≤ most_unit }
         requires within { k * self.old.length < length unit.now }
         ensures end { result ≡ self.old.length + 3 }
         ensures packet { IsWritten self.old.length

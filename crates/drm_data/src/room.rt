@@ -50,7 +50,7 @@ impl UnitRoom {
     /// Takes a packet of the id.
     pub(crate) fn join(&mut self, packet: &DataPacket<'_>) -> Step
         requires room { IsRoom self.old }
-        requires small { length packet.now.useful.now ≤ 255 }
+        requires in_range { length packet.now.useful.now ≤ 255 }
         ensures begun { begun_in self.new ≡ begun_after (begun_in self.old) (packet_of packet.now) }
         ensures says { said result self.new.bytes.items ≡ answer_after (begun_in self.old) (packet_of packet.now) }
         ensures within { LiesIn result most_unit }
@@ -71,7 +71,7 @@ impl UnitRoom {
     // A packet that doesn't go on with an open unit: it begins the next one, or is of none.
     fn begin(&mut self, packet: &DataPacket<'_>, cut: bool) -> Step
         requires room { length self.old.bytes.items ≡ most_unit }
-        requires small { length packet.now.useful.now ≤ 255 }
+        requires in_range { length packet.now.useful.now ≤ 255 }
         ensures begun { begun_in self.new ≡ begun_by (packet_of packet.now) }
         ensures says { said result self.new.bytes.items ≡ answer_new cut (packet_of packet.now) }
         ensures within { LiesIn result most_unit }
@@ -136,7 +136,7 @@ impl UnitRoom {
 // Whether the packet is the next one of the unit.
 fn goes_on(begun: Begun, packet: &DataPacket<'_>) -> bool
     requires within { begun.len ≤ most_unit }
-    requires small { length packet.now.useful.now ≤ 255 }
+    requires in_range { length packet.now.useful.now ≤ 255 }
     ensures fits { result ≡ true → begun.len + length packet.now.useful.now ≤ most_unit }
     ensures test { (bytes : List ℕ) → length bytes ≡ begun.len
         → result ≡ follows (record { bytes = bytes; continuity = begun.continuity }) (packet_of packet.now) }

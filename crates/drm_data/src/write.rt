@@ -3,16 +3,16 @@
 ghost use Rattle.std.specs.Prelude.{◌≡◌, ℕ, ◌+◌, ◌-◌, ◌≤◌, ◌<◌, ◌++◌, length, take, drop, replicate};
 ghost use Rattle.drm_data.specs.Packet.{head as head_byte, data_field};
 ghost use Rattle.drm_data.specs.Reading.{packet_of};
-ghost use Rattle.drm_data.specs.Writing.{IsWritten, Fits};
+ghost use Rattle.drm_data.specs.Writing.{IsWritten, FitsDataPacket};
 
 use crate::DataPacket;
 use drm_bits::{crc16, put_at};
 
 /// Writes a packet with a data field of so many bytes, and answers how many bytes the packet has.
 pub(crate) fn write_packet(packet: &DataPacket<'_>, len: usize, into: &mut [u8]) -> usize
-    requires some { 1 ≤ len }
-    requires small { len ≤ 255 }
-    requires fits { Fits len (packet_of packet.now) }
+    requires at_least_one { 1 ≤ len }
+    requires in_range { len ≤ 255 }
+    requires fits { FitsDataPacket len (packet_of packet.now) }
     requires room { len + 3 ≤ length into.old }
     ensures end { result ≡ len + 3 }
     ensures packet { IsWritten len (packet_of packet.now) (take result into.new) }
@@ -26,7 +26,7 @@ pub(crate) fn write_packet(packet: &DataPacket<'_>, len: usize, into: &mut [u8])
 }
 
 fn head_of(packet: &DataPacket<'_>, len: usize) -> u8
-    requires { Fits len (packet_of packet.now) }
+    requires { FitsDataPacket len (packet_of packet.now) }
     ensures { result ≡ head_byte len (packet_of packet.now) }
 {
     let padded = packet.useful.len() < len;
@@ -41,7 +41,7 @@ fn head_of(packet: &DataPacket<'_>, len: usize) -> u8
 fn write_field(into: &mut [u8], useful: &[u8], len: usize)
     requires fits { length useful.now ≤ len }
     requires room { len + 1 ≤ length into.old }
-    requires small { len ≤ 255 }
+    requires in_range { len ≤ 255 }
     ensures field { take (len + 1) into.new
         ≡ take 1 into.old ++ data_field len useful.now (replicate (len - 1 - length useful.now) 0) }
     ensures behind { (m : ℕ) → len + 1 ≤ m → drop m into.new ≡ drop m into.old }

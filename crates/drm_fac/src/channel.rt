@@ -38,7 +38,7 @@ impl Channel {
     pub(crate) fn read(bits: &mut Bits<'_>) -> Channel
         requires { 20 ≤ length bits.old }
         ensures fields { BeginsWith (channel_fields result) bits.old bits.new }
-        ensures left { length bits.new + 20 ≡ length bits.old }
+        ensures remaining { length bits.new + 20 ≡ length bits.old }
     {
         Channel {
             enhancement: bits.take_flag(),
@@ -58,7 +58,7 @@ impl Channel {
         requires fits { Fit (channel_fields self) }
         requires room { 20 ≤ length (unwritten sink.old) }
         ensures wrote { Wrote (spelled (channel_fields self)) sink.old sink.new }
-        ensures left { length (unwritten sink.new) + 20 ≡ length (unwritten sink.old) }
+        ensures remaining { length (unwritten sink.new) + 20 ≡ length (unwritten sink.old) }
     {
         sink.put_flag(self.enhancement);
         sink.put_u8(self.identity, 2);

@@ -16,7 +16,7 @@ impl Mode {
     /// Its code, as the multiplex distribution interface and the announcement of a configuration have it.
     pub fn code(self) -> u8
         ensures code { result ≡ mode_code self }
-        ensures small { result < 4 }
+        ensures in_range { result < 4 }
         ensures read_again { mode_of_code result ≡ Some self }
     {
         match self {

@@ -35,7 +35,7 @@ impl Service {
     pub(crate) fn read(bits: &mut Bits<'_>) -> Service
         requires { 44 ≤ length bits.old }
         ensures fields { BeginsWith (service_fields result) bits.old bits.new }
-        ensures left { length bits.new + 44 ≡ length bits.old }
+        ensures remaining { length bits.new + 44 ≡ length bits.old }
     {
         Service {
             id: bits.take_u32(24),
@@ -54,7 +54,7 @@ impl Service {
         requires fits { Fit (service_fields self) }
         requires room { 44 ≤ length (unwritten sink.old) }
         ensures wrote { Wrote (spelled (service_fields self)) sink.old sink.new }
-        ensures left { length (unwritten sink.new) + 44 ≡ length (unwritten sink.old) }
+        ensures remaining { length (unwritten sink.new) + 44 ≡ length (unwritten sink.old) }
     {
         sink.put_u32(self.id, 24);
         sink.put_u8(self.short, 2);

@@ -16,7 +16,7 @@ use Rattle.recv_reading.proofs.Reaching.{full_is, one_more_few}
 use Rattle.recv_reading.proofs.Looping.{Loop, loop_given, loop_on}
 use Rattle.recv_reading.proofs.Finishing.{IsOver, finishes, stands}
 use Rattle.drm_gate.specs.declared.tally.Tally.{Tally}
-use Rattle.drm_gate.specs.Passing.{Begins, sent_of}
+use Rattle.drm_gate.specs.Passing.{SendsSome, sent_of}
 use Rattle.dcp_sender.specs.Targets.{Target}
 use Rattle.drm_gate.specs.Targets.{EachSends, SomeUp}
 use Rattle.drm_gate.specs.Tallies.{nothing, tally_of, items_in}
@@ -99,8 +99,8 @@ module _ (rules : ReceiveOptions) (carry : Carry) (came : List Answer → Type 0
   loop_stopped used z item broken_used same enough now is =
       let broken : Broken carry (first_of c) item y z = subst (λ k. Broken k (first_of c) item y z) same broken_used in
       let s = stands rules i.answers i.taken i.during i.more r c i.reached now in
-      let IsPart : List (List ℕ) → Type 0 = λ part. (first : ℕ) → MayBeFirst c first → Begins carry first item part in
-      let none = none_weaker (Begins carry (first_of c) item) IsPart y z (λ part begins first may. begins_at carry c item first part i.reached.knows is may begins) broken.none in
+      let IsPart : List (List ℕ) → Type 0 = λ part. (first : ℕ) → MayBeFirst c first → SendsSome carry first item part in
+      let none = none_weaker (SendsSome carry (first_of c) item) IsPart y z (λ part begins first may. begins_at carry c item first part i.reached.knows is may begins) broken.none in
       let room = full_is rules i.answers i.taken i.during i.more r c i.reached ∙ enough in
       let at : (part : List (List ℕ)) → IsPart part → StopsAt rules carry i.answers (sent_of i.has.all.fates ++ part) = λ part begins. record {
         before = s.before;

@@ -4,7 +4,7 @@ use Rattle.std.proofs.lemmas.Bool.{true≢false}
 use Rattle.std.proofs.lemmas.List.{append-nil}
 use Rattle.dcp_pft.specs.declared.carry.Carry.{Carry}
 use Rattle.dcp_pft.specs.declared.carry.Carry.TheVariants.{Plain, Pft}
-use Rattle.dcp_pft.specs.Carrying.{Carries}
+use Rattle.dcp_pft.specs.Carrying.{CarriesPacket}
 use Rattle.dcp_pft.proofs.OneFragment.{one_datagram}
 use Rattle.dcp_af.proofs.Answered.{no_fault}
 use Rattle.dcp_collect.specs.Runs.{Item, Packet, Lost, Damaged}
@@ -12,7 +12,7 @@ use Rattle.law_collect.proofs.SentCuts.{packet_long}
 use Rattle.dcp_sender.specs.Carried.{AreOf}
 use Rattle.dcp_sender.specs.Packets.{IsAny, sequence_of}
 use Rattle.dcp_sender.specs.OverLinks.{AreSome}
-use Rattle.drm_gate.specs.Passing.{Fate, Sent, Bad, Large, Missing, IsNone, Becomes, Begins, BecomeAll, datagrams_of, sent_of}
+use Rattle.drm_gate.specs.Passing.{Fate, Sent, Bad, Large, Missing, IsNone, OutcomeOf, SendsSome, BecomeAll, datagrams_of, sent_of}
 use Rattle.drm_gate.specs.Run.{IsFrontOf}
 
 -- ---- lists of datagrams
@@ -32,7 +32,7 @@ no_rest xs ys (r ∷ rest) are few = absurd (omega (arith, few, ap length are, l
 
 -- ---- the datagrams of a packet
 
-carried_same : (carry : Carry) (sequence i : ℕ) (packet a b : List ℕ) → 1 ≤ length packet → Carries carry sequence packet i a → Carries carry sequence packet i b → a ≡ b
+carried_same : (carry : Carry) (sequence i : ℕ) (packet a b : List ℕ) → 1 ≤ length packet → CarriesPacket carry sequence packet i a → CarriesPacket carry sequence packet i b → a ≡ b
 carried_same Plain sequence i packet a b some p q = p ∙ sym q
 carried_same (Pft m mtu) sequence i packet a b some p q = sym (one_datagram m mtu sequence i packet a b some p q)
 
@@ -58,7 +58,7 @@ some_first carry sequence packet xs ys any a b =
 no_bad : (bytes : List ℕ) → IsAny bytes → IsNone bytes → ⊥
 no_bad bytes any none = no_fault any.0 none.0 bytes any.1 none.1
 
-sent_first : (carry : Carry) (first : ℕ) (item : Item) (xs : List (List ℕ)) (h : Fate) → Becomes carry first item (Sent xs) → Becomes carry first item h → xs ≡ datagrams_of h
+sent_first : (carry : Carry) (first : ℕ) (item : Item) (xs : List (List ℕ)) (h : Fate) → OutcomeOf carry first item (Sent xs) → OutcomeOf carry first item h → xs ≡ datagrams_of h
 sent_first carry first (Packet q bytes) xs (Sent ys) a b = one_sending carry (sequence_of first q) bytes xs ys a.0 a.2 b.2
 sent_first carry first (Packet q bytes) xs Bad a b = absurd (no_bad bytes a.0 b)
 sent_first carry first (Packet q bytes) xs Large a b = absurd (true≢false (sym b.1 ∙ a.1))
@@ -66,7 +66,7 @@ sent_first carry first (Packet q bytes) xs Missing a b = absurd b
 sent_first carry first (Lost q had total) xs h a b = absurd a
 sent_first carry first (Damaged q) xs h a b = absurd a
 
-pub one_sent : (carry : Carry) (first : ℕ) (item : Item) (g h : Fate) → Becomes carry first item g → Becomes carry first item h → datagrams_of g ≡ datagrams_of h
+pub one_sent : (carry : Carry) (first : ℕ) (item : Item) (g h : Fate) → OutcomeOf carry first item g → OutcomeOf carry first item h → datagrams_of g ≡ datagrams_of h
 one_sent carry first item (Sent xs) h a b = sent_first carry first item xs h a b
 one_sent carry first item Bad (Sent ys) a b = sym (sent_first carry first item ys Bad b a)
 one_sent carry first item Large (Sent ys) a b = sym (sent_first carry first item ys Large b a)
@@ -81,7 +81,7 @@ one_sent carry first item Missing Bad a b = refl
 one_sent carry first item Missing Large a b = refl
 one_sent carry first item Missing Missing a b = refl
 
-pub begins_front : (carry : Carry) (first : ℕ) (item : Item) (datagrams : List (List ℕ)) (g : Fate) → Begins carry first item datagrams → Becomes carry first item g → IsFrontOf (datagrams_of g) datagrams
+pub begins_front : (carry : Carry) (first : ℕ) (item : Item) (datagrams : List (List ℕ)) (g : Fate) → SendsSome carry first item datagrams → OutcomeOf carry first item g → IsFrontOf (datagrams_of g) datagrams
 begins_front carry first (Packet q bytes) datagrams (Sent ys) a b = some_first carry (sequence_of first q) bytes datagrams ys a.0 a.2 b.2
 begins_front carry first (Packet q bytes) datagrams Bad a b = absurd (no_bad bytes a.0 b)
 begins_front carry first (Packet q bytes) datagrams Large a b = absurd (true≢false (sym b.1 ∙ a.1))

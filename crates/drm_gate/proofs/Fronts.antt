@@ -10,7 +10,7 @@ use Rattle.dcp_pft.specs.declared.carry.Carry.{Carry}
 use Rattle.dcp_collect.proofs.Decoded.{one_decoding}
 use Rattle.recv_reading.specs.Ending.{ComesTo}
 use Rattle.drm_links.specs.Hearing.{AreNext}
-use Rattle.recv_reading.specs.OneReading.{Ends, IsOneReading}
+use Rattle.recv_reading.specs.OneReading.{ReadingEnds, IsOneReading}
 use Rattle.recv_reading.specs.Packets.{terms_of, ComesAt}
 use Rattle.law_collect.proofs.Runs.{steps_part}
 use Rattle.law_collect.proofs.Unique.{one_giving}
@@ -19,7 +19,7 @@ use Rattle.recv_reading.proofs.First.{may_taken, first_itself, given_first}
 use Rattle.recv_reading.proofs.Reaching.{one_way}
 use Rattle.recv_reading.proofs.PacketLemmas.{stands_at}
 use Rattle.recv_reading.proofs.Ways.{Starts, starts_more, starts_up_to, taken_starts, taken_first, finished_starts, gives_first}
-use Rattle.drm_gate.specs.Passing.{Fate, Begins, BecomeAll, sent_of}
+use Rattle.drm_gate.specs.Passing.{Fate, SendsSome, BecomeAll, sent_of}
 use Rattle.drm_gate.specs.Run.{IsOnward, IsFrontOf, IsFrontOfOnward, StopsAt}
 use Rattle.drm_gate.proofs.PassedLemmas.{sent_join}
 use Rattle.drm_gate.proofs.Fates.{begins_front, all_sent, split}
@@ -31,7 +31,7 @@ of_answers xs ys = filter_map-append datagram_of xs ys
 
 -- ---- a front of the whole
 
-behind_item : (carry : Carry) (first : ℕ) (item : Item) (rest : List Item) (datagrams : List (List ℕ)) (gs : List Fate) → Begins carry first item datagrams → BecomeAll carry first (item ∷ rest) gs → IsFrontOf (sent_of gs) datagrams
+behind_item : (carry : Carry) (first : ℕ) (item : Item) (rest : List Item) (datagrams : List (List ℕ)) (gs : List Fate) → SendsSome carry first item datagrams → BecomeAll carry first (item ∷ rest) gs → IsFrontOf (sent_of gs) datagrams
 behind_item carry first item rest datagrams [] begins all = absurd all
 behind_item carry first item rest datagrams (g ∷ gs) begins all =
     let (others, some, are) = begins_front carry first item datagrams g begins all.0 in
@@ -39,7 +39,7 @@ behind_item carry first item rest datagrams (g ∷ gs) begins all =
 
 -- all that becomes of items that start with those that were passed on, and the one behind them
 front_of : (carry : Carry) (first : ℕ) (items given : List Item) (item : Item) (fs fates : List Fate) (datagrams sent : List (List ℕ)) → Starts items item given
-    → BecomeAll carry first items fs → Begins carry first item datagrams → sent ≡ sent_of fs ++ datagrams → BecomeAll carry first given fates → IsFrontOf (sent_of fates) sent
+    → BecomeAll carry first items fs → SendsSome carry first item datagrams → sent ≡ sent_of fs ++ datagrams → BecomeAll carry first given fates → IsFrontOf (sent_of fates) sent
 front_of carry first items given item fs fates datagrams sent (rest, are) become begins sent_is all =
     let (gs, hs, fates_are, front, back) = split carry first items (item ∷ rest) fates (subst (λ (l : List Item). BecomeAll carry first l fates) are all) in
     let (others, some, tail) = behind_item carry first item rest datagrams hs begins back in
@@ -60,7 +60,7 @@ all_next : (xs : List Answer) → AreNext xs xs []
 all_next xs = subst (λ (l : List Answer). AreNext l xs []) (append-nil xs) (are_next xs [])
 
 -- a reading that is finished isn't gone on with
-no_more : IsOneReading → (rules : ReceiveOptions) (answers more : List Answer) (word : EndWord) (ending : Option EndWord) → GoesOn rules answers → EndsBy rules answers word → Ends rules (answers ++ more) ending → answers ++ more ≡ answers
+no_more : IsOneReading → (rules : ReceiveOptions) (answers more : List Answer) (word : EndWord) (ending : Option EndWord) → GoesOn rules answers → EndsBy rules answers word → ReadingEnds rules (answers ++ more) ending → answers ++ more ≡ answers
 no_more one rules answers more word ending goes_on ends other =
     (one rules (answers ++ more) answers (answers ++ more) (Some word) ending
     (record { rest = more; next = are_next answers more; ends = record { goes_on = goes_on; ends = ends } })

@@ -9,7 +9,7 @@ use Rattle.dcp_sender.specs.Carried.{AreOf}
 use Rattle.dcp_sender.specs.Packets.{IsAny, sequence_of}
 use Rattle.drm_gate.specs.declared.tally.Tally.{Tally}
 use Rattle.dcp_sender.specs.OverLinks.{is_large, AreSome, SentBy, SentOver, SentTo}
-use Rattle.drm_gate.specs.Passing.{Fate, Sent, Becomes, Begins, datagrams_of}
+use Rattle.drm_gate.specs.Passing.{Fate, Sent, OutcomeOf, SendsSome, datagrams_of}
 use Rattle.dcp_sender.specs.Resting.{MakesSends}
 use Rattle.dcp_sender.specs.Targets.{Target}
 use Rattle.drm_gate.specs.Targets.{Each, TakesMore, TakesNoMore, EachTakes, EachSends, SomeUp}
@@ -21,7 +21,7 @@ use Rattle.drm_gate.proofs.TargetLemmas.{takes_nothing, none_sent, few_sent_each
 
 -- an item of which nothing is sent
 pub unsent : (carry : Carry) (first : ℕ) (item : Item) (fate : Fate) (t t' : Tally) (to : List Target) → SomeUp to
-    → Becomes carry first item fate → datagrams_of fate ≡ [] → t' ≡ plus t (tally_one fate) → Passed carry first item t t' to to
+    → OutcomeOf carry first item fate → datagrams_of fate ≡ [] → t' ≡ plus t (tally_one fate) → Passed carry first item t t' to to
 unsent carry first item fate t t' to up becomes none tally = record {
   fate = fate;
   becomes = becomes;
@@ -112,7 +112,7 @@ sent_part carry first index seq n bytes to to' any small is many each up down = 
     as_many = many;
     down = down;
     each = λ k none within.
-        part_by carry seq n bytes any (Begins carry first (Packet index bytes)) (slice_index_or to k none).up (slice_index_or to k none) (slice_index_or to' k none) refl (down k none within)
+        part_by carry seq n bytes any (SendsSome carry first (Packet index bytes)) (slice_index_or to k none).up (slice_index_or to k none) (slice_index_or to' k none) refl (down k none within)
         (λ part some. (any, small, subst (λ (k : ℕ). AreSome carry k bytes part) is some)) (each k none within);
     last = up.k;
     within = up.within;

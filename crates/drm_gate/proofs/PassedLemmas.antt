@@ -8,7 +8,7 @@ use Rattle.recv_reading.proofs.Common.{State, Item, Packet, Lost, Damaged, IsIte
 use Rattle.recv_reading.proofs.First.{packet_first}
 use Rattle.recv_reading.specs.Reached.{packets_in}
 use Rattle.drm_gate.specs.declared.tally.Tally.{Tally}
-use Rattle.drm_gate.specs.Passing.{Fate, Sent, Bad, Large, Missing, Becomes, Begins, BecomeAll, datagrams_of, sent_of}
+use Rattle.drm_gate.specs.Passing.{Fate, Sent, Bad, Large, Missing, OutcomeOf, SendsSome, BecomeAll, datagrams_of, sent_of}
 use Rattle.dcp_sender.specs.Targets.{Target}
 use Rattle.drm_gate.specs.Targets.{EachTakes}
 use Rattle.drm_gate.specs.Tallies.{plus, tally_one, tally_of}
@@ -55,22 +55,22 @@ all_then carry c d items more t u v x y z may first second =
 
 -- ---- the first number
 
-lost_at : (carry : Carry) (m n q had total : ℕ) (fate : Fate) → Becomes carry m (Lost q had total) fate → Becomes carry n (Lost q had total) fate
+lost_at : (carry : Carry) (m n q had total : ℕ) (fate : Fate) → OutcomeOf carry m (Lost q had total) fate → OutcomeOf carry n (Lost q had total) fate
 lost_at carry m n q had total (Sent datagrams) is = absurd is
 lost_at carry m n q had total Bad is = absurd is
 lost_at carry m n q had total Large is = absurd is
 lost_at carry m n q had total Missing is = tt
 
-damaged_at : (carry : Carry) (m n q : ℕ) (fate : Fate) → Becomes carry m (Damaged q) fate → Becomes carry n (Damaged q) fate
+damaged_at : (carry : Carry) (m n q : ℕ) (fate : Fate) → OutcomeOf carry m (Damaged q) fate → OutcomeOf carry n (Damaged q) fate
 damaged_at carry m n q (Sent datagrams) is = absurd is
 damaged_at carry m n q Bad is = tt
 damaged_at carry m n q Large is = absurd is
 damaged_at carry m n q Missing is = absurd is
 
-becomes_at : (carry : Carry) (d : State) (item : Item) (fate : Fate) (first : ℕ) → KnowsFirst d → IsItem d item → MayBeFirst d first → Becomes carry (unwrap_or d.first 0) item fate → Becomes carry first item fate
+becomes_at : (carry : Carry) (d : State) (item : Item) (fate : Fate) (first : ℕ) → KnowsFirst d → IsItem d item → MayBeFirst d first → OutcomeOf carry (unwrap_or d.first 0) item fate → OutcomeOf carry first item fate
 becomes_at carry d (Packet q bytes) fate first knows is may becomes =
     let at : unwrap_or d.first 0 ≡ first = packet_first d q bytes first knows is may in
-    subst (λ (n : ℕ). Becomes carry n (Packet q bytes) fate) at becomes
+    subst (λ (n : ℕ). OutcomeOf carry n (Packet q bytes) fate) at becomes
 becomes_at carry d (Lost q had total) fate first knows is may becomes = lost_at carry (unwrap_or d.first 0) first q had total fate becomes
 becomes_at carry d (Damaged q) fate first knows is may becomes = damaged_at carry (unwrap_or d.first 0) first q fate becomes
 
@@ -87,10 +87,10 @@ all_one carry d item t u x y knows is one =
       only = few_sent_each (most_fragments * (tally_one one.fate).given) (most_fragments * (tally_of (one.fate ∷ [])).given) x y (omega arith) one.only;
     }
 
-pub begins_at : (carry : Carry) (d : State) (item : Item) (first : ℕ) (datagrams : List (List ℕ)) → KnowsFirst d → IsItem d item → MayBeFirst d first → Begins carry (unwrap_or d.first 0) item datagrams → Begins carry first item datagrams
+pub begins_at : (carry : Carry) (d : State) (item : Item) (first : ℕ) (datagrams : List (List ℕ)) → KnowsFirst d → IsItem d item → MayBeFirst d first → SendsSome carry (unwrap_or d.first 0) item datagrams → SendsSome carry first item datagrams
 begins_at carry d (Packet q bytes) first datagrams knows is may begins =
     let at : unwrap_or d.first 0 ≡ first = packet_first d q bytes first knows is may in
-    subst (λ (n : ℕ). Begins carry n (Packet q bytes) datagrams) at begins
+    subst (λ (n : ℕ). SendsSome carry n (Packet q bytes) datagrams) at begins
 begins_at carry d (Lost q had total) first datagrams knows is may begins = absurd begins
 begins_at carry d (Damaged q) first datagrams knows is may begins = absurd begins
 
@@ -109,7 +109,7 @@ all_later carry c d items t u x y keeps all = record {
 
 -- ---- how many packets are sent
 
-sent_one : (carry : Carry) (first : ℕ) (item : Item) (fate : Fate) → Becomes carry first item fate → (tally_one fate).given + packets_in [] ≤ packets_in (item ∷ [])
+sent_one : (carry : Carry) (first : ℕ) (item : Item) (fate : Fate) → OutcomeOf carry first item fate → (tally_one fate).given + packets_in [] ≤ packets_in (item ∷ [])
 sent_one carry first (Packet q bytes) (Sent datagrams) becomes = omega arith
 sent_one carry first (Packet q bytes) Bad becomes = omega arith
 sent_one carry first (Packet q bytes) Large becomes = omega arith

@@ -3,7 +3,7 @@ use Rattle.std.proofs.Common.{◌≡◌, ℕ, ◌≤◌, Bool, true, false, List
 use Rattle.recv_reading.proofs.Common.{Answer, GoesOn}
 use Rattle.recv_reading.specs.declared.options.ReceiveOptions.{ReceiveOptions}
 use Rattle.drm_links.specs.Told.{HasFailed}
-use Rattle.drm_links.specs.Transmission.{Transmits, SendsNoMore}
+use Rattle.drm_links.specs.Transmission.{LinkTransmits, SendsNoMore}
 use Rattle.drm_links.proofs.ToldLemmas.{once_then}
 use Rattle.link_group.specs.Took.{TookBy}
 use Rattle.link_group.proofs.TookLemmas.{took_none}
@@ -48,7 +48,7 @@ module _ (rules : ReceiveOptions) (carry : Carry) (answers : List Answer) (sent 
 
   -- the last one
   abbrev pub LastPart : Target → Target → Type 0
-  LastPart m a = (part : List (List ℕ)) × IsPart part × Transmits m.known a.known (SendsNoMore part) × HasFailed m.known a.known
+  LastPart m a = (part : List (List ℕ)) × IsPart part × LinkTransmits m.known a.known (SendsNoMore part) × HasFailed m.known a.known
 
   pub last_part : (u : Bool) (m a : Target) → m.up ≡ u → m.up ≡ true → TakesNoMore u IsPart m a → LastPart m a
   last_part true m a is was none = none

@@ -21,27 +21,27 @@ abbrev pub IsNone : List ℕ → Type 0
 IsNone bytes = (fault : AfFault) × IsFault fault bytes
 
 -- An AF packet within the limit of the carry is sent under it.
-abbrev pub Becomes : Carry → ℕ → Item → Fate → Type 0
-Becomes carry first (Packet index bytes) (Sent datagrams) =
+abbrev pub OutcomeOf : Carry → ℕ → Item → Fate → Type 0
+OutcomeOf carry first (Packet index bytes) (Sent datagrams) =
     IsAny bytes × (is_large carry (length bytes) ≡ false) × AreOf carry (sequence_of first index) bytes datagrams
-Becomes carry first (Packet index bytes) Large = IsAny bytes × (is_large carry (length bytes) ≡ true)
-Becomes carry first (Packet index bytes) Bad = IsNone bytes
-Becomes carry first (Packet index bytes) Missing = ⊥
-Becomes carry first (Lost index had total) Missing = Unit {0}
-Becomes carry first (Lost index had total) other = ⊥
-Becomes carry first (Damaged index) Bad = Unit {0}
-Becomes carry first (Damaged index) other = ⊥
+OutcomeOf carry first (Packet index bytes) Large = IsAny bytes × (is_large carry (length bytes) ≡ true)
+OutcomeOf carry first (Packet index bytes) Bad = IsNone bytes
+OutcomeOf carry first (Packet index bytes) Missing = ⊥
+OutcomeOf carry first (Lost index had total) Missing = Unit {0}
+OutcomeOf carry first (Lost index had total) other = ⊥
+OutcomeOf carry first (Damaged index) Bad = Unit {0}
+OutcomeOf carry first (Damaged index) other = ⊥
 
 -- some of the datagrams that it becomes, and not all
-abbrev pub Begins : Carry → ℕ → Item → List (List ℕ) → Type 0
-Begins carry first (Packet index bytes) datagrams =
+abbrev pub SendsSome : Carry → ℕ → Item → List (List ℕ) → Type 0
+SendsSome carry first (Packet index bytes) datagrams =
     IsAny bytes × (is_large carry (length bytes) ≡ false) × AreSome carry (sequence_of first index) bytes datagrams
-Begins carry first other datagrams = ⊥
+SendsSome carry first other datagrams = ⊥
 
 -- each item has its fate
 abbrev pub BecomeAll : Carry → ℕ → List Item → List Fate → Type 0
 BecomeAll carry first [] [] = Unit {0}
-BecomeAll carry first (item ∷ items) (fate ∷ fates) = Becomes carry first item fate × BecomeAll carry first items fates
+BecomeAll carry first (item ∷ items) (fate ∷ fates) = OutcomeOf carry first item fate × BecomeAll carry first items fates
 BecomeAll carry first items fates = ⊥
 
 -- the datagrams that are sent

@@ -4,22 +4,22 @@ use Rattle.dcp_pft.specs.declared.carry.Carry.{Carry}
 use Rattle.dcp_pft.specs.Limits.{most_fragments}
 use Rattle.dcp_collect.specs.declared.taken.Taken.{Taken}
 use Rattle.dcp_collect.specs.State.{State, made, ready}
-use Rattle.dcp_collect.specs.Runs.{Item, IsItem, Steps, Run}
+use Rattle.dcp_collect.specs.Runs.{Item, IsItem, CollectorSteps, Run}
 use Rattle.law_collect.specs.Laws.{Given}
 use Rattle.drm_links.specs.Told.{Known, HasFailed}
 use Rattle.drm_links.specs.Link.{Answer, Traffic}
-use Rattle.drm_links.specs.Transmission.{Transmits, SendsNoMore}
+use Rattle.drm_links.specs.Transmission.{LinkTransmits, SendsNoMore}
 use Rattle.recv_reading.specs.declared.reason.EndWord.{EndWord}
 use Rattle.drm_links.specs.Hearing.{Heard}
 use Rattle.recv_reading.specs.declared.options.ReceiveOptions.{ReceiveOptions}
 use Rattle.recv_reading.specs.Ending.{datagrams, Gave, GoesOn, IsFinished, IsBroken, ComesTo, most_answers}
-use Rattle.recv_reading.specs.OneReading.{Ends}
+use Rattle.recv_reading.specs.OneReading.{ReadingEnds}
 use Rattle.recv_reading.specs.First.{MayBeFirst, first_of}
 use Rattle.recv_reading.specs.State.{is_full}
 use Rattle.drm_gate.specs.declared.tally.Tally.{Tally}
 use Rattle.drm_gate.specs.declared.gate.GateEnded.{GateEnded}
 use Rattle.drm_gate.specs.declared.gate.GateEnded.TheVariants.{Done, SomeFailed, FromFailed, ToFailed}
-use Rattle.drm_gate.specs.Passing.{Fate, Begins, BecomeAll, sent_of}
+use Rattle.drm_gate.specs.Passing.{Fate, SendsSome, BecomeAll, sent_of}
 use Rattle.dcp_sender.specs.Targets.{Target}
 use Rattle.drm_gate.specs.Targets.{Each, EachTakes, EachSends, AllUp}
 use Rattle.drm_gate.specs.Tallies.{tally_of, over}
@@ -37,7 +37,7 @@ pub record IsReady (rules : ReceiveOptions) (carry : Carry) (datagrams : List (L
   pub taken : List Taken
   pub items : List Item
   pub mid : State
-  pub steps : Steps (made rules.window rules.reach rules.first) datagrams taken items mid
+  pub steps : CollectorSteps (made rules.window rules.reach rules.first) datagrams taken items mid
   pub become : BecomeAll carry (first_of mid) items fates
 
 -- a front of a list, and not the whole
@@ -48,7 +48,7 @@ IsFrontOf whole front = (rest : List (List ℕ)) × (1 ≤ length rest) × (whol
 abbrev pub IsFrontOfOnward : ReceiveOptions → Carry → List Answer → List (List ℕ) → Type 0
 IsFrontOfOnward rules carry answers sent =
     (more : List Answer) (ending : Option EndWord) (fates : List Fate)
-    → Ends rules (answers ++ more) ending → IsOnward rules carry (datagrams (answers ++ more)) fates → IsFrontOf (sent_of fates) sent
+    → ReadingEnds rules (answers ++ more) ending → IsOnward rules carry (datagrams (answers ++ more)) fates → IsFrontOf (sent_of fates) sent
 
 -- Of a reading that began with these answers, these datagrams were sent, and then a send failed: they are what becomes of the
 -- items that were given so far, and some of the datagrams of the item behind them, which isn't past the told number.
@@ -72,7 +72,7 @@ pub record StopsAt (rules : ReceiveOptions) (carry : Carry) (answers : List Answ
   pub fates : List Fate
   pub become : (first : ℕ) → MayBeFirst last first → BecomeAll carry first (during ++ more) fates
   pub datagrams : List (List ℕ)
-  pub begins : (first : ℕ) → MayBeFirst last first → Begins carry first item datagrams
+  pub begins : (first : ℕ) → MayBeFirst last first → SendsSome carry first item datagrams
   pub sent_is : sent ≡ sent_of fates ++ datagrams
 
 -- so many sends at the most: those of a packet for each datagram that was taken, and of one more
@@ -107,14 +107,14 @@ pub record BreaksOff (rules : ReceiveOptions) (carry : Carry) (hears : List Answ
 -- A link took these datagrams, a front of what becomes of what was read, and no more.
 pub record StopsOver (rules : ReceiveOptions) (carry : Carry) (answers : List Answer) (to to' : Target) : Type 0 where
   pub datagrams : List (List ℕ)
-  pub sent : Transmits to.known to'.known (SendsNoMore datagrams)
+  pub sent : LinkTransmits to.known to'.known (SendsNoMore datagrams)
   pub once : HasFailed to.known to'.known
   pub front : IsFrontOfOnward rules carry answers datagrams
 
 -- The same of the link that was the last to fail, at the item at hand.
 pub record StopsLast (rules : ReceiveOptions) (carry : Carry) (answers : List Answer) (to to' : Target) : Type 0 where
   pub datagrams : List (List ℕ)
-  pub sent : to.up ≡ true → Transmits to.known to'.known (SendsNoMore datagrams)
+  pub sent : to.up ≡ true → LinkTransmits to.known to'.known (SendsNoMore datagrams)
   pub at : StopsAt rules carry answers datagrams
 
 -- Each link failed, the last of them at the item at hand: nothing shorter than what was read is finished, and each took a front of what

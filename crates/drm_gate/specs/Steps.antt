@@ -7,7 +7,7 @@ use Rattle.dcp_collect.specs.Runs.{Item, IsItem, Packet}
 use Rattle.recv_reading.specs.First.{first_of}
 use Rattle.drm_links.specs.declared.link.LinkFault.{LinkFault}
 use Rattle.drm_gate.specs.declared.tally.Tally.{Tally}
-use Rattle.drm_gate.specs.Passing.{Fate, Becomes, Begins, datagrams_of}
+use Rattle.drm_gate.specs.Passing.{Fate, OutcomeOf, SendsSome, datagrams_of}
 use Rattle.drm_gate.specs.Tallies.{plus, tally_one}
 use Rattle.dcp_sender.specs.Targets.{Target}
 use Rattle.drm_gate.specs.Targets.{EachTakes, EachSends, NoneTakes, SomeUp}
@@ -15,7 +15,7 @@ use Rattle.drm_gate.specs.Targets.{EachTakes, EachSends, NoneTakes, SomeUp}
 -- It was sent, if it can be, and counted. Some link took it whole.
 pub record Passed (carry : Carry) (first : ℕ) (item : Item) (t t' : Tally) (to to' : List Target) : Type 0 where
   pub fate : Fate
-  pub becomes : Becomes carry first item fate
+  pub becomes : OutcomeOf carry first item fate
   pub tally : t' ≡ plus t (tally_one fate)
   pub few : length (datagrams_of fate) ≤ most_fragments
   pub sent : EachTakes (datagrams_of fate) to to'
@@ -24,7 +24,7 @@ pub record Passed (carry : Carry) (first : ℕ) (item : Item) (t t' : Tally) (to
 
 -- The last link failed: each that hadn't before took some of its datagrams, and no more.
 pub record Broken (carry : Carry) (first : ℕ) (item : Item) (to to' : List Target) : Type 0 where
-  pub none : NoneTakes (Begins carry first item) to to'
+  pub none : NoneTakes (SendsSome carry first item) to to'
   pub only : EachSends most_fragments to to'
 
 abbrev pub PassesOne : Result (Unit {0}) LinkFault → Carry → ℕ → Item → Tally → Tally → List Target → List Target → Type 0

@@ -2,7 +2,7 @@
 use Rattle.std.specs.Prelude.{ℕ, ◌≡◌, ◌<◌, Bool, true, false, List, ◌++◌, length, slice_index_or}
 use Rattle.drm_links.specs.Told.{Known, HasFailed}
 use Rattle.drm_links.specs.Link.{Traffic}
-use Rattle.drm_links.specs.Transmission.{Transmits, SendsNoMore}
+use Rattle.drm_links.specs.Transmission.{LinkTransmits, SendsNoMore}
 use Rattle.link_group.specs.Took.{TookBy}
 use Rattle.dcp_sender.specs.Resting.{MakesSends}
 use Rattle.dcp_sender.specs.Targets.{Target}
@@ -26,7 +26,7 @@ pub record EachSends (most : ℕ) (before after : List Target) : Type 0 where
 
 -- A link that hadn't failed took some datagrams, and no more; one that had is as it was.
 abbrev pub TakesNoMore : Bool → (List (List ℕ) → Type 0) → Target → Target → Type 0
-TakesNoMore true P before after = (datagrams : List (List ℕ)) × P datagrams × Transmits before.known after.known (SendsNoMore datagrams) × HasFailed before.known after.known
+TakesNoMore true P before after = (datagrams : List (List ℕ)) × P datagrams × LinkTransmits before.known after.known (SendsNoMore datagrams) × HasFailed before.known after.known
 TakesNoMore false P before after = after ≡ before
 
 -- Each link has failed, the last of them here: each that hadn't before took datagrams of which P holds, and no more.

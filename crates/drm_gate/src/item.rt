@@ -33,7 +33,7 @@ pub(crate) fn pass<K: Link>(
     requires large { tally.old.large < 2 ^ 62 }
     requires given { tally.old.given < 2 ^ 62 }
     requires sent { tally.old.sent < 2 ^ 62 }
-    requires small { number_of (item_of given) < 2 ^ 62 }
+    requires in_range { number_of (item_of given) < 2 ^ 62 }
     requires whole { IsAfIfWhole given }
     requires up { SomeUp (targets K.known to.old) }
     ensures one { PassesOne result sender.old first (item_of given.entry) tally.old tally.new
@@ -93,7 +93,7 @@ fn pass_packet<K: Link>(
     requires large { tally.old.large < 2 ^ 62 }
     requires given { tally.old.given < 2 ^ 62 }
     requires sent { tally.old.sent < 2 ^ 62 }
-    requires small { index < 2 ^ 62 }
+    requires in_range { index < 2 ^ 62 }
     requires whole { whole ≡ true → IsAny bytes.now }
     requires up { SomeUp (targets K.known to.old) }
     ensures one { PassesPacket result sender.old first index bytes.now tally.old tally.new

@@ -17,8 +17,8 @@ use crate::tally::Tally;
 use dcp_collect::Collector;
 use dcp_sender::PacketSender;
 use drm_links::{Link, LinkFault};
-use recv_reading::{Bounds, Reading, Room, SourceFault};
 use link_group::Member;
+use recv_reading::{Bounds, Reading, Room, SourceFault};
 
 /// Whether the link that is read failed, or all those behind the gateway.
 #[derive(Clone, Copy, Debug, PartialEq, Eq)]
@@ -65,7 +65,7 @@ pub(crate) fn pass_on<L: Link, K: Link>(
     requires up { SomeUp (targets K.known to.old) }
     ensures ends { EndsReading (rules_of collector.old options.now) sender.old
         (Heard (L.known from.old) (L.known from.new)) (targets K.known to.old) (targets K.known to.new) result }
-    ensures few { IfOk result (λ tally. tally.sent ≤ most_fragments * most_taken) }
+    ensures within_limit { IfOk result (λ tally. tally.sent ≤ most_fragments * most_taken) }
     ensures from { HasCause (L.known from.old) (L.known from.new) (result ≡ Err Stop.From) }
 {
     let mut tally = Tally::new();

@@ -11,10 +11,10 @@ use Rattle.std.specs.Option.{option_map}
 use Rattle.std.specs.BTreeMap as tree
 use Rattle.std.specs.BTreeMap.{BTreeMap, is_at}
 use Rattle.std.specs.FinMap as map
-use Rattle.drm_links.specs.Told.{WhileTold, one_more}
-use Rattle.drm_links.specs.Dock.{LinkStart, Opens, Reaches, address_key, start_at, first_traffic, with_reach}
+use Rattle.drm_links.specs.Told.{IfBothKnown, one_more}
+use Rattle.drm_links.specs.Dock.{LinkStart, DockOpens, DockReaches, address_key, start_at, first_traffic, with_reach}
 use Rattle.drm_links.specs.MemoryLink.{LinkState, IsUntouched, link_known}
-use Rattle.drm_links.specs.MemoryDock.{DockState, Leaves, reached, link_at, start_of, starts_of, contents_of, dock_known, with_start}
+use Rattle.drm_links.specs.MemoryDock.{DockState, LeavesDock, reached, link_at, start_of, starts_of, contents_of, dock_known, with_start}
 use Rattle.drm_links.specs.ClosedLinks.{entries_of}
 use Rattle.drm_links.specs.declared.dock.Address.{Address}
 use Rattle.drm_links.specs.declared.docked_link.Closed.{Closed}
@@ -126,7 +126,7 @@ fails_so : (dock : DockState) (at : Address) → Contains dock.failing dock.open
 fails_so dock at (inl listed) = inl listed
 fails_so dock at (inr none) = inr (rw get-starts_of (no_start (link_at dock at) none))
 
-pub Leaves-opens : (result : Opened LinkState) (at : Address) (before after : DockState) → before.openings ≤ before.calls → Leaves result at before after → before.calls ≤ 2 ^ 62 → Opens link_known at result (contents_of before) (contents_of after)
+pub Leaves-opens : (result : Opened LinkState) (at : Address) (before after : DockState) → before.openings ≤ before.calls → LeavesDock result at before after → before.calls ≤ 2 ^ 62 → DockOpens link_known at result (contents_of before) (contents_of after)
 Leaves-opens (opened.Link link) at before after counts (unlisted, stands, untouched, is_after) told =
     let start : map.get (starts_of before.links) (address_key at) ≡ Some (start_of link) =
     get-starts_of before.links (address_key at) ∙ ap (option_map start_of) stands in
@@ -142,29 +142,29 @@ Leaves-opens opened.Failed at before after counts (reason, is_after) told =
     let openings : one_more before.openings ≡ before.openings + 1 = omega arith in
     rw is_after (fails_so before at reason, rw (calls, openings) refl)
 
-pub leaves_told : (result : Opened LinkState) (at : Address) (before after : DockState) → before.openings ≤ before.calls → Leaves result at before after → WhileTold (dock_known before) (dock_known after) (Opens link_known at result)
+pub leaves_told : (result : Opened LinkState) (at : Address) (before after : DockState) → before.openings ≤ before.calls → LeavesDock result at before after → IfBothKnown (dock_known before) (dock_known after) (DockOpens link_known at result)
 leaves_told result at before after counts leaves =
-    while_told_for before.calls after.calls (contents_of before) (contents_of after) (Opens link_known at result)
+    while_told_for before.calls after.calls (contents_of before) (contents_of after) (DockOpens link_known at result)
     (Leaves-opens result at before after counts leaves)
 
 -- ---- a link that leaves by `reach`
 
 -- there is one call more than there were, so the reaches, with one more, are still among them
-pub reach_fits : (result : Opened LinkState) (at : Address) (before after : DockState) → before.reaches ≤ before.calls → Leaves result at before after → one_more after.reaches ≤ after.calls
+pub reach_fits : (result : Opened LinkState) (at : Address) (before after : DockState) → before.reaches ≤ before.calls → LeavesDock result at before after → one_more after.reaches ≤ after.calls
 reach_fits (opened.Link link) at before after counts (unlisted, stands, untouched, is_after) = rw is_after (omega arith)
 reach_fits opened.Failed at before after counts (reason, is_after) = rw is_after (omega arith)
 
-pub reached_leaves : (result : Opened LinkState) (at : Address) (before between after : DockState) → Leaves result at before between → after ≡ reached between → Leaves result at (reached before) after
+pub reached_leaves : (result : Opened LinkState) (at : Address) (before between after : DockState) → LeavesDock result at before between → after ≡ reached between → LeavesDock result at (reached before) after
 reached_leaves (opened.Link link) at before between after (unlisted, stands, untouched, is_between) is_after =
     (unlisted, stands, untouched, is_after ∙ ap reached is_between)
 reached_leaves opened.Failed at before between after (reason, is_between) is_after = (reason, is_after ∙ ap reached is_between)
 
-pub reached_told : (result : Opened LinkState) (at : Address) (before after : DockState) → before.openings ≤ before.calls → before.reaches ≤ before.calls → Leaves result at (reached before) after
-    → WhileTold (dock_known before) (dock_known after) (Reaches link_known at result)
+pub reached_told : (result : Opened LinkState) (at : Address) (before after : DockState) → before.openings ≤ before.calls → before.reaches ≤ before.calls → LeavesDock result at (reached before) after
+    → IfBothKnown (dock_known before) (dock_known after) (DockReaches link_known at result)
 reached_told result at before after counts reaches leaves =
-    while_told_for before.calls after.calls (contents_of before) (contents_of after) (Reaches link_known at result)
+    while_told_for before.calls after.calls (contents_of before) (contents_of after) (DockReaches link_known at result)
     (λ told. let one : contents_of (reached before) ≡ with_reach (contents_of before) = one_reach before reaches told in
-    subst (λ c. Opens link_known at result c (contents_of after)) one (Leaves-opens result at (reached before) after counts leaves told))
+    subst (λ c. DockOpens link_known at result c (contents_of after)) one (Leaves-opens result at (reached before) after counts leaves told))
   where
     one_reach : (dock : DockState) → dock.reaches ≤ dock.calls → dock.calls ≤ 2 ^ 62 → contents_of (reached dock) ≡ with_reach (contents_of dock)
     one_reach dock reaches told = let one : one_more dock.reaches ≡ dock.reaches + 1 = omega arith in rw one refl

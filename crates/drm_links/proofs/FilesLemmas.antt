@@ -13,7 +13,7 @@ use Rattle.std.specs.BTreeMap as tree
 use Rattle.std.specs.BTreeMap.{BTreeMap, is_at}
 use Rattle.std.specs.FinMap as map
 use Rattle.std.proofs.lemmas.Map.Text.{text_cmp, btree_map_updates_text, is_eq-slice_cmp}
-use Rattle.drm_links.specs.Shelf.{Files, Gives, Loads, file_at}
+use Rattle.drm_links.specs.Shelf.{Files, LoadGives, ShelfLoads, file_at}
 use Rattle.drm_links.specs.declared.shelf.Loaded.{Loaded}
 use Rattle.drm_links.specs.declared.shelf.Loaded.TheVariants.{Bytes, TooLong, Failed, NoMemory}
 use Rattle.drm_links.specs.MemoryShelf.{ShelfState, by_name, shelf_known, with_file}
@@ -40,7 +40,7 @@ by_name-insert old new name bytes updates =
     ∙ sym (map.get-insert nat_list_cmp_total (by_name old) name bytes q)))))
 
 -- a load whose number isn't to fail gives what is there
-pub Loads-given : (loaded : Loaded) (name : List ℕ) (limit : ℕ) (told : Files) (file : Option (List ℕ)) → (Contains told.failing told.loads → ⊥) → Gives loaded limit file → file ≡ file_at told name → Loads loaded name limit told
+pub Loads-given : (loaded : Loaded) (name : List ℕ) (limit : ℕ) (told : Files) (file : Option (List ℕ)) → (Contains told.failing told.loads → ⊥) → LoadGives loaded limit file → file ≡ file_at told name → ShelfLoads loaded name limit told
 Loads-given (Bytes octets) name limit told file unlisted gives is = (unlisted, rw is at gives)
 Loads-given TooLong name limit told file unlisted gives is = (unlisted, rw is at gives)
 Loads-given Failed name limit told file unlisted gives is = inr (rw is at gives)

@@ -2,9 +2,9 @@
 use Rattle.std.proofs.Common.{◌≡◌, ℕ, ◌+◌, ◌≤◌, ◌^◌, length, arith, length-append, List, [], ◌∷◌, ◌++◌, drop, Option, None, Some, refl, sym, ◌∙◌, ap, subst, append_assoc}
 use Rattle.std.proofs.lemmas.List.{append-nil}
 use Rattle.drm_links.specs.declared.link.Came.{Came}
-use Rattle.drm_links.specs.Link.{Answer, Traffic, Receives, answer_of}
+use Rattle.drm_links.specs.Link.{Answer, Traffic, LinkReceives, answer_of}
 use Rattle.drm_links.specs.Dock.{LinkStart, first_traffic}
-use Rattle.drm_links.specs.Told.{Known, WhileTold, CountsCall, BothTold, CountsTold}
+use Rattle.drm_links.specs.Told.{Known, IfBothKnown, CountsCall, IfBoth, CountsTold}
 use Rattle.drm_links.specs.Hearing.{AreNext, HeardTold, Heard}
 
 next_append : (ahead mid rest : List Answer) (xs ys : List Answer) → AreNext ahead xs mid → AreNext mid ys rest → AreNext ahead (xs ++ ys) rest
@@ -45,7 +45,7 @@ then_told (Some x) (Some y) (Some z) xs ys p q = record {
 pub heard_then : (a b c : Known Traffic) (xs ys : List Answer) → Heard a b xs → Heard b c ys → Heard a c (xs ++ ys)
 heard_then a b c = then_told a.told b.told c.told
 
-one_told : (a b : Option Traffic) (result : Came) (buf : List ℕ) → BothTold a b (Receives result buf) → CountsTold (λ (t : Traffic). t.calls) a b → HeardTold (answer_of result buf ∷ []) a b
+one_told : (a b : Option Traffic) (result : Came) (buf : List ℕ) → IfBoth a b (LinkReceives result buf) → CountsTold (λ (t : Traffic). t.calls) a b → HeardTold (answer_of result buf ∷ []) a b
 one_told None None result buf told counts = tt
 one_told (Some x) None result buf told counts = let h : 2 ^ 62 ≤ x.calls = counts in omega (arith, h)
 one_told None (Some y) result buf told counts = cc
@@ -59,10 +59,10 @@ one_told (Some x) (Some y) result buf told counts = record {
   calls = counts.0;
 }
 
-heard_one : (a b : Known Traffic) (result : Came) (buf : List ℕ) → WhileTold a b (Receives result buf) → CountsCall (λ (t : Traffic). t.calls) a b → Heard a b (answer_of result buf ∷ [])
+heard_one : (a b : Known Traffic) (result : Came) (buf : List ℕ) → IfBothKnown a b (LinkReceives result buf) → CountsCall (λ (t : Traffic). t.calls) a b → Heard a b (answer_of result buf ∷ [])
 heard_one a b = one_told a.told b.told
 
-pub heard_more : (a b c : Known Traffic) (xs : List Answer) (result : Came) (buf : List ℕ) → Heard a b xs → WhileTold b c (Receives result buf) → CountsCall (λ (t : Traffic). t.calls) b c → Heard a c (xs ++ answer_of result buf ∷ [])
+pub heard_more : (a b c : Known Traffic) (xs : List Answer) (result : Came) (buf : List ℕ) → Heard a b xs → IfBothKnown b c (LinkReceives result buf) → CountsCall (λ (t : Traffic). t.calls) b c → Heard a c (xs ++ answer_of result buf ∷ [])
 heard_more a b c xs result buf p told counts = heard_then a b c xs (answer_of result buf ∷ []) p (heard_one b c result buf told counts)
 
 -- what was heard of a new link stood ahead of it

@@ -7,9 +7,9 @@ use Rattle.std.specs.Cmp.{nat_eq_equiv}
 use Rattle.std.specs.List.{filter_map}
 use Rattle.std.specs.Map.{lookup}
 use Rattle.std.proofs.lemmas.Map.Views.{list_any-from_Contains, Contains-from_any}
-use Rattle.drm_links.specs.Told.{WhileTold, one_more}
-use Rattle.drm_links.specs.Link.{Answer, Datagram, Idle, Failed, Receives, Sends, Rests, next_answer, datagram_of, longest_told}
-use Rattle.drm_links.specs.MemoryLink.{LinkState, CameBefore, is_among, first_of, answer_at, left_at, answers_from, after_last, listed_from, answers_ahead, answered_at, answered, taken_from, traffic_of, link_known, Hears, Carries, after_rest, longest_wait, IsCounted, Brings}
+use Rattle.drm_links.specs.Told.{IfBothKnown, one_more}
+use Rattle.drm_links.specs.Link.{Answer, Datagram, Idle, Failed, LinkReceives, LinkSends, LinkRests, next_answer, datagram_of, longest_told}
+use Rattle.drm_links.specs.MemoryLink.{LinkState, CameBefore, is_among, first_of, answer_at, left_at, answers_from, after_last, listed_from, answers_ahead, answered_at, answered, taken_from, traffic_of, link_known, MemLinkReceives, MemLinkSends, after_rest, longest_wait, IsCounted, BringsDatagram}
 use Rattle.drm_links.specs.declared.link.Came.{Came}
 use Rattle.drm_links.specs.declared.link.Came.TheVariants as recv
 use Rattle.drm_links.specs.declared.link.Sent.{Sent}
@@ -102,10 +102,10 @@ datagrams_from failing idling (suc more) number coming =
     (datagrams_from failing idling more (number + 1) (left_at failing idling number coming))
 
 -- a datagram that is brought stands behind the others
-pub bring_told : (link after : LinkState) (bytes : List ℕ) → after ≡ record link { coming = link.coming ++ bytes ∷ [] } → WhileTold (link_known link) (link_known after) (Brings bytes)
+pub bring_told : (link after : LinkState) (bytes : List ℕ) → after ≡ record link { coming = link.coming ++ bytes ∷ [] } → IfBothKnown (link_known link) (link_known after) (BringsDatagram bytes)
 bring_told link after bytes is_after =
     rw is_after
-    (while_told_for link.calls link.calls _ _ (Brings bytes)
+    (while_told_for link.calls link.calls _ _ (BringsDatagram bytes)
     (λ told. record {
       answers = refl;
       ahead =
@@ -201,7 +201,7 @@ idle_answer failing idling recvs coming fails (inl listed) false idles =
     let is : is_among idling recvs ≡ true = is_listed idling recvs listed in cc
 idle_answer failing idling recvs coming fails (inr none) false idles = rw (fails, idles, none) (refl, refl)
 
-pub Hears-receives : (result : Came) (old new : List ℕ) (before after : LinkState) → IsCounted before → Hears result old new before after → before.calls ≤ 2 ^ 62 → Receives result new (traffic_of before) (traffic_of after)
+pub Hears-receives : (result : Came) (old new : List ℕ) (before after : LinkState) → IsCounted before → MemLinkReceives result old new before after → before.calls ≤ 2 ^ 62 → LinkReceives result new (traffic_of before) (traffic_of after)
 Hears-receives (recv.Datagram n) old new before after counted (unlisted, unidle, first, within, rest, is_after) told =
     let fails : is_among before.failing before.recvs ≡ false = is_unlisted before.failing before.recvs unlisted in
     let idles : is_among before.idling before.recvs ≡ false = is_unlisted before.idling before.recvs unidle in
@@ -254,9 +254,9 @@ Hears-receives recv.Failed old new before after counted (listed, same, is_after)
       sends = refl;
     })
 
-pub hears_told : (result : Came) (old new : List ℕ) (before after : LinkState) → IsCounted before → Hears result old new before after → WhileTold (link_known before) (link_known after) (Receives result new)
+pub hears_told : (result : Came) (old new : List ℕ) (before after : LinkState) → IsCounted before → MemLinkReceives result old new before after → IfBothKnown (link_known before) (link_known after) (LinkReceives result new)
 hears_told result old new before after counted hears =
-    while_told_for before.calls after.calls (traffic_of before) (traffic_of after) (Receives result new)
+    while_told_for before.calls after.calls (traffic_of before) (traffic_of after) (LinkReceives result new)
     (Hears-receives result old new before after counted hears)
 
 -- ---- sends
@@ -311,7 +311,7 @@ none_taken link bytes (inl listed) short = none_where_listed link.failing link.s
 none_taken link bytes (inr (inl full)) short = rw full (none_left link.failing link.sends)
 none_taken link bytes (inr (inr long)) short = absurd (omega arith)
 
-pub Carries-sends : (result : Sent) (bytes : List ℕ) (before after : LinkState) → IsCounted before → Carries result bytes before after → before.calls ≤ 2 ^ 62 → Sends result bytes (traffic_of before) (traffic_of after)
+pub Carries-sends : (result : Sent) (bytes : List ℕ) (before after : LinkState) → IsCounted before → MemLinkSends result bytes before after → before.calls ≤ 2 ^ 62 → LinkSends result bytes (traffic_of before) (traffic_of after)
 Carries-sends send.Sent bytes before after counted (unlisted, room, short, is_after) told =
     let fails : is_among before.failing before.sends ≡ false = is_unlisted before.failing before.sends unlisted in
     let some : 0 < taken_from before.failing before.sends before.room = some_taken before.failing before.sends before.room fails room in
@@ -327,9 +327,9 @@ Carries-sends send.Sent bytes before after counted (unlisted, room, short, is_af
 Carries-sends send.Failed bytes before after counted (reason, is_after) told =
     rw is_after ((λ short. ap Some (none_taken before bytes reason short)), refl, refl, refl)
 
-pub carries_told : (result : Sent) (bytes : List ℕ) (before after : LinkState) → IsCounted before → Carries result bytes before after → WhileTold (link_known before) (link_known after) (Sends result bytes)
+pub carries_told : (result : Sent) (bytes : List ℕ) (before after : LinkState) → IsCounted before → MemLinkSends result bytes before after → IfBothKnown (link_known before) (link_known after) (LinkSends result bytes)
 carries_told result bytes before after counted carries =
-    while_told_for before.calls after.calls (traffic_of before) (traffic_of after) (Sends result bytes)
+    while_told_for before.calls after.calls (traffic_of before) (traffic_of after) (LinkSends result bytes)
     (Carries-sends result bytes before after counted carries)
 
 -- ---- rests
@@ -338,10 +338,10 @@ carries_told result bytes before after counted carries =
 whole_wait : (wait calls millis : ℕ) → wait ≤ calls * 4294967295 → calls ≤ 2 ^ 62 → millis < 2 ^ 32 → min (wait + millis) longest_wait ≡ wait + millis
 whole_wait wait calls millis within told short = omega arith
 
-pub rest_told : (millis : ℕ) (before after : LinkState) → IsCounted before → millis < 2 ^ 32 → after ≡ after_rest millis before → WhileTold (link_known before) (link_known after) (Rests millis)
+pub rest_told : (millis : ℕ) (before after : LinkState) → IsCounted before → millis < 2 ^ 32 → after ≡ after_rest millis before → IfBothKnown (link_known before) (link_known after) (LinkRests millis)
 rest_told millis before after counted short is_after =
     rw is_after
-    (while_told_for before.calls (one_more before.calls) (traffic_of before) (traffic_of (after_rest millis before)) (Rests millis)
+    (while_told_for before.calls (one_more before.calls) (traffic_of before) (traffic_of (after_rest millis before)) (LinkRests millis)
     (λ told. record {
       waiting = whole_wait before.waiting before.calls millis counted.waiting told short;
       answers = refl;

@@ -4,7 +4,7 @@ use Rattle.std.specs.Cmp.{nat_eq_equiv}
 use Rattle.std.specs.List.{list_any}
 use Rattle.std.proofs.lemmas.Map.Views.{list_any-from_Contains, Contains-from_any}
 use Rattle.std.proofs.lemmas.Bool.Decides.{nat_tests}
-use Rattle.drm_links.specs.Shelf.{Files, Gives, Loads, file_at, within, load_of}
+use Rattle.drm_links.specs.Shelf.{Files, LoadGives, ShelfLoads, file_at, within, load_of}
 use Rattle.drm_links.specs.declared.shelf.Loaded.{Loaded}
 use Rattle.drm_links.specs.declared.shelf.Loaded.TheVariants.{Bytes, TooLong, Failed, NoMemory}
 
@@ -20,7 +20,7 @@ is_given limit file true is short = absurd (grind (arith, nat_tests))
 is_given limit file false is short = refl
 
 -- the file, as a load gives it
-gives_within : (loaded : Loaded) (limit : ℕ) (file : Option (List ℕ)) → Gives loaded limit file → (loaded ≡ NoMemory) ⊎ (loaded ≡ within limit file)
+gives_within : (loaded : Loaded) (limit : ℕ) (file : Option (List ℕ)) → LoadGives loaded limit file → (loaded ≡ NoMemory) ⊎ (loaded ≡ within limit file)
 gives_within NoMemory limit file gives = inl refl
 gives_within Failed limit None gives = inr refl
 gives_within Failed limit (Some file) gives = cc
@@ -32,7 +32,7 @@ gives_within (Bytes octets) limit (Some file) gives =
     let short : length file ≤ limit = rw (← same) gives.1 in
     inr (ap Bytes same ∙ is_given limit file _ refl short)
 
-is_load : (loaded : Loaded) (name : List ℕ) (limit : ℕ) (told : Files) (b : Bool) → list_any (nat_eq told.loads) told.failing ≡ b → Loads loaded name limit told → (loaded ≡ NoMemory) ⊎ (loaded ≡ (if b then Failed else within limit (file_at told name)))
+is_load : (loaded : Loaded) (name : List ℕ) (limit : ℕ) (told : Files) (b : Bool) → list_any (nat_eq told.loads) told.failing ≡ b → ShelfLoads loaded name limit told → (loaded ≡ NoMemory) ⊎ (loaded ≡ (if b then Failed else within limit (file_at told name)))
 is_load NoMemory name limit told b is loads = inl refl
 is_load Failed name limit told true is loads = inr refl
 is_load Failed name limit told false is (inl listed) = let found : list_any (nat_eq told.loads) told.failing ≡ true = list_any-from_Contains nat_eq_equiv told.loads told.failing listed in cc
@@ -43,5 +43,5 @@ is_load (Bytes octets) name limit told true is loads = absurd (loads.0 (Contains
 is_load (Bytes octets) name limit told false is loads = gives_within (Bytes octets) limit (file_at told name) loads.1
 
 -- A load is the one that is told, unless memory ran out.
-pub Loads-is : (loaded : Loaded) (name : List ℕ) (limit : ℕ) (told : Files) → Loads loaded name limit told → (loaded ≡ NoMemory) ⊎ (loaded ≡ load_of told name limit)
+pub Loads-is : (loaded : Loaded) (name : List ℕ) (limit : ℕ) (told : Files) → ShelfLoads loaded name limit told → (loaded ≡ NoMemory) ⊎ (loaded ≡ load_of told name limit)
 Loads-is loaded name limit told loads = is_load loaded name limit told _ refl loads

@@ -3,13 +3,13 @@ use Rattle.std.proofs.Common.{◌≡◌, ℕ, ◌+◌, ◌<◌, ◌≤◌, List,
 use Rattle.std.proofs.lemmas.List.{append-nil, length-take-le}
 use Rattle.drm_links.specs.declared.sink.WriteOut.TheVariants.{Failed}
 use Rattle.drm_links.specs.declared.source.ReadOut.TheVariants as read
-use Rattle.drm_links.specs.Told.{Known, WhileTold, CountsCall, BothTold, CountsTold, ToldThrough, Tells, Counts, one_more}
+use Rattle.drm_links.specs.Told.{Known, IfBothKnown, CountsCall, IfBoth, CountsTold, Throughout, KnownThrough, RisesWhere, one_more}
 use Rattle.drm_links.specs.Sink.{Output, WritesText, Outputs, FewWrites}
-use Rattle.drm_links.specs.Source.{Input, LeftBy, Inputs, FewReads, Takes}
-use Rattle.drm_links.specs.Shelf.{Files, Supplies, Loads, KeepsFiles, after_load}
+use Rattle.drm_links.specs.Source.{Input, LeftBy, Inputs, FewReads, SourceTakes}
+use Rattle.drm_links.specs.Shelf.{Files, ShelfSupplies, ShelfLoads, KeepsFiles, after_load}
 use Rattle.drm_links.specs.declared.shelf.Loaded.{Loaded}
 use Rattle.drm_links.specs.Link.{Traffic}
-use Rattle.drm_links.specs.Dock.{DockContents, LinkStart, Opens, start_at, first_traffic}
+use Rattle.drm_links.specs.Dock.{DockContents, LinkStart, DockOpens, start_at, first_traffic}
 use Rattle.drm_links.specs.declared.dock.Address.{Address}
 use Rattle.drm_links.specs.declared.dock.Opened.TheVariants as opened
 use Rattle.std.specs.FinMap as map
@@ -17,23 +17,23 @@ use Rattle.std.specs.FinMap as map
 -- ---- counts
 
 -- It happened.
-pub counts_one : {H : Type 0} {a b : ℕ} → H → b ≡ one_more a → Counts a b H
+pub counts_one : {H : Type 0} {a b : ℕ} → H → b ≡ one_more a → RisesWhere a b H
 counts_one here rose = record { once = λ _. rose; same = λ none. absurd (none here) }
 
 -- It didn't.
-pub counts_none : {H : Type 0} {a b : ℕ} → (H → ⊥) → b ≡ a → Counts a b H
+pub counts_none : {H : Type 0} {a b : ℕ} → (H → ⊥) → b ≡ a → RisesWhere a b H
 counts_none none same = record { once = λ here. absurd (none here); same = λ _. same }
 
 -- It didn't happen before.
-pub counts_then : {H : Type 0} {a b c : ℕ} → b ≡ a → Counts b c H → Counts a c H
+pub counts_then : {H : Type 0} {a b c : ℕ} → b ≡ a → RisesWhere b c H → RisesWhere a c H
 counts_then before counts = record { once = λ here. counts.once here ∙ ap one_more before; same = λ none. counts.same none ∙ before }
 
 -- It doesn't happen afterwards.
-pub then_counts : {H : Type 0} {a b c : ℕ} → Counts a b H → c ≡ b → Counts a c H
+pub then_counts : {H : Type 0} {a b c : ℕ} → RisesWhere a b H → c ≡ b → RisesWhere a c H
 then_counts counts after = record { once = λ here. after ∙ counts.once here; same = λ none. after ∙ counts.same none }
 
 -- It happens exactly where something else does.
-pub counts_as : {G H : Type 0} {a b : ℕ} → (H → G) → (G → H) → Counts a b G → Counts a b H
+pub counts_as : {G H : Type 0} {a b : ℕ} → (H → G) → (G → H) → RisesWhere a b G → RisesWhere a b H
 counts_as to from counts = record { once = λ here. counts.once (to here); same = λ none. counts.same (λ there. none (from there)) }
 
 -- It rose once, and stood still before.
@@ -45,10 +45,10 @@ pub done_is_no_fault : {T E : Type 0} {r : Result T E} {done : T} → r ≡ Ok d
 done_is_no_fault {r = Ok same} is failed = cc
 done_is_no_fault {r = Err fault} is failed = cc
 
-pub done_counts : {T E : Type 0} {r : Result T E} {done : T} {a b : ℕ} → r ≡ Ok done → Counts a b (IsErr r) → b ≡ a
+pub done_counts : {T E : Type 0} {r : Result T E} {done : T} {a b : ℕ} → r ≡ Ok done → RisesWhere a b (IsErr r) → b ≡ a
 done_counts is counts = counts.same (done_is_no_fault is)
 
-pub failed_counts : {T E : Type 0} {r : Result T E} {fault : E} {a b : ℕ} → r ≡ Err fault → Counts a b (IsErr r) → b ≡ one_more a
+pub failed_counts : {T E : Type 0} {r : Result T E} {fault : E} {a b : ℕ} → r ≡ Err fault → RisesWhere a b (IsErr r) → b ≡ one_more a
 failed_counts {r = Ok done} is counts = cc
 failed_counts {r = Err same} is counts = counts.once refl
 
@@ -65,58 +65,58 @@ told_before calls a b = told_so calls a.told b.told
 
 -- ---- over many calls
 
-through_none : {T : Type 0} (P : T → T → Type 0) (a : Option T) → ((x : T) → P x x) → ToldThrough a a P
+through_none : {T : Type 0} (P : T → T → Type 0) (a : Option T) → ((x : T) → P x x) → Throughout a a P
 through_none P None same = tt
 through_none P (Some x) same = same x
 
-pub Tells-nothing : {T : Type 0} (P : T → T → Type 0) (a : Known T) → ((x : T) → P x x) → Tells a a P
+pub Tells-nothing : {T : Type 0} (P : T → T → Type 0) (a : Known T) → ((x : T) → P x x) → KnownThrough a a P
 Tells-nothing P a = through_none P a.told
 
-through_then : {T : Type 0} (P Q R : T → T → Type 0) (a b c : Option T) → ToldThrough a b P → ToldThrough b c Q → ((x y z : T) → P x y → Q y z → R x z) → ToldThrough a c R
+through_then : {T : Type 0} (P Q R : T → T → Type 0) (a b c : Option T) → Throughout a b P → Throughout b c Q → ((x y z : T) → P x y → Q y z → R x z) → Throughout a c R
 through_then P Q R a b None first second both = tt
 through_then P Q R a None (Some z) first second both = absurd second
 through_then P Q R None (Some y) (Some z) first second both = absurd first
 through_then P Q R (Some x) (Some y) (Some z) first second both = both x y z first second
 
 -- what holds of some calls and what holds of the next ones
-pub Tells-then : {T : Type 0} (P Q R : T → T → Type 0) (a b c : Known T) → Tells a b P → Tells b c Q → ((x y z : T) → P x y → Q y z → R x z) → Tells a c R
+pub Tells-then : {T : Type 0} (P Q R : T → T → Type 0) (a b c : Known T) → KnownThrough a b P → KnownThrough b c Q → ((x y z : T) → P x y → Q y z → R x z) → KnownThrough a c R
 Tells-then P Q R a b c = through_then P Q R a.told b.told c.told
 
-through_weaker : {T : Type 0} (P Q : T → T → Type 0) (a b : Option T) → ToldThrough a b P → ((x y : T) → P x y → Q x y) → ToldThrough a b Q
+through_weaker : {T : Type 0} (P Q : T → T → Type 0) (a b : Option T) → Throughout a b P → ((x y : T) → P x y → Q x y) → Throughout a b Q
 through_weaker P Q a None first weaker = tt
 through_weaker P Q None (Some y) first weaker = first
 through_weaker P Q (Some x) (Some y) first weaker = weaker x y first
 
-pub Tells-weaker : {T : Type 0} (P Q : T → T → Type 0) (a b : Known T) → Tells a b P → ((x y : T) → P x y → Q x y) → Tells a b Q
+pub Tells-weaker : {T : Type 0} (P Q : T → T → Type 0) (a b : Known T) → KnownThrough a b P → ((x y : T) → P x y → Q x y) → KnownThrough a b Q
 Tells-weaker P Q a b = through_weaker P Q a.told b.told
 
-both_through : {T : Type 0} (P Q : T → T → Type 0) (a b : Option T) → ToldThrough a b P → ToldThrough a b Q → ToldThrough a b (λ x y. P x y × Q x y)
+both_through : {T : Type 0} (P Q : T → T → Type 0) (a b : Option T) → Throughout a b P → Throughout a b Q → Throughout a b (λ x y. P x y × Q x y)
 both_through P Q a None first second = tt
 both_through P Q None (Some y) first second = first
 both_through P Q (Some x) (Some y) first second = (first, second)
 
 -- two things that hold of the same calls
-pub Tells-both : {T : Type 0} (P Q : T → T → Type 0) (a b : Known T) → Tells a b P → Tells a b Q → Tells a b (λ x y. P x y × Q x y)
+pub Tells-both : {T : Type 0} (P Q : T → T → Type 0) (a b : Known T) → KnownThrough a b P → KnownThrough a b Q → KnownThrough a b (λ x y. P x y × Q x y)
 Tells-both P Q a b = both_through P Q a.told b.told
 
-one_through : {T : Type 0} (calls : T → ℕ) (P : T → T → Type 0) (a b : Option T) → CountsTold calls a b → BothTold a b P → ToldThrough a b P
+one_through : {T : Type 0} (calls : T → ℕ) (P : T → T → Type 0) (a b : Option T) → CountsTold calls a b → IfBoth a b P → Throughout a b P
 one_through calls P a None counts holds = tt
 one_through calls P None (Some y) counts holds = cc
 one_through calls P (Some x) (Some y) counts holds = holds
 
 -- one call
-pub Tells-one : {T : Type 0} (calls : T → ℕ) (P : T → T → Type 0) (a b : Known T) → CountsCall calls a b → WhileTold a b P → Tells a b P
+pub Tells-one : {T : Type 0} (calls : T → ℕ) (P : T → T → Type 0) (a b : Known T) → CountsCall calls a b → IfBothKnown a b P → KnownThrough a b P
 Tells-one calls P a b = one_through calls P a.told b.told
 
 -- what is told before and at the end
-told_some : {T : Type 0} (P : T → T → Type 0) (a b : Option T) (x y : T) → a ≡ Some x → b ≡ Some y → ToldThrough a b P → P x y
-told_some P a b x y first last holds = subst (λ told. ToldThrough (Some x) told P) last (subst (λ told. ToldThrough told b P) first holds)
+told_some : {T : Type 0} (P : T → T → Type 0) (a b : Option T) (x y : T) → a ≡ Some x → b ≡ Some y → Throughout a b P → P x y
+told_some P a b x y first last holds = subst (λ told. Throughout (Some x) told P) last (subst (λ told. Throughout told b P) first holds)
 
-pub told_through : {T : Type 0} (P : T → T → Type 0) (a b : Known T) (x y : T) → a.told ≡ Some x → b.told ≡ Some y → Tells a b P → P x y
+pub told_through : {T : Type 0} (P : T → T → Type 0) (a b : Known T) (x y : T) → a.told ≡ Some x → b.told ≡ Some y → KnownThrough a b P → P x y
 told_through P a b = told_some P a.told b.told
 
 -- one call, with what follows from its number
-one_counted : {T : Type 0} (calls : T → ℕ) (P Q : T → T → Type 0) (a b : Option T) → CountsTold calls a b → BothTold a b P → ((x y : T) → calls y ≡ calls x + 1 → P x y → Q x y) → ToldThrough a b Q
+one_counted : {T : Type 0} (calls : T → ℕ) (P Q : T → T → Type 0) (a b : Option T) → CountsTold calls a b → IfBoth a b P → ((x y : T) → calls y ≡ calls x + 1 → P x y → Q x y) → Throughout a b Q
 one_counted calls P Q a None counts holds also = tt
 one_counted calls P Q None (Some y) counts holds also = cc
 one_counted calls P Q (Some x) (Some y) counts holds also = also x y counts.0 holds
@@ -206,27 +206,27 @@ Inputs-both P Q a b first second =
     (λ x y (p, q). ((p.0, q.0), p.1))
 
 -- one call
-pub Inputs-got : (n : ℕ) (buf : List ℕ) (a b : Known Input) → 0 < n → n ≤ length buf → b.faults ≡ a.faults → WhileTold a b (Takes (read.Got n) buf) → CountsCall (λ (i : Input). i.calls) a b → Inputs a b (λ x y. x ≡ take n buf ++ y)
+pub Inputs-got : (n : ℕ) (buf : List ℕ) (a b : Known Input) → 0 < n → n ≤ length buf → b.faults ≡ a.faults → IfBothKnown a b (SourceTakes (read.Got n) buf) → CountsCall (λ (i : Input). i.calls) a b → Inputs a b (λ x y. x ≡ take n buf ++ y)
 Inputs-got n buf a b some within same told counts =
-    one_counted (λ (i : Input). i.calls) (Takes (read.Got n) buf) (λ x y. LeftBy (λ x y. x ≡ take n buf ++ y) x y × FewReads a.faults b.faults x y) a.told b.told counts told
+    one_counted (λ (i : Input). i.calls) (SourceTakes (read.Got n) buf) (λ x y. LeftBy (λ x y. x ≡ take n buf ++ y) x y × FewReads a.faults b.faults x y) a.told b.told counts told
     (λ x y next is. (
       is,
       (let more : length x.left ≡ n + length y.left = ap length is ∙ length-append (take n buf) y.left ∙ ap (λ k. k + length y.left) (length-take-le n buf within) in
           record { less = omega (arith, more); rises = λ _. omega (arith, same); few = λ _ _. omega (arith, same, next, more, some) }),
     ))
 
-pub Inputs-end : (buf : List ℕ) (a b : Known Input) → b.faults ≡ a.faults → WhileTold a b (Takes read.End buf) → CountsCall (λ (i : Input). i.calls) a b → Inputs a b (λ x y. (x ≡ []) × (y ≡ []))
+pub Inputs-end : (buf : List ℕ) (a b : Known Input) → b.faults ≡ a.faults → IfBothKnown a b (SourceTakes read.End buf) → CountsCall (λ (i : Input). i.calls) a b → Inputs a b (λ x y. (x ≡ []) × (y ≡ []))
 Inputs-end buf a b same told counts =
-    one_counted (λ (i : Input). i.calls) (Takes read.End buf) (λ x y. LeftBy (λ x y. (x ≡ []) × (y ≡ [])) x y × FewReads a.faults b.faults x y) a.told b.told counts told
+    one_counted (λ (i : Input). i.calls) (SourceTakes read.End buf) (λ x y. LeftBy (λ x y. (x ≡ []) × (y ≡ [])) x y × FewReads a.faults b.faults x y) a.told b.told counts told
     (λ x y next is. (
       is,
       (let none : length y.left ≡ 0 = ap length is.1 in
           record { less = omega (arith, none); rises = λ _. omega (arith, same); few = λ _ some. absurd (omega (arith, some, none)) }),
     ))
 
-pub Inputs-failed : (buf : List ℕ) (a b : Known Input) → b.faults ≡ one_more a.faults → WhileTold a b (Takes read.Failed buf) → CountsCall (λ (i : Input). i.calls) a b → Inputs a b (λ x y. y ≡ x)
+pub Inputs-failed : (buf : List ℕ) (a b : Known Input) → b.faults ≡ one_more a.faults → IfBothKnown a b (SourceTakes read.Failed buf) → CountsCall (λ (i : Input). i.calls) a b → Inputs a b (λ x y. y ≡ x)
 Inputs-failed buf a b rose told counts =
-    one_counted (λ (i : Input). i.calls) (Takes read.Failed buf) (λ x y. LeftBy (λ x y. y ≡ x) x y × FewReads a.faults b.faults x y) a.told b.told counts told
+    one_counted (λ (i : Input). i.calls) (SourceTakes read.Failed buf) (λ x y. LeftBy (λ x y. y ≡ x) x y × FewReads a.faults b.faults x y) a.told b.told counts told
     (λ x y next is. (
       is,
       (let same : length y.left ≡ length x.left = ap length is in
@@ -238,13 +238,13 @@ Inputs-failed buf a b rose told counts =
 same_files : (loaded : Loaded) (name : List ℕ) (x y : Files) → KeepsFiles loaded name x y → y.loads ≡ x.loads + 1 → y ≡ after_load loaded name x
 same_files loaded name x y kept counts = λ i. record { files = kept.files i; loads = counts i; names = kept.names i; failing = kept.failing i }
 
-loaded_one : (loaded : Loaded) (name : List ℕ) (limit : ℕ) (a b : Option Files) → BothTold a b (λ x _. Loads loaded name limit x) → BothTold a b (KeepsFiles loaded name) → CountsTold (λ (f : Files). f.loads) a b → ToldThrough a b (λ x y. Loads loaded name limit x × (y ≡ after_load loaded name x))
+loaded_one : (loaded : Loaded) (name : List ℕ) (limit : ℕ) (a b : Option Files) → IfBoth a b (λ x _. ShelfLoads loaded name limit x) → IfBoth a b (KeepsFiles loaded name) → CountsTold (λ (f : Files). f.loads) a b → Throughout a b (λ x y. ShelfLoads loaded name limit x × (y ≡ after_load loaded name x))
 loaded_one loaded name limit a None loads kept counts = tt
 loaded_one loaded name limit None (Some y) loads kept counts = cc
 loaded_one loaded name limit (Some x) (Some y) loads kept counts = (loads, same_files loaded name x y kept counts.0)
 
 -- one load
-pub Supplies-load : (loaded : Loaded) (name : List ℕ) (limit : ℕ) (a b : Known Files) → WhileTold a b (λ x _. Loads loaded name limit x) → WhileTold a b (KeepsFiles loaded name) → CountsCall (λ (f : Files). f.loads) a b → Supplies a b (λ x y. Loads loaded name limit x × (y ≡ after_load loaded name x))
+pub Supplies-load : (loaded : Loaded) (name : List ℕ) (limit : ℕ) (a b : Known Files) → IfBothKnown a b (λ x _. ShelfLoads loaded name limit x) → IfBothKnown a b (KeepsFiles loaded name) → CountsCall (λ (f : Files). f.loads) a b → ShelfSupplies a b (λ x y. ShelfLoads loaded name limit x × (y ≡ after_load loaded name x))
 Supplies-load loaded name limit a b loads kept counts = loaded_one loaded name limit a.told b.told loads kept counts
 
 -- ---- links that were opened, and closed
@@ -254,5 +254,5 @@ started None traffic starts = absurd starts
 started (Some s) traffic starts = (s, refl, starts)
 
 -- A link that a telling dock opened tells, and starts with what stood at its address.
-pub Opens-started : {L : Type 0} (known : L → Known Traffic) (at : Address) (link : L) (before after : DockContents) → Opens known at (opened.Link link) before after → (s : LinkStart) × (start_at before at ≡ Some s) × ((known link).told ≡ Some (first_traffic s))
+pub Opens-started : {L : Type 0} (known : L → Known Traffic) (at : Address) (link : L) (before after : DockContents) → DockOpens known at (opened.Link link) before after → (s : LinkStart) × (start_at before at ≡ Some s) × ((known link).told ≡ Some (first_traffic s))
 Opens-started known at link before after opens = started (start_at before at) (known link).told opens.1

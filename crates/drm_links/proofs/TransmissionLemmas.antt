@@ -3,19 +3,19 @@ use Rattle.std.proofs.Common.{◌≡◌, ℕ, ◌+◌, ◌-◌, List, [], ◌∷
 use Rattle.std.proofs.lemmas.List.{append-nil}
 use Rattle.drm_links.specs.Told.{Known}
 use Rattle.drm_links.specs.Link.{Traffic, KeepsAnswers}
-use Rattle.drm_links.specs.Transmission.{Transmits, SendsAll, SendsNoMore, Waits, TakesSends, fewer, since, still}
+use Rattle.drm_links.specs.Transmission.{LinkTransmits, SendsAll, SendsNoMore, WaitsBetween, TakesSends, fewer, since, still}
 use Rattle.drm_links.specs.declared.link.Sent.TheVariants as send
 use Rattle.drm_links.proofs.ToldLemmas.{Tells-nothing, Tells-then, Tells-weaker, Tells-both}
 
 -- ---- over many calls
 
-pub Transmits-then : (P Q R : Traffic → Traffic → Type 0) (a b c : Known Traffic) → Transmits a b P → Transmits b c Q → ((x y z : Traffic) → P x y → Q y z → R x z) → Transmits a c R
+pub Transmits-then : (P Q R : Traffic → Traffic → Type 0) (a b c : Known Traffic) → LinkTransmits a b P → LinkTransmits b c Q → ((x y z : Traffic) → P x y → Q y z → R x z) → LinkTransmits a c R
 Transmits-then P Q R a b c = Tells-then P Q R a b c
 
-pub Transmits-weaker : (P Q : Traffic → Traffic → Type 0) (a b : Known Traffic) → Transmits a b P → ((x y : Traffic) → P x y → Q x y) → Transmits a b Q
+pub Transmits-weaker : (P Q : Traffic → Traffic → Type 0) (a b : Known Traffic) → LinkTransmits a b P → ((x y : Traffic) → P x y → Q x y) → LinkTransmits a b Q
 Transmits-weaker P Q a b = Tells-weaker P Q a b
 
-pub Transmits-both : (P Q : Traffic → Traffic → Type 0) (a b : Known Traffic) → Transmits a b P → Transmits a b Q → Transmits a b (λ x y. P x y × Q x y)
+pub Transmits-both : (P Q : Traffic → Traffic → Type 0) (a b : Known Traffic) → LinkTransmits a b P → LinkTransmits a b Q → LinkTransmits a b (λ x y. P x y × Q x y)
 Transmits-both P Q a b = Tells-both P Q a b
 
 -- ---- how many sends are left
@@ -85,7 +85,7 @@ sends_nothing x y gone sends kept =
       kept = kept;
     }
 
-pub Transmits-nothing : (a : Known Traffic) → Transmits a a (SendsAll [])
+pub Transmits-nothing : (a : Known Traffic) → LinkTransmits a a (SendsAll [])
 Transmits-nothing a =
     Tells-nothing (SendsAll []) a (λ x. sends_nothing x x refl refl (record { answers = refl; ahead = refl }))
 
@@ -102,7 +102,7 @@ still_then waited [] last (y ∷ ys) end = refl
 still_then waited (x ∷ xs) last ys end = refl
 
 -- some waits, and then others
-pub Waits-then : (xs : List ℕ) (last : ℕ) (ys : List ℕ) (end : ℕ) (x y z : Traffic) → Waits xs last x y → Waits ys end y z → Waits (xs ++ since last ys) (still last ys end) x z
+pub Waits-then : (xs : List ℕ) (last : ℕ) (ys : List ℕ) (end : ℕ) (x y z : Traffic) → WaitsBetween xs last x y → WaitsBetween ys end y z → WaitsBetween (xs ++ since last ys) (still last ys end) x z
 Waits-then xs last ys end x y z first second =
     record {
       waits =
@@ -115,10 +115,10 @@ Waits-then xs last ys end x y z first second =
     }
 
 -- no wait
-waits_nothing : (x y : Traffic) → y.waits ≡ x.waits → y.waiting ≡ x.waiting → Waits [] 0 x y
+waits_nothing : (x y : Traffic) → y.waits ≡ x.waits → y.waiting ≡ x.waiting → WaitsBetween [] 0 x y
 waits_nothing x y waits waiting =
     let none : x.waiting ≡ x.waiting + 0 = omega arith in
     record { waits = waits ∙ sym (append-nil x.waits); waiting = waiting ∙ none }
 
-pub Transmits-no_wait : (a : Known Traffic) → Transmits a a (Waits [] 0)
-Transmits-no_wait a = Tells-nothing (Waits [] 0) a (λ x. waits_nothing x x refl refl)
+pub Transmits-no_wait : (a : Known Traffic) → LinkTransmits a a (WaitsBetween [] 0)
+Transmits-no_wait a = Tells-nothing (WaitsBetween [] 0) a (λ x. waits_nothing x x refl refl)

@@ -1,7 +1,7 @@
 -- Texts that are written one after another.
 use Rattle.std.proofs.Common.{◌≡◌, ℕ, List, ◌++◌, Result, Ok, Err, IsErr, refl, sym, ◌∙◌, ap, append_assoc}
 use Rattle.drm_links.specs.Told.{Known, HasCause}
-use Rattle.drm_links.specs.Sink.{Output, Outputs, IsFront, IsFrontBehind, Writes}
+use Rattle.drm_links.specs.Sink.{Output, Outputs, IsFront, IsFrontBehind, WritesWhole}
 use Rattle.drm_links.proofs.ToldLemmas.{counts_one, counts_none, once_then, counts_then, Outputs-then, Outputs-weaker}
 
 -- ---- one text behind another
@@ -32,12 +32,12 @@ front_of_both xs ys text (front, (rest, ys_is), text_is) =
 
 -- all of the text was written
 pub Writes-whole : {E : Type 0} (text : List ℕ) (a b : Known Output) → Outputs a b (λ t. t ≡ text) → b.faults ≡ a.faults
-    → (let done : Result (Unit {0}) E = Ok tt in Writes done a b text)
+    → (let done : Result (Unit {0}) E = Ok tt in WritesWhole done a b text)
 Writes-whole text a b written same = record { whole = written; front = tt; cause = counts_none (λ failed. cc) same }
 
 -- a front of the first text is a front of both
-pub Writes-cut : {E F : Type 0} (s t : List ℕ) (a b : Known Output) (r : Result (Unit {0}) E) (other : E) (fault : F) → r ≡ Err other → Writes r a b s
-    → (let cut : Result (Unit {0}) F = Err fault in Writes cut a b (s ++ t))
+pub Writes-cut : {E F : Type 0} (s t : List ℕ) (a b : Known Output) (r : Result (Unit {0}) E) (other : E) (fault : F) → r ≡ Err other → WritesWhole r a b s
+    → (let cut : Result (Unit {0}) F = Err fault in WritesWhole cut a b (s ++ t))
 Writes-cut s t a b (Ok done) other fault is writes = cc
 Writes-cut s t a b (Err same) other fault is writes =
     record {
@@ -47,8 +47,8 @@ Writes-cut s t a b (Err same) other fault is writes =
     }
 
 -- the second text behind the first one, which was written whole
-pub Writes-then : {E F : Type 0} (s t : List ℕ) (a b c : Known Output) (first : Result (Unit {0}) F) (r : Result (Unit {0}) E) (done : Unit {0}) → first ≡ Ok done → Writes first a b s
-    → Writes r b c t → Writes r a c (s ++ t)
+pub Writes-then : {E F : Type 0} (s t : List ℕ) (a b c : Known Output) (first : Result (Unit {0}) F) (r : Result (Unit {0}) E) (done : Unit {0}) → first ≡ Ok done → WritesWhole first a b s
+    → WritesWhole r b c t → WritesWhole r a c (s ++ t)
 Writes-then s t a b c (Err fault) r done is writes second = cc
 Writes-then s t a b c (Ok so) (Ok done) _ is writes second =
     record {
@@ -65,7 +65,7 @@ Writes-then s t a b c (Ok so) (Err fault) done is writes second =
 
 -- what was written, and a front of what is left
 pub Writes-broken : {E F : Type 0} (whole s rest : List ℕ) (a b c : Known Output) (r : Result (Unit {0}) E) (other : E) (fault : F) → Outputs a b (λ text. text ++ (s ++ rest) ≡ whole)
-    → b.faults ≡ a.faults → r ≡ Err other → Writes r b c s → (let broken : Result (Unit {0}) F = Err fault in Writes broken a c whole)
+    → b.faults ≡ a.faults → r ≡ Err other → WritesWhole r b c s → (let broken : Result (Unit {0}) F = Err fault in WritesWhole broken a c whole)
 Writes-broken whole s rest a b c (Ok done) other fault first still is second = cc
 Writes-broken whole s rest a b c (Err other') other fault first still is second =
     record {
@@ -83,24 +83,24 @@ Writes-broken whole s rest a b c (Err other') other fault first still is second 
 
 -- what was written, and the next part of what is left
 pub Writes-more : {E : Type 0} (whole s rest : List ℕ) (a b c : Known Output) (r : Result (Unit {0}) E) (done : Unit {0}) → Outputs a b (λ text. text ++ (s ++ rest) ≡ whole)
-    → r ≡ Ok done → Writes r b c s → Outputs a c (λ text. text ++ rest ≡ whole)
+    → r ≡ Ok done → WritesWhole r b c s → Outputs a c (λ text. text ++ rest ≡ whole)
 Writes-more whole s rest a b c (Err fault) done first is second = cc
 Writes-more whole s rest a b c (Ok same) done first is second =
     Outputs-then (λ text. text ++ (s ++ rest) ≡ whole) (λ text. text ≡ s) (λ text. text ++ rest ≡ whole) a b c first second.whole
     (λ x y is_x is_y. append_assoc x y rest ∙ (ap (λ l. x ++ (l ++ rest)) is_y ∙ is_x))
 
 -- what was written, by how the call ended
-pub Writes-done : {E : Type 0} {text : List ℕ} {a b : Known Output} {r : Result (Unit {0}) E} {done : Unit {0}} → r ≡ Ok done → Writes r a b text → Outputs a b (λ t. t ≡ text)
+pub Writes-done : {E : Type 0} {text : List ℕ} {a b : Known Output} {r : Result (Unit {0}) E} {done : Unit {0}} → r ≡ Ok done → WritesWhole r a b text → Outputs a b (λ t. t ≡ text)
 Writes-done {r = Ok same} is writes = writes.whole
 Writes-done {r = Err fault} is writes = cc
 
-pub Writes-front : {E : Type 0} {text : List ℕ} {a b : Known Output} {r : Result (Unit {0}) E} {fault : E} → r ≡ Err fault → Writes r a b text → Outputs a b (IsFront text)
+pub Writes-front : {E : Type 0} {text : List ℕ} {a b : Known Output} {r : Result (Unit {0}) E} {fault : E} → r ≡ Err fault → WritesWhole r a b text → Outputs a b (IsFront text)
 Writes-front {r = Ok done} is writes = cc
 Writes-front {r = Err same} is writes = writes.front
 
 -- a front of a text, where the call failed
 pub Writes-part : {E F : Type 0} (text : List ℕ) (a b c : Known Output) (r : Result (Unit {0}) E) (other : E) (fault : F) → Outputs a c (IsFront text) → b.faults ≡ a.faults → r ≡ Err other
-    → HasCause b c (IsErr r) → (let broken : Result (Unit {0}) F = Err fault in Writes broken a c text)
+    → HasCause b c (IsErr r) → (let broken : Result (Unit {0}) F = Err fault in WritesWhole broken a c text)
 Writes-part text a b c (Ok done) other fault front still is cause = cc
 Writes-part text a b c (Err other') other fault front still is cause =
     record {

@@ -5,7 +5,7 @@ use Rattle.std.specs.List.{AllByRecursion}
 use Rattle.std.specs.Ordering.{nat_cmp}
 use Rattle.std.specs.Cmp.Lexicographic.{slice_cmp}
 use Rattle.std.specs.FinMap as map
-use Rattle.drm_links.specs.Told.{Known, Tells}
+use Rattle.drm_links.specs.Told.{Known, KnownThrough}
 use Rattle.drm_links.specs.Link.{Answer, Traffic, IsUnused, rests_of}
 use Rattle.drm_links.specs.declared.dock.Address.{Address}
 use Rattle.drm_links.specs.declared.dock.Opened.{Opened}
@@ -62,12 +62,12 @@ after_failure told = record told { openings = told.openings + 1; calls = told.ca
 
 -- An opening is Failed exactly where its number is to fail or no link stands at its address. The link that it gives
 -- starts as it stood there.
-abbrev pub Opens : {L : Type 0} → (L → Known Traffic) → Address → Opened L → DockContents → DockContents → Type 0
-Opens known at (Link link) before after =
+abbrev pub DockOpens : {L : Type 0} → (L → Known Traffic) → Address → Opened L → DockContents → DockContents → Type 0
+DockOpens known at (Link link) before after =
     (Contains before.failing before.openings → ⊥)
     × MatchOption (start_at before at) ⊥ (λ start. (known link).told ≡ Some (first_traffic start))
     × (after ≡ after_opening at before)
-Opens known at Failed before after =
+DockOpens known at Failed before after =
     (Contains before.failing before.openings ⊎ IsNone (start_at before at))
     × (after ≡ after_failure before)
 
@@ -76,12 +76,12 @@ abbrev pub with_reach : DockContents → DockContents
 with_reach contents = record contents { reaches = contents.reaches + 1 }
 
 -- An opening by `bind` opens.
-abbrev pub Binds : {L : Type 0} → (L → Known Traffic) → Address → Opened L → DockContents → DockContents → Type 0
-Binds known at opened before after = Opens known at opened before after
+abbrev pub DockBinds : {L : Type 0} → (L → Known Traffic) → Address → Opened L → DockContents → DockContents → Type 0
+DockBinds known at opened before after = DockOpens known at opened before after
 
 -- An opening by `reach` opens, and is counted as one by `reach`.
-abbrev pub Reaches : {L : Type 0} → (L → Known Traffic) → Address → Opened L → DockContents → DockContents → Type 0
-Reaches known at opened before after = Opens known at opened (with_reach before) after
+abbrev pub DockReaches : {L : Type 0} → (L → Known Traffic) → Address → Opened L → DockContents → DockContents → Type 0
+DockReaches known at opened before after = DockOpens known at opened (with_reach before) after
 
 -- A new link has no faults and no idles, and where it tells, no call was made on it.
 abbrev pub IsFresh : {L : Type 0} → (L → Known Traffic) → (L → ℕ) → Opened L → Type 0
@@ -102,9 +102,9 @@ after_close at over told = record told {
 }
 
 -- A close of a link that still tells adds what went over it.
-abbrev pub Closes : Option Traffic → Address → DockContents → DockContents → Type 0
-Closes None at before after = after ≡ record before { calls = before.calls + 1 }
-Closes (Some traffic) at before after = after ≡ after_close at (over_of traffic) before
+abbrev pub DockCloses : Option Traffic → Address → DockContents → DockContents → Type 0
+DockCloses None at before after = after ≡ record before { calls = before.calls + 1 }
+DockCloses (Some traffic) at before after = after ≡ after_close at (over_of traffic) before
 
 -- ---- links that are opened, one after another
 
@@ -114,7 +114,7 @@ AreDifferent [] = Unit {0}
 AreDifferent (address ∷ others) = AllByRecursion (λ other. other ≢ address) others × AreDifferent others
 
 -- the k-th opening from here finds a link at this address that starts so
-pub record Finds (told : DockContents) (k : ℕ) (at : Address) (start : LinkStart) : Type 0 where
+pub record OpeningFinds (told : DockContents) (k : ℕ) (at : Address) (start : LinkStart) : Type 0 where
   pub allowed : Contains told.failing (told.openings + k) → ⊥
   pub stands : start_at told at ≡ Some start
 
@@ -124,7 +124,7 @@ FindsNone told k at = Contains told.failing (told.openings + k) ⊎ IsNone (star
 
 -- where a dock tells at the end, it told before, and P holds of what it told then
 abbrev pub Docked : Known DockContents → Known DockContents → (DockContents → Type 0) → Type 0
-Docked before after P = Tells before after (λ told _. P told)
+Docked before after P = KnownThrough before after (λ told _. P told)
 
 -- what a dock tells after links were opened at these addresses, one after another, to receive over them
 abbrev pub after_openings : List Address → DockContents → DockContents
@@ -140,4 +140,4 @@ pub record FailsAfter (addresses : List Address) (before after : DockContents) :
 
 -- the link of the k-th opening from here starts with what stood at its address
 abbrev pub HasLink : {L : Type 0} → (L → Known Traffic) → DockContents → ℕ → Address → L → Type 0
-HasLink known told k at link = (start : LinkStart) × Finds told k at start × ((known link).told ≡ Some (first_traffic start))
+HasLink known told k at link = (start : LinkStart) × OpeningFinds told k at start × ((known link).told ≡ Some (first_traffic start))

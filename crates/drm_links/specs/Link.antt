@@ -48,7 +48,7 @@ answer_of recv.Idle buf = Idle
 answer_of recv.Failed buf = Failed
 
 -- A recv gives the first answer ahead, which then stands among those given.
-pub record Receives (result : Came) (buf : List ℕ) (before after : Traffic) : Type 0 where
+pub record LinkReceives (result : Came) (buf : List ℕ) (before after : Traffic) : Type 0 where
   pub next : answer_of result buf ≡ next_answer before.ahead
   pub answers : after.answers ≡ before.answers ++ next_answer before.ahead ∷ []
   pub ahead : after.ahead ≡ drop 1 before.ahead
@@ -69,14 +69,14 @@ longest_told = 32780
 -- A send of such a datagram fails exactly where no send is taken any more; a longer one may also fail elsewhere. One
 -- that is taken is appended to those gone, with how long the link has rested since the last; a failed one isn't. How many
 -- are taken after a failed one is told anew.
-abbrev pub Sends : Sent → List ℕ → Traffic → Traffic → Type 0
-Sends send.Sent bytes before after =
+abbrev pub LinkSends : Sent → List ℕ → Traffic → Traffic → Type 0
+LinkSends send.Sent bytes before after =
     (before.sends ≡ Some 0 → ⊥)
     × (after.gone ≡ before.gone ++ bytes ∷ [])
     × (after.waits ≡ before.waits ++ before.waiting ∷ [])
     × (after.waiting ≡ 0)
     × (after.sends ≡ one_less before.sends)
-Sends send.Failed bytes before after =
+LinkSends send.Failed bytes before after =
     (length bytes ≤ longest_told → before.sends ≡ Some 0)
     × (after.gone ≡ before.gone)
     × (after.waits ≡ before.waits)
@@ -88,7 +88,7 @@ pub record KeepsAnswers (before after : Traffic) : Type 0 where
   pub ahead : after.ahead ≡ before.ahead
 
 -- The link rested for so many milliseconds. All else is as before, but the number of calls.
-pub record Rests (millis : ℕ) (before after : Traffic) : Type 0 where
+pub record LinkRests (millis : ℕ) (before after : Traffic) : Type 0 where
   pub waiting : after.waiting ≡ before.waiting + millis
   pub answers : after.answers ≡ before.answers
   pub ahead : after.ahead ≡ before.ahead

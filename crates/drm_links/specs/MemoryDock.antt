@@ -134,13 +134,13 @@ reached dock = record dock { reaches = one_more dock.reaches }
 
 -- An opening fails exactly where its number is to fail or no link stands at its address. Else the link that stood
 -- there, on which no call was made, leaves the dock.
-abbrev pub Leaves : Opened LinkState → Address → DockState → DockState → Type 0
-Leaves (Link link) at before after =
+abbrev pub LeavesDock : Opened LinkState → Address → DockState → DockState → Type 0
+LeavesDock (Link link) at before after =
     (Contains before.failing before.openings → ⊥)
     × (link_at before at ≡ Some link)
     × IsUntouched link
     × (after ≡ record before { openings = one_more before.openings; links = map.remove before.links (address_key at); calls = one_more before.calls })
-Leaves Failed at before after =
+LeavesDock Failed at before after =
     (Contains before.failing before.openings ⊎ IsNone (link_at before at))
     × (after ≡ record before { openings = one_more before.openings; calls = one_more before.calls; faults = one_more before.faults })
 

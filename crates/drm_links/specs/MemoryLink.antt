@@ -116,33 +116,33 @@ link_known link = record { faults = link.faults; told = told_for link.calls (tra
 
 -- A recv whose number is to fail is Failed, and any other that is to be idle is Idle. Else it gives the first datagram
 -- that is still to come, or Idle where none is. Only a datagram changes the buffer, and only at its front.
-abbrev pub Hears : Came → List ℕ → List ℕ → LinkState → LinkState → Type 0
-Hears (recv.Datagram n) old new before after =
+abbrev pub MemLinkReceives : Came → List ℕ → List ℕ → LinkState → LinkState → Type 0
+MemLinkReceives (recv.Datagram n) old new before after =
     (Contains before.failing before.recvs → ⊥)
     × (Contains before.idling before.recvs → ⊥)
     × (before.coming ≡ take n new ∷ after.coming)
     × (n ≤ length new)
     × (drop n new ≡ drop n old)
     × (after ≡ record before { came = before.came ++ (before.recvs, take n new) ∷ []; coming = drop 1 before.coming; recvs = one_more before.recvs; calls = one_more before.calls })
-Hears recv.Idle old new before after =
+MemLinkReceives recv.Idle old new before after =
     (Contains before.failing before.recvs → ⊥)
     × (Contains before.idling before.recvs ⊎ (before.coming ≡ []))
     × (new ≡ old)
     × (after ≡ record before { recvs = one_more before.recvs; calls = one_more before.calls; idles = one_more before.idles })
-Hears recv.Failed old new before after =
+MemLinkReceives recv.Failed old new before after =
     Contains before.failing before.recvs
     × (new ≡ old)
     × (after ≡ record before { recvs = one_more before.recvs; calls = one_more before.calls; faults = one_more before.faults })
 
 -- A send fails exactly where its number is to fail, no room is left, or the datagram is longer than the room for one.
 -- Any other datagram is gone, after the wait so far.
-abbrev pub Carries : Sent → List ℕ → LinkState → LinkState → Type 0
-Carries send.Sent bytes before after =
+abbrev pub MemLinkSends : Sent → List ℕ → LinkState → LinkState → Type 0
+MemLinkSends send.Sent bytes before after =
     (Contains before.failing before.sends → ⊥)
     × (0 < before.room)
     × (length bytes ≤ longest_told)
     × (after ≡ record before { gone = before.gone ++ bytes ∷ []; waits = before.waits ++ before.waiting ∷ []; waiting = 0; room = before.room - 1; sends = one_more before.sends; calls = one_more before.calls })
-Carries send.Failed bytes before after =
+MemLinkSends send.Failed bytes before after =
     (Contains before.failing before.sends ⊎ (before.room ≡ 0) ⊎ (longest_told < length bytes))
     × (after ≡ record before { sends = one_more before.sends; calls = one_more before.calls; faults = one_more before.faults })
 
@@ -184,7 +184,7 @@ pub record IsUntouched (link : LinkState) : Type 0 where
   pub idles : link.idles ≡ 0
 
 -- A datagram was brought: it stands behind all others that are ahead, and all else is as before.
-pub record Brings (bytes : List ℕ) (before after : Traffic) : Type 0 where
+pub record BringsDatagram (bytes : List ℕ) (before after : Traffic) : Type 0 where
   pub answers : after.answers ≡ before.answers
   pub ahead : filter_map datagram_of after.ahead ≡ filter_map datagram_of before.ahead ++ bytes ∷ []
   pub gone : after.gone ≡ before.gone

@@ -21,12 +21,12 @@ sink_known sink =
 
 -- A call fails exactly where its number is to fail or no room is left, and then writes nothing. Any other call takes
 -- as many bytes from the front as the piece and the room left allow.
-abbrev pub Writes : WriteOut → List ℕ → SinkState → SinkState → Type 0
-Writes (Wrote n) bytes before after =
+abbrev pub MemSinkWrites : WriteOut → List ℕ → SinkState → SinkState → Type 0
+MemSinkWrites (Wrote n) bytes before after =
     (Contains before.failing before.calls → ⊥)
     × (length before.written < before.room)
     × (n ≡ min (min (length bytes) before.piece) (before.room - length before.written))
     × (after ≡ record before { written = before.written ++ take n bytes; calls = one_more before.calls })
-Writes Failed bytes before after =
+MemSinkWrites Failed bytes before after =
     (Contains before.failing before.calls ⊎ (before.room ≤ length before.written))
     × (after ≡ record before { calls = one_more before.calls; faults = one_more before.faults })

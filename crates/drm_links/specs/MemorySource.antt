@@ -21,19 +21,19 @@ source_known source =
 -- A call fails exactly where its number is to fail, and then takes nothing. Any other call is the end exactly where
 -- no byte is left. Else it gives as many of the next bytes as the buffer, the piece and what is left allow, and the
 -- rest of the buffer is as before.
-abbrev pub Reads : ReadOut → List ℕ → List ℕ → SourceState → SourceState → Type 0
-Reads (Got n) old new before after =
+abbrev pub MemSourceReads : ReadOut → List ℕ → List ℕ → SourceState → SourceState → Type 0
+MemSourceReads (Got n) old new before after =
     (Contains before.failing before.calls → ⊥)
     × (0 < length before.left)
     × (n ≡ min (min (length old) before.piece) (length before.left))
     × (new ≡ take n before.left ++ drop n old)
     × (after ≡ record before { left = drop n before.left; calls = one_more before.calls })
-Reads End old new before after =
+MemSourceReads End old new before after =
     (Contains before.failing before.calls → ⊥)
     × (before.left ≡ [])
     × (new ≡ old)
     × (after ≡ record before { calls = one_more before.calls })
-Reads Failed old new before after =
+MemSourceReads Failed old new before after =
     Contains before.failing before.calls
     × (new ≡ old)
     × (after ≡ record before { calls = one_more before.calls; faults = one_more before.faults })

@@ -4,7 +4,7 @@ use Rattle.std.specs.List.{list_any}
 use Rattle.std.specs.Ordering.{nat_cmp}
 use Rattle.std.specs.Cmp.Lexicographic.{slice_cmp}
 use Rattle.std.specs.FinMap as map
-use Rattle.drm_links.specs.Told.{Known, Tells}
+use Rattle.drm_links.specs.Told.{Known, KnownThrough}
 use Rattle.drm_links.specs.declared.shelf.Loaded.{Loaded}
 use Rattle.drm_links.specs.declared.shelf.Loaded.TheVariants.{Bytes, TooLong, Failed, NoMemory}
 
@@ -22,18 +22,18 @@ file_at told name = map.get told.files name
 
 -- What a load gives of the file, if there is one: it is too long exactly where the file is longer than the limit, and
 -- else it gives the file. Memory may run out instead.
-abbrev pub Gives : Loaded → ℕ → Option (List ℕ) → Type 0
-Gives (Bytes octets) limit file = (file ≡ Some octets) × (length octets ≤ limit)
-Gives TooLong limit file = MatchOption file ⊥ (λ bytes. limit < length bytes)
-Gives Failed limit file = IsNone file
-Gives NoMemory limit file = Unit {0}
+abbrev pub LoadGives : Loaded → ℕ → Option (List ℕ) → Type 0
+LoadGives (Bytes octets) limit file = (file ≡ Some octets) × (length octets ≤ limit)
+LoadGives TooLong limit file = MatchOption file ⊥ (λ bytes. limit < length bytes)
+LoadGives Failed limit file = IsNone file
+LoadGives NoMemory limit file = Unit {0}
 
 -- The load fails exactly where its number is to fail or there is no such file; else it gives the file within the limit.
-abbrev pub Loads : Loaded → List ℕ → ℕ → Files → Type 0
-Loads (Bytes octets) name limit told = (Contains told.failing told.loads → ⊥) × Gives (Bytes octets) limit (file_at told name)
-Loads TooLong name limit told = (Contains told.failing told.loads → ⊥) × Gives TooLong limit (file_at told name)
-Loads Failed name limit told = Contains told.failing told.loads ⊎ Gives Failed limit (file_at told name)
-Loads NoMemory name limit told = Unit {0}
+abbrev pub ShelfLoads : Loaded → List ℕ → ℕ → Files → Type 0
+ShelfLoads (Bytes octets) name limit told = (Contains told.failing told.loads → ⊥) × LoadGives (Bytes octets) limit (file_at told name)
+ShelfLoads TooLong name limit told = (Contains told.failing told.loads → ⊥) × LoadGives TooLong limit (file_at told name)
+ShelfLoads Failed name limit told = Contains told.failing told.loads ⊎ LoadGives Failed limit (file_at told name)
+ShelfLoads NoMemory name limit told = Unit {0}
 
 -- a file that is there, within a limit
 abbrev pub within : ℕ → Option (List ℕ) → Loaded
@@ -73,5 +73,5 @@ abbrev pub after_loads : List (List ℕ) → Files → Files
 after_loads names told = record told { loads = told.loads + length names; names = told.names ++ names }
 
 -- Where a shelf tells at the end, it told before, and P holds of what was told before and is told then.
-abbrev pub Supplies : Known Files → Known Files → (Files → Files → Type 0) → Type 0
-Supplies before after P = Tells before after P
+abbrev pub ShelfSupplies : Known Files → Known Files → (Files → Files → Type 0) → Type 0
+ShelfSupplies before after P = KnownThrough before after P

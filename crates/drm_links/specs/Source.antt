@@ -1,6 +1,6 @@
 -- What a source tells.
 use Rattle.std.specs.Prelude.{ℕ, ◌≡◌, ◌<◌, ◌≤◌, ◌+◌, List, [], ◌++◌, length, take}
-use Rattle.drm_links.specs.Told.{Known, Tells, last_count}
+use Rattle.drm_links.specs.Told.{Known, KnownThrough, last_count}
 use Rattle.drm_links.specs.declared.source.ReadOut.{ReadOut}
 use Rattle.drm_links.specs.declared.source.ReadOut.TheVariants.{Got, End, Failed}
 
@@ -16,10 +16,10 @@ ReadsSome End buf = Unit {0}
 ReadsSome Failed buf = Unit {0}
 
 -- The bytes read are the next ones left; `End` comes exactly where none is left; a failed call takes nothing.
-abbrev pub Takes : ReadOut → List ℕ → Input → Input → Type 0
-Takes (Got n) buf before after = before.left ≡ take n buf ++ after.left
-Takes End buf before after = (before.left ≡ []) × (after.left ≡ [])
-Takes Failed buf before after = after.left ≡ before.left
+abbrev pub SourceTakes : ReadOut → List ℕ → Input → Input → Type 0
+SourceTakes (Got n) buf before after = before.left ≡ take n buf ++ after.left
+SourceTakes End buf before after = (before.left ≡ []) × (after.left ≡ [])
+SourceTakes Failed buf before after = after.left ≡ before.left
 
 -- P holds of the bytes that were left and that are left
 abbrev pub LeftBy : (List ℕ → List ℕ → Type 0) → Input → Input → Type 0
@@ -36,4 +36,4 @@ pub record FewReads (faults faults' : ℕ) (before after : Input) : Type 0 where
 -- Where a source tells at the end, it told before, and P holds of the bytes that were left and that are left; it was called no more
 -- often than bytes were taken, but for failed calls and those at its end.
 abbrev pub Inputs : Known Input → Known Input → (List ℕ → List ℕ → Type 0) → Type 0
-Inputs before after P = Tells before after (λ x y. LeftBy P x y × FewReads before.faults after.faults x y)
+Inputs before after P = KnownThrough before after (λ x y. LeftBy P x y × FewReads before.faults after.faults x y)

@@ -17,7 +17,7 @@ abbrev pub one_more : ℕ → ℕ
 one_more count = min (count + 1) (2 ^ 64 - 1)
 
 -- A count rose by one where this happened, and else it stayed.
-pub record Counts (old new : ℕ) (Happened : Type 0) : Type 0 where
+pub record RisesWhere (old new : ℕ) (Happened : Type 0) : Type 0 where
   pub once : Happened → new ≡ one_more old
   pub same : (Happened → ⊥) → new ≡ old
 
@@ -27,7 +27,7 @@ HasFailed before after = after.faults ≡ one_more before.faults
 
 -- One call of the object failed where this happened, and else none did.
 abbrev pub HasCause : {T : Type 0} → Known T → Known T → Type 0 → Type 0
-HasCause before after Failed = Counts before.faults after.faults Failed
+HasCause before after Failed = RisesWhere before.faults after.faults Failed
 
 -- ---- over one call
 
@@ -41,23 +41,23 @@ abbrev pub CountsCall : {T : Type 0} → (T → ℕ) → Known T → Known T →
 CountsCall calls before after = CountsTold calls before.told after.told
 
 -- P holds of what is told before and after, where both are told.
-abbrev pub BothTold : {T : Type 0} → Option T → Option T → (T → T → Type 0) → Type 0
-BothTold (Some before) (Some after) P = P before after
-BothTold before after P = Unit {0}
+abbrev pub IfBoth : {T : Type 0} → Option T → Option T → (T → T → Type 0) → Type 0
+IfBoth (Some before) (Some after) P = P before after
+IfBoth before after P = Unit {0}
 
-abbrev pub WhileTold : {T : Type 0} → Known T → Known T → (T → T → Type 0) → Type 0
-WhileTold before after P = BothTold before.told after.told P
+abbrev pub IfBothKnown : {T : Type 0} → Known T → Known T → (T → T → Type 0) → Type 0
+IfBothKnown before after P = IfBoth before.told after.told P
 
 -- ---- over many calls
 
 -- Where it tells at the end, it told before, and P holds of what it told then and tells now.
-abbrev pub ToldThrough : {T : Type 0} → Option T → Option T → (T → T → Type 0) → Type 0
-ToldThrough before None P = Unit {0}
-ToldThrough None (Some after) P = ⊥
-ToldThrough (Some before) (Some after) P = P before after
+abbrev pub Throughout : {T : Type 0} → Option T → Option T → (T → T → Type 0) → Type 0
+Throughout before None P = Unit {0}
+Throughout None (Some after) P = ⊥
+Throughout (Some before) (Some after) P = P before after
 
-abbrev pub Tells : {T : Type 0} → Known T → Known T → (T → T → Type 0) → Type 0
-Tells before after P = ToldThrough before.told after.told P
+abbrev pub KnownThrough : {T : Type 0} → Known T → Known T → (T → T → Type 0) → Type 0
+KnownThrough before after P = Throughout before.told after.told P
 
 -- ---- the forms in memory
 

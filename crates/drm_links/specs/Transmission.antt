@@ -1,6 +1,6 @@
 -- What was sent over a link in several calls.
 use Rattle.std.specs.Prelude.{ℕ, ◌≡◌, ◌+◌, ◌-◌, ◌<◌, ◌≤◌, List, [], ◌∷◌, ◌++◌, length, Option, None, Some}
-use Rattle.drm_links.specs.Told.{Known, Tells}
+use Rattle.drm_links.specs.Told.{Known, KnownThrough}
 use Rattle.drm_links.specs.Link.{Traffic, KeepsAnswers}
 
 -- how many sends are left after so many that were taken
@@ -42,10 +42,10 @@ still waited [] last = waited + last
 still waited (wait ∷ waits) last = last
 
 -- The link rested for so long before each of the datagrams that went, and for so long after the last of them.
-pub record Waits (each : List ℕ) (last : ℕ) (before after : Traffic) : Type 0 where
+pub record WaitsBetween (each : List ℕ) (last : ℕ) (before after : Traffic) : Type 0 where
   pub waits : after.waits ≡ before.waits ++ since before.waiting each
   pub waiting : after.waiting ≡ still before.waiting each last
 
 -- Over many calls: where a link tells at the end, it told before, and P holds of what it told then and tells now.
-abbrev pub Transmits : Known Traffic → Known Traffic → (Traffic → Traffic → Type 0) → Type 0
-Transmits before after P = Tells before after P
+abbrev pub LinkTransmits : Known Traffic → Known Traffic → (Traffic → Traffic → Type 0) → Type 0
+LinkTransmits before after P = KnownThrough before after P

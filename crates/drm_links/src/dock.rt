@@ -1,8 +1,8 @@
 //! Where links are opened.
 
 ghost use Rattle.std.specs.Prelude.{ℕ, ◌≡◌, Option};
-ghost use Rattle.drm_links.specs.Told.{Known, HasCause, CountsCall, WhileTold};
-ghost use Rattle.drm_links.specs.Dock.{DockContents, Binds, Reaches, Closes, IsFresh, IsFailed};
+ghost use Rattle.drm_links.specs.Told.{Known, HasCause, CountsCall, IfBothKnown};
+ghost use Rattle.drm_links.specs.Dock.{DockContents, DockBinds, DockReaches, DockCloses, IsFresh, IsFailed};
 
 use crate::Link;
 use drm_lists::Items;
@@ -33,20 +33,20 @@ pub trait Dock {
     /// Opens a link that receives at this address.
     fn bind(&mut self, at: Address) -> Opened<Self::L>
         ensures fresh { IsFresh Self.L.known Self.L.idles result }
-        ensures opened { WhileTold (known self.old) (known self.new) (Binds Self.L.known at result) }
+        ensures opened { IfBothKnown (known self.old) (known self.new) (DockBinds Self.L.known at result) }
         ensures told { CountsCall (λ contents. contents.calls) (known self.old) (known self.new) }
         ensures cause { HasCause (known self.old) (known self.new) (IsFailed result) };
 
     /// Opens a link that sends to this address.
     fn reach(&mut self, at: Address) -> Opened<Self::L>
         ensures fresh { IsFresh Self.L.known Self.L.idles result }
-        ensures opened { WhileTold (known self.old) (known self.new) (Reaches Self.L.known at result) }
+        ensures opened { IfBothKnown (known self.old) (known self.new) (DockReaches Self.L.known at result) }
         ensures told { CountsCall (λ contents. contents.calls) (known self.old) (known self.new) }
         ensures cause { HasCause (known self.old) (known self.new) (IsFailed result) };
 
     /// Takes back the link that was opened at this address.
     fn close(&mut self, at: Address, link: Self::L)
-        ensures gone { WhileTold (known self.old) (known self.new) (Closes (Self.L.known link).told at) }
+        ensures gone { IfBothKnown (known self.old) (known self.new) (DockCloses (Self.L.known link).told at) }
         ensures told { CountsCall (λ contents. contents.calls) (known self.old) (known self.new) }
         ensures cause { (known self.new).faults ≡ (known self.old).faults };
 }

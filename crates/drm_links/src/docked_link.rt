@@ -1,9 +1,9 @@
 //! The links of a dock in memory.
 
 ghost use Rattle.std.specs.Prelude.{◌≡◌, [], ◌∷◌, ◌≤◌, Some, length, IfOk, IfErr};
-ghost use Rattle.drm_links.specs.Told.{Counts, HasCause, CountsCall, WhileTold};
-ghost use Rattle.drm_links.specs.Link.{Receives, Sends, Rests, KeepsAnswers, FitsBuffer};
-ghost use Rattle.drm_links.specs.MemoryLink.{Hears, Carries, IsUntouched, after_rest, link_known};
+ghost use Rattle.drm_links.specs.Told.{RisesWhere, HasCause, CountsCall, IfBothKnown};
+ghost use Rattle.drm_links.specs.Link.{LinkReceives, LinkSends, LinkRests, KeepsAnswers, FitsBuffer};
+ghost use Rattle.drm_links.specs.MemoryLink.{MemLinkReceives, MemLinkSends, IsUntouched, after_rest, link_known};
 
 use crate::{Address, Came, Link, MemLink, Sent};
 use std::alloc::Global;
@@ -77,20 +77,20 @@ impl Link for DockedLink {
 
     fn recv(&mut self, buf: &mut [u8]) -> Came
         requires { 65536 ≤ length buf.old }
-        ensures exact { Hears result buf.old buf.new self.old self.new }
+        ensures exact { MemLinkReceives result buf.old buf.new self.old self.new }
         ensures front { FitsBuffer result buf.new }
-        ensures answer { WhileTold (link_known self.old) (link_known self.new) (Receives result buf.new) }
+        ensures answer { IfBothKnown (link_known self.old) (link_known self.new) (LinkReceives result buf.new) }
         ensures told { CountsCall (λ traffic. traffic.calls) (link_known self.old) (link_known self.new) }
         ensures cause { HasCause (link_known self.old) (link_known self.new) (result ≡ Came.Failed) }
-        ensures idle { Counts self.old.idles self.new.idles (result ≡ Came.Idle) }
+        ensures idle { RisesWhere self.old.idles self.new.idles (result ≡ Came.Idle) }
     {
         self.link.recv(buf)
     }
 
     fn send(&mut self, bytes: &[u8]) -> Sent
-        ensures exact { Carries result bytes.now self.old self.new }
-        ensures gone { WhileTold (link_known self.old) (link_known self.new) (Sends result bytes.now) }
-        ensures kept { WhileTold (link_known self.old) (link_known self.new) KeepsAnswers }
+        ensures exact { MemLinkSends result bytes.now self.old self.new }
+        ensures gone { IfBothKnown (link_known self.old) (link_known self.new) (LinkSends result bytes.now) }
+        ensures kept { IfBothKnown (link_known self.old) (link_known self.new) KeepsAnswers }
         ensures told { CountsCall (λ traffic. traffic.calls) (link_known self.old) (link_known self.new) }
         ensures cause { HasCause (link_known self.old) (link_known self.new) (result ≡ Sent.Failed) }
         ensures idle { self.new.idles ≡ self.old.idles }
@@ -100,7 +100,7 @@ impl Link for DockedLink {
 
     fn rest(&mut self, millis: u32)
         ensures exact { self.new ≡ after_rest millis self.old }
-        ensures rested { WhileTold (link_known self.old) (link_known self.new) (Rests millis) }
+        ensures rested { IfBothKnown (link_known self.old) (link_known self.new) (LinkRests millis) }
         ensures told { CountsCall (λ traffic. traffic.calls) (link_known self.old) (link_known self.new) }
         ensures cause { self.new.faults ≡ self.old.faults }
         ensures idle { self.new.idles ≡ self.old.idles }

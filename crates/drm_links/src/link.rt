@@ -1,8 +1,8 @@
 //! A link that datagrams come from and go to.
 
 ghost use Rattle.std.specs.Prelude.{ℕ, ◌≡◌, ◌≤◌, Option, length};
-ghost use Rattle.drm_links.specs.Told.{Known, Counts, HasCause, CountsCall, WhileTold};
-ghost use Rattle.drm_links.specs.Link.{Traffic, Receives, Sends, Rests, KeepsAnswers, FitsBuffer};
+ghost use Rattle.drm_links.specs.Told.{Known, RisesWhere, HasCause, CountsCall, IfBothKnown};
+ghost use Rattle.drm_links.specs.Link.{Traffic, LinkReceives, LinkSends, LinkRests, KeepsAnswers, FitsBuffer};
 
 /// The most bytes of a datagram.
 pub const LONGEST_DATAGRAM: usize = 65_536;
@@ -37,22 +37,22 @@ pub trait Link: Drop {
     fn recv(&mut self, buf: &mut [u8]) -> Came
         requires { 65536 ≤ length buf.old }
         ensures front { FitsBuffer result buf.new }
-        ensures answer { WhileTold (known self.old) (known self.new) (Receives result buf.new) }
+        ensures answer { IfBothKnown (known self.old) (known self.new) (LinkReceives result buf.new) }
         ensures told { CountsCall (λ traffic. traffic.calls) (known self.old) (known self.new) }
         ensures cause { HasCause (known self.old) (known self.new) (result ≡ Came.Failed) }
-        ensures idle { Counts (idles self.old) (idles self.new) (result ≡ Came.Idle) };
+        ensures idle { RisesWhere (idles self.old) (idles self.new) (result ≡ Came.Idle) };
 
     /// Sends one datagram.
     fn send(&mut self, bytes: &[u8]) -> Sent
-        ensures gone { WhileTold (known self.old) (known self.new) (Sends result bytes.now) }
-        ensures kept { WhileTold (known self.old) (known self.new) KeepsAnswers }
+        ensures gone { IfBothKnown (known self.old) (known self.new) (LinkSends result bytes.now) }
+        ensures kept { IfBothKnown (known self.old) (known self.new) KeepsAnswers }
         ensures told { CountsCall (λ traffic. traffic.calls) (known self.old) (known self.new) }
         ensures cause { HasCause (known self.old) (known self.new) (result ≡ Sent.Failed) }
         ensures idle { idles self.new ≡ idles self.old };
 
     /// Waits for about this many milliseconds. What comes in that time may be lost.
     fn rest(&mut self, millis: u32)
-        ensures rested { WhileTold (known self.old) (known self.new) (Rests millis) }
+        ensures rested { IfBothKnown (known self.old) (known self.new) (LinkRests millis) }
         ensures told { CountsCall (λ traffic. traffic.calls) (known self.old) (known self.new) }
         ensures cause { (known self.new).faults ≡ (known self.old).faults }
         ensures idle { idles self.new ≡ idles self.old };

@@ -3,10 +3,10 @@
 ghost use Rattle.std.specs.Prelude.{◌≡◌, ◌+◌, ◌^◌, ◌<◌, ◌≤◌, [], ◌∷◌, Some, IsNone, is_some, length, IfOk, IfErr, OnOk, OnErr};
 ghost use Rattle.std.specs.Option.{option_map, option_copied};
 ghost use Rattle.std.specs.FinMap as map;
-ghost use Rattle.drm_links.specs.Told.{HasCause, CountsCall, WhileTold, one_more};
-ghost use Rattle.drm_links.specs.Dock.{Binds, Reaches, Closes, IsFresh, IsFailed, address_key};
+ghost use Rattle.drm_links.specs.Told.{HasCause, CountsCall, IfBothKnown, one_more};
+ghost use Rattle.drm_links.specs.Dock.{DockBinds, DockReaches, DockCloses, IsFresh, IsFailed, address_key};
 ghost use Rattle.drm_links.specs.MemoryLink.{IsUntouched};
-ghost use Rattle.drm_links.specs.MemoryDock.{Leaves, reached, after_close, link_at, closed_at, dock_known, start_of, with_start};
+ghost use Rattle.drm_links.specs.MemoryDock.{LeavesDock, reached, after_close, link_at, closed_at, dock_known, start_of, with_start};
 
 use crate::docked_link::{Closed, DockedLink, Standing};
 use crate::failing::is_listed;
@@ -179,7 +179,7 @@ impl MemDock {
 
     // Gives the link that stands at this address.
     fn take_out(&mut self, at: Address) -> Opened<DockedLink>
-        ensures exact { Leaves result at self.old self.new }
+        ensures exact { LeavesDock result at self.old self.new }
         ensures fresh { IsFresh ⟦<DockedLink as Link>⟧.known ⟦<DockedLink as Link>⟧.idles result }
         ensures cause { HasCause (dock_known self.old) (dock_known self.new) (IsFailed result) }
     {
@@ -204,10 +204,10 @@ impl Dock for MemDock {
     ghost known = { dock_known };
 
     fn bind(&mut self, at: Address) -> Opened<DockedLink>
-        ensures exact { Leaves result at self.old self.new }
+        ensures exact { LeavesDock result at self.old self.new }
         ensures fresh { IsFresh ⟦<DockedLink as Link>⟧.known ⟦<DockedLink as Link>⟧.idles result }
-        ensures opened { WhileTold (dock_known self.old) (dock_known self.new)
-            (Binds ⟦<DockedLink as Link>⟧.known at result) }
+        ensures opened { IfBothKnown (dock_known self.old) (dock_known self.new)
+            (DockBinds ⟦<DockedLink as Link>⟧.known at result) }
         ensures told { CountsCall (λ contents. contents.calls) (dock_known self.old) (dock_known self.new) }
         ensures cause { HasCause (dock_known self.old) (dock_known self.new) (IsFailed result) }
     {
@@ -216,10 +216,10 @@ impl Dock for MemDock {
     }
 
     fn reach(&mut self, at: Address) -> Opened<DockedLink>
-        ensures exact { Leaves result at (reached self.old) self.new }
+        ensures exact { LeavesDock result at (reached self.old) self.new }
         ensures fresh { IsFresh ⟦<DockedLink as Link>⟧.known ⟦<DockedLink as Link>⟧.idles result }
-        ensures opened { WhileTold (dock_known self.old) (dock_known self.new)
-            (Reaches ⟦<DockedLink as Link>⟧.known at result) }
+        ensures opened { IfBothKnown (dock_known self.old) (dock_known self.new)
+            (DockReaches ⟦<DockedLink as Link>⟧.known at result) }
         ensures told { CountsCall (λ contents. contents.calls) (dock_known self.old) (dock_known self.new) }
         ensures cause { HasCause (dock_known self.old) (dock_known self.new) (IsFailed result) }
     {
@@ -231,8 +231,8 @@ impl Dock for MemDock {
 
     fn close(&mut self, at: Address, link: DockedLink)
         ensures exact { length self.old.closed + 1 < 2 ^ 63 → self.new ≡ after_close at link self.old }
-        ensures gone { WhileTold (dock_known self.old) (dock_known self.new)
-            (Closes (⟦<DockedLink as Link>⟧.known link).told at) }
+        ensures gone { IfBothKnown (dock_known self.old) (dock_known self.new)
+            (DockCloses (⟦<DockedLink as Link>⟧.known link).told at) }
         ensures told { CountsCall (λ contents. contents.calls) (dock_known self.old) (dock_known self.new) }
         ensures cause { self.new.faults ≡ self.old.faults }
     {

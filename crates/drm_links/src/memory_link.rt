@@ -1,9 +1,9 @@
 //! A link in memory.
 
 ghost use Rattle.std.specs.Prelude.{◌≡◌, ◌<◌, ◌≤◌, ◌++◌, [], ◌∷◌, Some, length, slice_get, slice_index_or, vec_len, IfOk, OnOk, OnErr, MatchOption};
-ghost use Rattle.drm_links.specs.Told.{Counts, HasCause, CountsCall, WhileTold};
-ghost use Rattle.drm_links.specs.Link.{Receives, Sends, Rests, KeepsAnswers, FitsBuffer};
-ghost use Rattle.drm_links.specs.MemoryLink.{LinkState, Hears, Carries, Brings, IsCounted, longest_brought, answers_ahead, taken_from, after_rest, link_known};
+ghost use Rattle.drm_links.specs.Told.{RisesWhere, HasCause, CountsCall, IfBothKnown};
+ghost use Rattle.drm_links.specs.Link.{LinkReceives, LinkSends, LinkRests, KeepsAnswers, FitsBuffer};
+ghost use Rattle.drm_links.specs.MemoryLink.{LinkState, MemLinkReceives, MemLinkSends, BringsDatagram, IsCounted, longest_brought, answers_ahead, taken_from, after_rest, link_known};
 
 use crate::failing::is_listed;
 use crate::front::fill_front;
@@ -135,7 +135,7 @@ impl MemLink {
         requires { length datagram.now ≤ longest_brought }
         ensures brought { OnOk result (self.new
             ≡ record self.old { coming = self.old.coming ++ datagram.now ∷ [] }) }
-        ensures tells { OnOk result (WhileTold (link_known self.old) (link_known self.new) (Brings datagram.now)) }
+        ensures tells { OnOk result (IfBothKnown (link_known self.old) (link_known self.new) (BringsDatagram datagram.now)) }
         ensures unchanged { OnErr result (self.new ≡ self.old) }
     {
         let bytes = Octets::from_slice(alloc, datagram)?;
@@ -174,10 +174,10 @@ impl MemLink {
     // Takes one recv from what is ahead.
     fn hear(&mut self, buf: &mut [u8]) -> Came
         requires { 65536 ≤ length buf.old }
-        ensures exact { Hears result buf.old buf.new self.old self.new }
+        ensures exact { MemLinkReceives result buf.old buf.new self.old self.new }
         ensures front { FitsBuffer result buf.new }
         ensures cause { HasCause (link_known self.old) (link_known self.new) (result ≡ Came.Failed) }
-        ensures idle { Counts self.old.idles self.new.idles (result ≡ Came.Idle) }
+        ensures idle { RisesWhere self.old.idles self.new.idles (result ≡ Came.Idle) }
     {
         let call = self.recvs;
         self.recvs = call.saturating_add(1);
@@ -212,7 +212,7 @@ impl MemLink {
 
     // Takes one send, where there is room.
     fn carry(&mut self, bytes: &[u8]) -> Sent
-        ensures exact { Carries result bytes.now self.old self.new }
+        ensures exact { MemLinkSends result bytes.now self.old self.new }
         ensures cause { HasCause (link_known self.old) (link_known self.new) (result ≡ Sent.Failed) }
     {
         let call = self.sends;
@@ -258,21 +258,21 @@ impl Link for MemLink {
 
     fn recv(&mut self, buf: &mut [u8]) -> Came
         requires { 65536 ≤ length buf.old }
-        ensures exact { Hears result buf.old buf.new self.old self.new }
+        ensures exact { MemLinkReceives result buf.old buf.new self.old self.new }
         ensures front { FitsBuffer result buf.new }
-        ensures answer { WhileTold (link_known self.old) (link_known self.new) (Receives result buf.new) }
+        ensures answer { IfBothKnown (link_known self.old) (link_known self.new) (LinkReceives result buf.new) }
         ensures told { CountsCall (λ traffic. traffic.calls) (link_known self.old) (link_known self.new) }
         ensures cause { HasCause (link_known self.old) (link_known self.new) (result ≡ Came.Failed) }
-        ensures idle { Counts self.old.idles self.new.idles (result ≡ Came.Idle) }
+        ensures idle { RisesWhere self.old.idles self.new.idles (result ≡ Came.Idle) }
     {
         self.counted();
         self.hear(buf)
     }
 
     fn send(&mut self, bytes: &[u8]) -> Sent
-        ensures exact { Carries result bytes.now self.old self.new }
-        ensures gone { WhileTold (link_known self.old) (link_known self.new) (Sends result bytes.now) }
-        ensures kept { WhileTold (link_known self.old) (link_known self.new) KeepsAnswers }
+        ensures exact { MemLinkSends result bytes.now self.old self.new }
+        ensures gone { IfBothKnown (link_known self.old) (link_known self.new) (LinkSends result bytes.now) }
+        ensures kept { IfBothKnown (link_known self.old) (link_known self.new) KeepsAnswers }
         ensures told { CountsCall (λ traffic. traffic.calls) (link_known self.old) (link_known self.new) }
         ensures cause { HasCause (link_known self.old) (link_known self.new) (result ≡ Sent.Failed) }
         ensures idle { self.new.idles ≡ self.old.idles }
@@ -283,7 +283,7 @@ impl Link for MemLink {
 
     fn rest(&mut self, millis: u32)
         ensures exact { self.new ≡ after_rest millis self.old }
-        ensures rested { WhileTold (link_known self.old) (link_known self.new) (Rests millis) }
+        ensures rested { IfBothKnown (link_known self.old) (link_known self.new) (LinkRests millis) }
         ensures told { CountsCall (λ traffic. traffic.calls) (link_known self.old) (link_known self.new) }
         ensures cause { self.new.faults ≡ self.old.faults }
         ensures idle { self.new.idles ≡ self.old.idles }

@@ -3,8 +3,8 @@
 ghost use Rattle.std.specs.Prelude.{◌≡◌, ◌++◌, ◌∷◌, [], Some, IfOk, OnOk, OnErr};
 ghost use Rattle.std.specs.Option.{option_map, option_copied};
 ghost use Rattle.std.specs.FinMap as map;
-ghost use Rattle.drm_links.specs.Told.{HasCause, CountsCall, WhileTold};
-ghost use Rattle.drm_links.specs.Shelf.{Gives, Loads, KeepsFiles, IsWithin};
+ghost use Rattle.drm_links.specs.Told.{HasCause, CountsCall, IfBothKnown};
+ghost use Rattle.drm_links.specs.Shelf.{LoadGives, ShelfLoads, KeepsFiles, IsWithin};
 ghost use Rattle.drm_links.specs.MemoryShelf.{contents_of, shelf_known, with_file, shelf_after};
 
 use crate::failing::is_listed;
@@ -95,7 +95,7 @@ impl MemShelf {
 
     // What the next load gives.
     fn next_load(&self, alloc: Global, name: &str, limit: usize) -> Loaded
-        ensures { Loads result name.now limit (contents_of self.now) }
+        ensures { ShelfLoads result name.now limit (contents_of self.now) }
     {
         if is_listed(&self.failing, self.loads) {
             Loaded::Failed
@@ -109,12 +109,12 @@ impl Shelf for MemShelf {
     ghost known = { shelf_known };
 
     fn load(&mut self, alloc: Global, name: &str, limit: usize) -> Loaded
-        ensures loads { Loads result name.now limit (contents_of self.old) }
+        ensures loads { ShelfLoads result name.now limit (contents_of self.old) }
         ensures exact { self.new ≡ shelf_after result name.now self.old }
         ensures within { IsWithin result limit }
-        ensures file { WhileTold (shelf_known self.old) (shelf_known self.new)
-            (λ before _. Loads result name.now limit before) }
-        ensures kept { WhileTold (shelf_known self.old) (shelf_known self.new) (KeepsFiles result name.now) }
+        ensures file { IfBothKnown (shelf_known self.old) (shelf_known self.new)
+            (λ before _. ShelfLoads result name.now limit before) }
+        ensures kept { IfBothKnown (shelf_known self.old) (shelf_known self.new) (KeepsFiles result name.now) }
         ensures told { CountsCall (λ files. files.loads) (shelf_known self.old) (shelf_known self.new) }
         ensures cause { HasCause (shelf_known self.old) (shelf_known self.new) (result ≡ Loaded.Failed) }
     {
@@ -132,7 +132,7 @@ impl Shelf for MemShelf {
 
 // A copy of the file, if there is one and it has at most `limit` bytes.
 fn copy_within(alloc: Global, file: Option<&Octets>, limit: usize) -> Loaded
-    ensures { Gives result limit (option_copied file.entry) }
+    ensures { LoadGives result limit (option_copied file.entry) }
 {
     match file {
         None => Loaded::Failed,

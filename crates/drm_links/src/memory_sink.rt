@@ -1,9 +1,9 @@
 //! A sink in memory.
 
 ghost use Rattle.std.specs.Prelude.{◌≡◌, ◌<◌, [], Some, length, IfOk};
-ghost use Rattle.drm_links.specs.Told.{HasCause, CountsCall, WhileTold};
-ghost use Rattle.drm_links.specs.Sink.{WritesSome, Appends};
-ghost use Rattle.drm_links.specs.MemorySink.{sink_known, Writes};
+ghost use Rattle.drm_links.specs.Told.{HasCause, CountsCall, IfBothKnown};
+ghost use Rattle.drm_links.specs.Sink.{WritesSome, SinkAppends};
+ghost use Rattle.drm_links.specs.MemorySink.{sink_known, MemSinkWrites};
 
 use crate::failing::is_listed;
 use crate::{Sink, WriteOut};
@@ -82,9 +82,9 @@ impl Sink for MemSink {
 
     fn write(&mut self, bytes: &[u8]) -> WriteOut
         requires { 0 < length bytes.now }
-        ensures exact { Writes result bytes.now self.old self.new }
-        ensures some { WritesSome result bytes.now }
-        ensures appended { WhileTold (sink_known self.old) (sink_known self.new) (Appends result bytes.now) }
+        ensures exact { MemSinkWrites result bytes.now self.old self.new }
+        ensures moves_bytes { WritesSome result bytes.now }
+        ensures appended { IfBothKnown (sink_known self.old) (sink_known self.new) (SinkAppends result bytes.now) }
         ensures told { CountsCall (λ output. output.calls) (sink_known self.old) (sink_known self.new) }
         ensures cause { HasCause (sink_known self.old) (sink_known self.new) (result ≡ WriteOut.Failed) }
     {

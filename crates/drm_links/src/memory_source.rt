@@ -1,9 +1,9 @@
 //! A source in memory.
 
 ghost use Rattle.std.specs.Prelude.{◌≡◌, ◌<◌, Some, length, IfOk};
-ghost use Rattle.drm_links.specs.Told.{HasCause, CountsCall, WhileTold};
-ghost use Rattle.drm_links.specs.Source.{ReadsSome, Takes};
-ghost use Rattle.drm_links.specs.MemorySource.{source_known, Reads};
+ghost use Rattle.drm_links.specs.Told.{HasCause, CountsCall, IfBothKnown};
+ghost use Rattle.drm_links.specs.Source.{ReadsSome, SourceTakes};
+ghost use Rattle.drm_links.specs.MemorySource.{source_known, MemSourceReads};
 
 use crate::failing::is_listed;
 use crate::front::fill_front;
@@ -76,9 +76,9 @@ impl Source for MemSource {
 
     fn read(&mut self, buf: &mut [u8]) -> ReadOut
         requires { 0 < length buf.old }
-        ensures exact { Reads result buf.old buf.new self.old self.new }
-        ensures some { ReadsSome result buf.old }
-        ensures bytes { WhileTold (source_known self.old) (source_known self.new) (Takes result buf.new) }
+        ensures exact { MemSourceReads result buf.old buf.new self.old self.new }
+        ensures moves_bytes { ReadsSome result buf.old }
+        ensures bytes { IfBothKnown (source_known self.old) (source_known self.new) (SourceTakes result buf.new) }
         ensures told { CountsCall (λ input. input.calls) (source_known self.old) (source_known self.new) }
         ensures cause { HasCause (source_known self.old) (source_known self.new) (result ≡ ReadOut.Failed) }
     {

@@ -1,8 +1,8 @@
 //! Where bytes are written to.
 
 ghost use Rattle.std.specs.Prelude.{ℕ, ◌≡◌, ◌<◌, Option, length};
-ghost use Rattle.drm_links.specs.Told.{Known, HasCause, CountsCall, WhileTold};
-ghost use Rattle.drm_links.specs.Sink.{Output, WritesSome, Appends};
+ghost use Rattle.drm_links.specs.Told.{Known, HasCause, CountsCall, IfBothKnown};
+ghost use Rattle.drm_links.specs.Sink.{Output, WritesSome, SinkAppends};
 
 #[derive(Clone, Copy, Debug, PartialEq, Eq)]
 pub enum WriteOut {
@@ -23,8 +23,8 @@ pub trait Sink {
     /// Writes some bytes from the front.
     fn write(&mut self, bytes: &[u8]) -> WriteOut
         requires { 0 < length bytes.now }
-        ensures some { WritesSome result bytes.now }
-        ensures appended { WhileTold (known self.old) (known self.new) (Appends result bytes.now) }
+        ensures moves_bytes { WritesSome result bytes.now }
+        ensures appended { IfBothKnown (known self.old) (known self.new) (SinkAppends result bytes.now) }
         ensures told { CountsCall (λ output. output.calls) (known self.old) (known self.new) }
         ensures cause { HasCause (known self.old) (known self.new) (result ≡ WriteOut.Failed) };
 }

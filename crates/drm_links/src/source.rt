@@ -1,8 +1,8 @@
 //! Where bytes are read from.
 
 ghost use Rattle.std.specs.Prelude.{ℕ, ◌≡◌, ◌<◌, Option, length};
-ghost use Rattle.drm_links.specs.Told.{Known, HasCause, CountsCall, WhileTold};
-ghost use Rattle.drm_links.specs.Source.{Input, ReadsSome, Takes};
+ghost use Rattle.drm_links.specs.Told.{Known, HasCause, CountsCall, IfBothKnown};
+ghost use Rattle.drm_links.specs.Source.{Input, ReadsSome, SourceTakes};
 
 #[derive(Clone, Copy, Debug, PartialEq, Eq)]
 pub enum ReadOut {
@@ -21,8 +21,8 @@ pub trait Source {
     /// Reads into the front of the buffer.
     fn read(&mut self, buf: &mut [u8]) -> ReadOut
         requires { 0 < length buf.old }
-        ensures some { ReadsSome result buf.old }
-        ensures bytes { WhileTold (known self.old) (known self.new) (Takes result buf.new) }
+        ensures moves_bytes { ReadsSome result buf.old }
+        ensures bytes { IfBothKnown (known self.old) (known self.new) (SourceTakes result buf.new) }
         ensures told { CountsCall (λ input. input.calls) (known self.old) (known self.new) }
         ensures cause { HasCause (known self.old) (known self.new) (result ≡ ReadOut.Failed) };
 }

@@ -38,7 +38,7 @@ pub fn read_sdci(value: &[u8], bits: u32) -> Result<MuxDesc, MuxFault>
 
 // How many streams so many bits describe.
 fn described_streams(bits: u32) -> Option<u8>
-    ensures some { IfSome result (λ n. (n ≤ 4) × (bits ≡ 8 + 24 * n)) }
+    ensures at_least_one { IfSome result (λ n. (n ≤ 4) × (bits ≡ 8 + 24 * n)) }
     ensures none { IfNone result (¬ IsSdciLength bits) }
 {
     match bits {

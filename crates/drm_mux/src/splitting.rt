@@ -74,7 +74,7 @@ fn side_by_side(parts: &[Part; 4]) -> Spans
 
 fn stream_len(part: &Part) -> usize
     ensures length { result ≡ part_length part.now }
-    ensures small { result < 2 ^ 17 }
+    ensures in_range { result < 2 ^ 17 }
 {
     usize::from(part.a) + usize::from(part.b)
 }

@@ -12,7 +12,7 @@ use Rattle.drm_paths.specs.declared.run.PathOptions.{PathOptions}
 use Rattle.drm_paths.specs.declared.run.PathEnded.{PathEnded}
 use Rattle.drm_paths.specs.declared.run.PathEnded.TheVariants as why
 use Rattle.drm_paths.specs.State.{bytes_in, most_bytes}
-use Rattle.drm_paths.specs.Reading.{most_answers, AreReasonable, Holds, IsOpen, GoesOn, ReadsPath}
+use Rattle.drm_paths.specs.Reading.{most_answers, AreReasonable, PathEndHolds, IsOpen, GoesOn, ReadsPath}
 
 goes_none : (options : PathOptions) → GoesOn options []
 goes_none options = record { sound = tt; shorter = λ k l. absurd (omega arith) }
@@ -78,7 +78,7 @@ starts options hears ds heard reasonable none =
     }
 
 module _ (options : PathOptions) (hears hears' : List Answer → Type 0) (ds : List (List ℕ)) (taken idled : ℕ) (r : Reaches options hears ds taken idled) where
-  by_ended : (w : PathEnded) → Holds options r.answers w → ⊥
+  by_ended : (w : PathEnded) → PathEndHolds options r.answers w → ⊥
   by_ended why.Idle h =
       let i : idles r.answers ≡ idled = r.idles_is in
       let l : idled < options.idle = r.fewer in
@@ -152,7 +152,7 @@ module _ (options : PathOptions) (hears hears' : List Answer → Type 0) (ds : L
       ends = (next_on, by full, next_are es same);
     }
       where
-        by : (taken + 1 ≡ options.limit) ⊎ (most_bytes < bytes_in es + 65536) → Holds options (r.answers ++ Datagram bytes ∷ []) why.Limit
+        by : (taken + 1 ≡ options.limit) ⊎ (most_bytes < bytes_in es + 65536) → PathEndHolds options (r.answers ++ Datagram bytes ∷ []) why.Limit
         by (inl e) =
             let n : length es ≡ taken + 1 = next_many es same in
             let m : length es ≡ length (datagrams (r.answers ++ Datagram bytes ∷ [])) = ap length (next_are es same) in
@@ -199,7 +199,7 @@ module _ (options : PathOptions) (hears hears' : List Answer → Type 0) (ds : L
         let i : idles r.answers ≡ idled = r.idles_is in
         omega (arith, e, i)
 
-    not_full : Holds options (r.answers ++ Idle ∷ []) why.Limit → ⊥
+    not_full : PathEndHolds options (r.answers ++ Idle ∷ []) why.Limit → ⊥
     not_full (inl e) = by_ended why.Limit (inl (ap length (sym (came_idle r.answers)) ∙ e))
     not_full (inr l) = by_ended why.Limit (inr (let b : bytes_in (datagrams (r.answers ++ Idle ∷ [])) ≡ bytes_in (datagrams r.answers) = ap bytes_in (came_idle r.answers) in omega (arith, b, l)))
 

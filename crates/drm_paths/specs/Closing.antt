@@ -20,11 +20,11 @@ pub record IsDifference (xs ys : List (List ℕ)) (at : ℕ) (there : Option (Li
   pub differs : slice_get ys at ≢ there
 
 -- the entries have of the path what it took, each once and in its order
-abbrev pub Agrees : List (ℕ × List ℕ) → PathState → Type 0
-Agrees entries p = of_path p.number entries ≡ p.taken
+abbrev pub EntriesAgree : List (ℕ × List ℕ) → PathState → Type 0
+EntriesAgree entries p = of_path p.number entries ≡ p.taken
 
 abbrev pub AllAgree : List (ℕ × List ℕ) → List PathState → Type 0
-AllAgree entries paths = (k : ℕ) (none : PathState) → k < length paths → Agrees entries (slice_index_or paths k none)
+AllAgree entries paths = (k : ℕ) (none : PathState) → k < length paths → EntriesAgree entries (slice_index_or paths k none)
 
 -- it says where they differ first, and what stands there
 pub record IsDifferenceOf (entries : List (ℕ × List ℕ)) (p : PathState) (d : Difference) : Type 0 where
@@ -33,11 +33,11 @@ pub record IsDifferenceOf (entries : List (ℕ × List ℕ)) (p : PathState) (d 
   pub kept : slice_get p.taken d.at ≡ d.kept
 
 -- it is of the first path that has one
-pub record Differs (entries : List (ℕ × List ℕ)) (paths : List PathState) (d : Difference) : Type 0 where
+pub record EntriesDiffer (entries : List (ℕ × List ℕ)) (paths : List PathState) (d : Difference) : Type 0 where
   pub k : ℕ
   pub within : k < length paths
   pub is : (none : PathState) → IsDifferenceOf entries (slice_index_or paths k none) d
-  pub before : (j : ℕ) (none : PathState) → j < k → Agrees entries (slice_index_or paths j none)
+  pub before : (j : ℕ) (none : PathState) → j < k → EntriesAgree entries (slice_index_or paths j none)
 
 -- Each entry is of one of these paths, and there are as many as these took datagrams: none was dropped, invented or doubled.
 pub record AreCounted (entries : List (ℕ × List ℕ)) (paths : List PathState) : Type 0 where
@@ -46,10 +46,10 @@ pub record AreCounted (entries : List (ℕ × List ℕ)) (paths : List PathState
 
 -- What comes of a book with this journal that is closed. Unless its report has stopped, its entries are those of its paths, and
 -- the report is that of all of them; or they differ, and this is where.
-abbrev pub Closes : Settings → JournalState → List PathState → Closed → Type 0
-Closes by journal paths (Whole ending) =
+abbrev pub BookCloses : Settings → JournalState → List PathState → Closed → Type 0
+BookCloses by journal paths (Whole ending) =
     (journal.stopped ≡ false) × AreCounted journal.entries paths × AllAgree journal.entries paths
     × IsReportOf by (datagrams journal.entries) ending.text ending.clean
-Closes by journal paths (Differ difference) =
-    (journal.stopped ≡ false) × AreCounted journal.entries paths × Differs journal.entries paths difference
-Closes by journal paths NoMemory = Unit {0}
+BookCloses by journal paths (Differ difference) =
+    (journal.stopped ≡ false) × AreCounted journal.entries paths × EntriesDiffer journal.entries paths difference
+BookCloses by journal paths NoMemory = Unit {0}

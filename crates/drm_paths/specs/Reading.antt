@@ -15,14 +15,14 @@ pub record AreReasonable (options : PathOptions) : Type 0 where
   pub few : options.limit ≤ 1000000
 
 -- The last answers were idle, as many as are told; as many datagrams came as are told, or there may be no room for the next.
-abbrev pub Holds : PathOptions → List Answer → PathEnded → Type 0
-Holds options answers Idle = options.idle ≤ idles answers
-Holds options answers Limit = (length (datagrams answers) ≡ options.limit) ⊎ (most_bytes < bytes_in (datagrams answers) + 65536)
-Holds options answers LinkFailed = ⊥
-Holds options answers NoMemory = ⊥
+abbrev pub PathEndHolds : PathOptions → List Answer → PathEnded → Type 0
+PathEndHolds options answers Idle = options.idle ≤ idles answers
+PathEndHolds options answers Limit = (length (datagrams answers) ≡ options.limit) ⊎ (most_bytes < bytes_in (datagrams answers) + 65536)
+PathEndHolds options answers LinkFailed = ⊥
+PathEndHolds options answers NoMemory = ⊥
 
 abbrev pub IsOpen : PathOptions → List Answer → Type 0
-IsOpen options answers = (why : PathEnded) → Holds options answers why → ⊥
+IsOpen options answers = (why : PathEnded) → PathEndHolds options answers why → ⊥
 
 -- Nothing failed, and after nothing shorter than these answers a path ends.
 pub record GoesOn (options : PathOptions) (answers : List Answer) : Type 0 where
@@ -31,13 +31,13 @@ pub record GoesOn (options : PathOptions) (answers : List Answer) : Type 0 where
 
 -- After these answers, and after nothing shorter, a path ends so: it took all datagrams among them, but for want of memory the
 -- last one.
-abbrev pub Ends : PathOptions → List Answer → List (List ℕ) → PathEnded → Type 0
-Ends options answers taken Idle =
-    GoesOn options answers × Holds options answers Idle × (Holds options answers Limit → ⊥) × (taken ≡ datagrams answers)
-Ends options answers taken Limit = GoesOn options answers × Holds options answers Limit × (taken ≡ datagrams answers)
-Ends options answers taken LinkFailed =
+abbrev pub PathEnds : PathOptions → List Answer → List (List ℕ) → PathEnded → Type 0
+PathEnds options answers taken Idle =
+    GoesOn options answers × PathEndHolds options answers Idle × (PathEndHolds options answers Limit → ⊥) × (taken ≡ datagrams answers)
+PathEnds options answers taken Limit = GoesOn options answers × PathEndHolds options answers Limit × (taken ≡ datagrams answers)
+PathEnds options answers taken LinkFailed =
     (before : List Answer) × (answers ≡ before ++ Failed ∷ []) × GoesOn options before × IsOpen options before × (taken ≡ datagrams before)
-Ends options answers taken NoMemory =
+PathEnds options answers taken NoMemory =
     (before : List Answer) × (last : List ℕ) × (answers ≡ before ++ Datagram last ∷ []) × GoesOn options before × IsOpen options before
     × (taken ≡ datagrams before)
 
@@ -50,4 +50,4 @@ pub record ReadsPath (options : PathOptions) (hears : List Answer → Type 0) (t
   pub answers : List Answer
   pub heard : hears answers
   pub few : length answers ≤ most_answers options
-  pub ends : Ends options answers taken why
+  pub ends : PathEnds options answers taken why

@@ -2,7 +2,7 @@
 use Rattle.std.specs.Prelude.{ℕ, ◌≡◌, ◌+◌, ◌<◌, All, List, [], ◌∷◌, ◌++◌, length, Option}
 use Rattle.dcp_collect.specs.declared.taken.Taken.{Taken}
 use Rattle.report_journal.specs.declared.settings.Settings.{Settings}
-use Rattle.report_journal.specs.Journal.{JournalState, Enters}
+use Rattle.report_journal.specs.Journal.{JournalState, JournalEnters}
 
 -- the most bytes that a path takes
 abbrev pub most_bytes : ℕ
@@ -49,6 +49,6 @@ settings_of window reach first frames = record { window = window; reach = reach;
 -- The datagram was taken with this answer: it stands last in the journal under the path's number, and last among those of the
 -- path; the ledger's total and the path's share are one more.
 pub record IsEvent (datagram : List ℕ) (answer : Taken) (b b' : BookState) (p p' : PathState) : Type 0 where
-  pub journal : Enters b.journal (p.number, datagram) answer b'.journal
+  pub journal : JournalEnters b.journal (p.number, datagram) answer b'.journal
   pub total : b'.total ≡ b.total + 1
   pub path : p' ≡ with_datagram p datagram

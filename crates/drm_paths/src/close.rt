@@ -3,7 +3,7 @@
 ghost use Rattle.std.specs.Prelude.{◌≡◌, ◌<◌, ◌↔◌, IsTrue, Some, length, vec_len, map, slice_get, IfOk, IfSome, IfNone, sum_by, option_map};
 ghost use Rattle.report_journal.specs.Journal.{JournalState, entry_of};
 ghost use Rattle.drm_paths.specs.State.{settings_of};
-ghost use Rattle.drm_paths.specs.Closing.{of_path, IsDifference, Agrees, AllAgree, IsDifferenceOf, Differs, Closes};
+ghost use Rattle.drm_paths.specs.Closing.{of_path, IsDifference, EntriesAgree, AllAgree, IsDifferenceOf, EntriesDiffer, BookCloses};
 
 use crate::shared::{Paths, Shared};
 use crate::{Book, Path, Road};
@@ -89,7 +89,7 @@ fn compare<G: Road>(
     paths: &[Path<G>],
 ) -> Result<Option<Difference>, NoMemory>
     ensures agree { IfOk result (λ found. IfNone found (AllAgree (map entry_of entries.now) paths.now)) }
-    ensures differ { IfOk result (λ found. IfSome found (Differs (map entry_of entries.now) paths.now)) }
+    ensures differ { IfOk result (λ found. IfSome found (EntriesDiffer (map entry_of entries.now) paths.now)) }
 {
     for path in paths {
         if let Some(difference) = path.difference(alloc, entries)? {
@@ -102,7 +102,7 @@ fn compare<G: Road>(
 impl<G: Road> Path<G> {
     // The first place at which what the entries have of it and what it took differ.
     fn difference(&self, alloc: Global, entries: &[Entry]) -> Result<Option<Difference>, NoMemory>
-        ensures agrees { IfOk result (λ found. IfNone found (Agrees (map entry_of entries.now) self.now)) }
+        ensures agrees { IfOk result (λ found. IfNone found (EntriesAgree (map entry_of entries.now) self.now)) }
         ensures differs { IfOk result (λ found. IfSome found (IsDifferenceOf (map entry_of entries.now) self.now)) }
     {
         let Some((at, journal)) = first_difference(entries, self.number, &self.taken) else {
@@ -157,9 +157,9 @@ fn merged<G: Road>(mut paths: Vec<Path<G>>) -> Share<G>
 
 /// Closes the book that these paths share, all of them, which hand nothing to it any more.
 pub fn close_paths<G: Road>(alloc: Global, shared: Shared<G>, paths: Paths<G>) -> Closed
-    requires some { 0 < length paths }
-    requires all { sum_by (λ p. p.parts) paths ≡ G.parts }
-    ensures { (journal : JournalState) × Closes (settings_of G.window G.reach G.first G.frames) journal paths result }
+    requires at_least_one { 0 < length paths }
+    requires each_part { sum_by (λ p. p.parts) paths ≡ G.parts }
+    ensures { (journal : JournalState) × BookCloses (settings_of G.window G.reach G.first G.frames) journal paths result }
 {
     close_book(alloc, shared.into_book(), paths)
 }
@@ -167,9 +167,9 @@ pub fn close_paths<G: Road>(alloc: Global, shared: Shared<G>, paths: Paths<G>) -
 /// Closes a book whose paths these are, all of them: the ledger proves that its journal has as many entries as they took.
 /// Each path's entries are compared with what it took, and the report is ended.
 pub fn close_book<G: Road>(alloc: Global, mut book: Book<G>, paths: Paths<G>) -> Closed
-    requires some { 0 < length paths }
-    requires all { sum_by (λ p. p.parts) paths ≡ G.parts }
-    ensures { Closes (settings_of G.window G.reach G.first G.frames) book.journal paths result }
+    requires at_least_one { 0 < length paths }
+    requires each_part { sum_by (λ p. p.parts) paths ≡ G.parts }
+    ensures { BookCloses (settings_of G.window G.reach G.first G.frames) book.journal paths result }
 {
     if book.is_stopped() {
         return Closed::NoMemory;

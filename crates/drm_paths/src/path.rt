@@ -63,7 +63,7 @@ impl<G: Road> Path<G> {
     /// How many bytes these have.
     pub fn bytes(&self) -> u64
         ensures bytes { result ≡ bytes_in self.now.taken }
-        ensures few { result ≤ most_bytes }
+        ensures within_limit { result ≤ most_bytes }
     {
         self.bytes
     }

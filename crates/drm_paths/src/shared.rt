@@ -68,7 +68,7 @@ pub fn open_paths<G: Road>(
     requires blank { (blank.name ≡ G.name) × (blank.parts ≡ G.parts) × (G.parts ≡ paths) }
     requires settings { settings ≡ settings_of G.window G.reach G.first G.frames }
     requires range { AreInRange settings }
-    ensures many { IfOk result (λ r. length r.1 ≡ paths) }
+    ensures same_count { IfOk result (λ r. length r.1 ≡ paths) }
     ensures new { IfOk result (λ r. (k : ℕ) (d : _) → k < paths → slice_index_or r.1 k d ≡ new_path k) }
 {
     let journal = Journal::make(alloc, settings)?;

@@ -1,6 +1,6 @@
 -- Laws of what stands before items, from one item to the next.
 use Rattle.std.proofs.Common.{◌≡◌, ℕ, ◌+◌, ◌<◌, ◌⊎◌, inl, inr, List, Option, Some, None, refl, sym, ◌∙◌, ap, subst, arith}
-use Rattle.drm_reconfiguration.specs.Switches.{IsFrame, Names, IsNamedLast, SwitchesAt, IsLastFrame, ResumesAt, StandsBefore}
+use Rattle.drm_reconfiguration.specs.Switches.{IsFrame, IndexNames, IsNamedLast, SwitchesAt, IsLastFrame, ResumesAt, StandsBefore}
 use Rattle.drm_reconfiguration.specs.declared.seen.Seen.{Seen}
 use Rattle.drm_reconfiguration.specs.declared.tracker.Before.{Before}
 use Rattle.drm_reconfiguration.specs.declared.tracker.Before.TheVariants.{Switch, Resumed}
@@ -10,7 +10,7 @@ pub below_or_at : (q m : ℕ) → q < m + 1 → (q < m) ⊎ (q ≡ m)
 below_or_at q m h = grind arith
 
 -- an item that names no frame leaves the name before
-pub IsNamedLast-on : (items : List (Option Seen)) (m n : ℕ) → ((other : ℕ) → ¬ Names items m other) → IsNamedLast items m n → IsNamedLast items (m + 1) n
+pub IsNamedLast-on : (items : List (Option Seen)) (m n : ℕ) → ((other : ℕ) → ¬ IndexNames items m other) → IsNamedLast items m n → IsNamedLast items (m + 1) n
 IsNamedLast-on items m n none named =
     record {
       by = named.by;
@@ -19,33 +19,33 @@ IsNamedLast-on items m n none named =
       last = λ q other after within names.
           elim (below_or_at q m within) [
             | inl lt ↦ named.last q other after lt names
-            | inr e ↦ none other (subst (λ (p : ℕ). Names items p other) e names)
+            | inr e ↦ none other (subst (λ (p : ℕ). IndexNames items p other) e names)
           ];
     }
 
-pub IsNamedLast-back : (items : List (Option Seen)) (m n : ℕ) → ((other : ℕ) → ¬ Names items m other) → IsNamedLast items (m + 1) n → IsNamedLast items m n
+pub IsNamedLast-back : (items : List (Option Seen)) (m n : ℕ) → ((other : ℕ) → ¬ IndexNames items m other) → IsNamedLast items (m + 1) n → IsNamedLast items m n
 IsNamedLast-back items m n none named =
     record {
       by = named.by;
       before =
           elim (below_or_at named.by m named.before) [
             | inl lt ↦ lt
-            | inr e ↦ absurd (none n (subst (λ (p : ℕ). Names items p n) e named.names))
+            | inr e ↦ absurd (none n (subst (λ (p : ℕ). IndexNames items p n) e named.names))
           ];
       names = named.names;
       last = λ q other after within. named.last q other after (omega (arith, within));
     }
 
 -- an item that names a frame is the last that does
-pub IsNamedLast-here : (items : List (Option Seen)) (m n : ℕ) → Names items m n → IsNamedLast items (m + 1) n
+pub IsNamedLast-here : (items : List (Option Seen)) (m n : ℕ) → IndexNames items m n → IsNamedLast items (m + 1) n
 IsNamedLast-here items m n names =
     record { by = m; before = omega arith; names = names; last = λ q other after within _. absurd (omega (arith, after, within)) }
 
-pub IsNamedLast-names : (items : List (Option Seen)) (m n other : ℕ) → Names items m other → IsNamedLast items (m + 1) n → Names items m n
+pub IsNamedLast-names : (items : List (Option Seen)) (m n other : ℕ) → IndexNames items m other → IsNamedLast items (m + 1) n → IndexNames items m n
 IsNamedLast-names items m n other names named =
     elim (below_or_at named.by m named.before) [
       | inl lt ↦ absurd (named.last m other lt (omega arith) names)
-      | inr e ↦ subst (λ (p : ℕ). Names items p n) e named.names
+      | inr e ↦ subst (λ (p : ℕ). IndexNames items p n) e named.names
     ]
 
 -- an item that is no frame leaves the last frame

@@ -2,7 +2,7 @@
 use Rattle.std.proofs.Common.{◌≡◌, ◌≢◌, ℕ, zero, suc, add-zero, zero-add, ◌+◌, ◌-◌, ◌*◌, ◌<◌, ◌≤◌, ◌⊎◌, inl, inr, Bool, true, false, cond, not, ◌&&◌, ◌||◌, List, [], ◌∷◌, length, slice_get, Option, Some, None, refl, sym, ◌∙◌, ap, subst, arith, eqb, eqb-true, eq-eqb}
 use Rattle.std.specs.Option.{option_map_or}
 use Rattle.drm_reconfiguration.specs.Seen.{is_same, named_by}
-use Rattle.drm_reconfiguration.specs.Switches.{IsFrame, Names, IsNamedLast, SwitchesAt, IsLastFrame, ResumesAt, StandsBefore}
+use Rattle.drm_reconfiguration.specs.Switches.{IsFrame, IndexNames, IsNamedLast, SwitchesAt, IsLastFrame, ResumesAt, StandsBefore}
 use Rattle.drm_reconfiguration.specs.Tracker.{TrackerState, new_tracker, is_named, resumption, answered, name_after, stepped, answers, TellsTheSwitches}
 use Rattle.drm_reconfiguration.specs.declared.seen.Seen.{Seen}
 use Rattle.drm_reconfiguration.specs.declared.seen.Signature.{Signature}
@@ -132,10 +132,10 @@ stands items m tracker seen knows at = by_name (is_named tracker) refl
 
 -- an item's own name is this
 record NamesJust (items : List (Option Seen)) (m : ℕ) (name : Option ℕ) : Type 0 where
-  to : (n : ℕ) → Names items m n → name ≡ Some n
-  from : (n : ℕ) → name ≡ Some n → Names items m n
+  to : (n : ℕ) → IndexNames items m n → name ≡ Some n
+  from : (n : ℕ) → name ≡ Some n → IndexNames items m n
 
-none_named : (items : List (Option Seen)) (m : ℕ) → NamesJust items m None → (n : ℕ) → ¬ Names items m n
+none_named : (items : List (Option Seen)) (m : ℕ) → NamesJust items m None → (n : ℕ) → ¬ IndexNames items m n
 none_named items m just n names = let e = just.to n names in cc
 
 names_none : (items : List (Option Seen)) (m : ℕ) → slice_get items m ≡ Some None → NamesJust items m None

@@ -7,7 +7,7 @@ use Rattle.drm_reconfiguration.specs.declared.seen.Signature.{Signature}
 
 -- an index above 0 counts down to a start, it is 1 before each later start, and signatures change only at starts: the
 -- index is that of a super frame, and the signature that of a frame
-pub record Announces (index : ℕ → ℕ) (signature : ℕ → Signature) (starts : List ℕ) : Type 0 where
+pub record IndexAnnounces (index : ℕ → ℕ) (signature : ℕ → Signature) (starts : List ℕ) : Type 0 where
   pub named : (super_frame : ℕ) → 0 < index super_frame → Contains starts (super_frame + index super_frame)
   pub before : (start : ℕ) → Contains starts start → 0 < start → index (start - 1) ≡ 1
   pub changes : (t : ℕ) → signature t ≢ signature (t + 1) → (start : ℕ) × Contains starts start × (t + 1 ≡ 3 * start)
@@ -25,19 +25,19 @@ NoneMissing items = (q : ℕ) → q < length items → (seen : Seen) × IsFrame 
 abbrev pub OnlyAtStarts : Type 0
 OnlyAtStarts =
     (index : ℕ → ℕ) (signature : ℕ → Signature) (starts : List ℕ) (base : ℕ) (items : List (Option Seen)) (f : ℕ)
-    → Announces index signature starts → AreSent index signature base items
+    → IndexAnnounces index signature starts → AreSent index signature base items
     → SwitchesAt items f → (start : ℕ) × Contains starts start × (f + base ≡ 3 * start)
 
 -- where no frame is missing, a switch stands before the first frame of each start behind the first item
 abbrev pub AtAllStarts : Type 0
 AtAllStarts =
     (index : ℕ → ℕ) (signature : ℕ → Signature) (starts : List ℕ) (base : ℕ) (items : List (Option Seen)) (start : ℕ)
-    → Announces index signature starts → AreSent index signature base items → NoneMissing items
+    → IndexAnnounces index signature starts → AreSent index signature base items → NoneMissing items
     → Contains starts start → base < 3 * start → 3 * start < base + length items → SwitchesAt items (3 * start - base)
 
 -- where no frame is missing, none is resumed
 abbrev pub NoneResumed : Type 0
 NoneResumed =
     (index : ℕ → ℕ) (signature : ℕ → Signature) (starts : List ℕ) (base : ℕ) (items : List (Option Seen)) (p : ℕ)
-    → Announces index signature starts → AreSent index signature base items → NoneMissing items
+    → IndexAnnounces index signature starts → AreSent index signature base items → NoneMissing items
     → p < length items → ¬ ResumesAt items p

@@ -9,16 +9,16 @@ abbrev pub IsFrame : List (Option Seen) → ℕ → Seen → Type 0
 IsFrame items q seen = slice_get items q ≡ Some (Some seen)
 
 -- frame q names frame n by its index above 0 (a position is at most 2, so nothing is cut off at 0)
-abbrev pub Names : List (Option Seen) → ℕ → ℕ → Type 0
-Names items q n =
+abbrev pub IndexNames : List (Option Seen) → ℕ → ℕ → Type 0
+IndexNames items q n =
     (seen : Seen) × IsFrame items q seen × (0 < seen.index) × (n ≡ (q + 3 * seen.index) - seen.position)
 
 -- some frame before item k names a frame, and the last such frame names n
 pub record IsNamedLast (items : List (Option Seen)) (k n : ℕ) : Type 0 where
   pub by : ℕ
   pub before : by < k
-  pub names : Names items by n
-  pub last : (q other : ℕ) → by < q → q < k → ¬ Names items q other
+  pub names : IndexNames items by n
+  pub last : (q other : ℕ) → by < q → q < k → ¬ IndexNames items q other
 
 -- a switch stands before item f: the last frame before it that names one names f
 abbrev pub SwitchesAt : List (Option Seen) → ℕ → Type 0

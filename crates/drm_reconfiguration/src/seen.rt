@@ -45,7 +45,7 @@ impl Seen {
     /// reconfiguration index counts down to.
     pub(crate) fn names(self, frame: u64) -> Option<u64>
         requires range { IsInRange self }
-        requires small { frame < 2 ^ 62 }
+        requires in_range { frame < 2 ^ 62 }
         ensures { result ≡ named_by frame self }
     {
         if self.index == 0 {

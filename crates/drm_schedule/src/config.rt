@@ -5,8 +5,8 @@ ghost use Rattle.drm_schedule.specs.InForce.{entities_in_force, first_entities};
 
 use crate::{Blocks, Stream};
 use drm_fac::{Mode, Service};
-use drm_sdc::Entity;
 use drm_lists::Items;
+use drm_sdc::Entity;
 
 /// The services of a configuration, in the order of their lines.
 pub type Services = Items<Service>;

@@ -12,7 +12,7 @@ use crate::Entities;
 pub fn entities_can_be_written(entities: &Entities)
     requires { All EntityInLines entities.now }
     ensures fit { All EntityFits entities.now }
-    ensures small { total_size entities.now ≤ 129 * length entities.now }
+    ensures in_range { total_size entities.now ≤ 129 * length entities.now }
 {}
 
 /// In each super frame just one list of entities is in force, that of the last block that has begun.

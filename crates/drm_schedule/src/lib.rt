@@ -16,16 +16,16 @@ mod timed;
 mod valid;
 
 pub use announcement::{Repeated, free_in_countdown};
-pub use plan_packing::{Spot, can_be_packed};
 pub use config::{Clock, Config, Configs, Services, Streams};
 pub use dcp_pft::Carry;
 pub use drm_fac::{Mode, Service};
+pub use drm_lists::Items;
 pub use drm_sdc::{AppMode, Body, Channel15, Channels, Entities, Entity, MuxDesc, Octets, Part};
 pub use invalid::{Invalid, Place, Reason};
 pub use laws::{entities_can_be_written, one_is_in_force};
 pub use live::Live;
-pub use drm_lists::Items;
 pub use plan::{MOST_FRAMES, Plan};
+pub use plan_packing::{Spot, can_be_packed};
 pub use schedule::Schedule;
 pub use sizes::{entity_len, free_len, packet_len};
 pub use stream::{Content, Stream};

@@ -20,10 +20,10 @@ pub fn entity_len(entity: &Entity) -> u16
 // The bytes of what is told of the streams and with these entities.
 fn told_len(config: &Config, entities: &[Entity]) -> usize
     requires config { ConfigInLines config.now }
-    requires few { length entities.now ≤ 64 }
+    requires within_limit { length entities.now ≤ 64 }
     requires each { All EntityInLines entities.now }
     ensures size { result ≡ told_with config.now entities.now }
-    ensures small { result < 2 ^ 14 }
+    ensures in_range { result < 2 ^ 14 }
 {
     2 + 3 * config.streams.len() + total_size(entities)
 }
@@ -31,7 +31,7 @@ fn told_len(config: &Config, entities: &[Entity]) -> usize
 // The bytes of a clock, where it is told.
 fn clock_len(is_told: bool) -> usize
     ensures size { result ≡ size_if is_told }
-    ensures small { result ≤ 5 }
+    ensures in_range { result ≤ 5 }
 {
     if is_told { 5 } else { 0 }
 }
@@ -59,7 +59,7 @@ pub fn free_len(config: &Config, frame: u32) -> u16
 /// The bytes of a stream in each frame.
 pub fn stream_len(stream: &Stream) -> u32
     ensures size { result ≡ stream_size stream.now }
-    ensures small { result < 2 ^ 17 }
+    ensures in_range { result < 2 ^ 17 }
 {
     u32::from(stream.a) + u32::from(stream.b)
 }
@@ -67,7 +67,7 @@ pub fn stream_len(stream: &Stream) -> u32
 // The bytes of the items of the streams, each with its head.
 fn items_len(streams: &[Stream]) -> u32
     requires each { All StreamInLines streams.now }
-    requires few { length streams.now ≤ 4 }
+    requires within_limit { length streams.now ≤ 4 }
     ensures { result ≡ sum_by (λ s. 8 + stream_size s) streams.now }
 {
     streams.iter().map(|s| 8 + stream_len(s)).sum()

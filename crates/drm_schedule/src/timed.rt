@@ -1,7 +1,7 @@
 //! What a configuration tells from one of its super frames on.
 
-use drm_sdc::Entities;
 use drm_lists::Items;
+use drm_sdc::Entities;
 
 /// The blocks of lines of a configuration, in their order.
 pub type Blocks = Items<Timed>;

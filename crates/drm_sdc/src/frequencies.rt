@@ -48,7 +48,7 @@ fn read_channel(bits: &mut Bits<'_>) -> Channel15
     requires { 16 ≤ length bits.old }
     ensures channel { result ≡ record { first = bit bits.old; number = front 15 (drop 1 bits.old) } }
     ensures rest { bits.new ≡ drop 15 (drop 1 bits.old) }
-    ensures left { length bits.new + 16 ≡ length bits.old }
+    ensures remaining { length bits.new + 16 ≡ length bits.old }
 {
     Channel15 {
         first: bits.take_flag(),

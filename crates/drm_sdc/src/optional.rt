@@ -14,7 +14,7 @@ pub fn take_optional(bits: &mut Bits<'_>, there: bool) -> Option<u8>
     requires { there ≡ true → 8 ≤ length bits.old }
     ensures number { result ≡ optional_from there bits.old }
     ensures rest { bits.new ≡ behind there bits.old }
-    ensures left { length bits.new + 8 * from_bool there ≡ length bits.old }
+    ensures remaining { length bits.new + 8 * from_bool there ≡ length bits.old }
 {
     if there { Some(bits.take_u8(8)) } else { None }
 }
@@ -23,7 +23,7 @@ pub fn take_optional(bits: &mut Bits<'_>, there: bool) -> Option<u8>
 pub fn put_optional(sink: &mut BitSink<'_>, byte: Option<u8>)
     requires { 8 * count byte ≤ length (unwritten sink.old) }
     ensures wrote { Wrote (spelled (optional_fields byte)) sink.old sink.new }
-    ensures left { length (unwritten sink.new) + 8 * count byte ≡ length (unwritten sink.old) }
+    ensures remaining { length (unwritten sink.new) + 8 * count byte ≡ length (unwritten sink.old) }
 {
     if let Some(byte) = byte {
         sink.put_u8(byte, 8);

@@ -10,7 +10,7 @@ use drm_bits::{BitSink, Octets};
 pub fn put_octets(sink: &mut BitSink<'_>, octets: &Octets)
     requires { 8 * length octets.now ≤ length (unwritten sink.old) }
     ensures wrote { Wrote (bits_of octets.now) sink.old sink.new }
-    ensures left { length (unwritten sink.new) + 8 * length octets.now ≡ length (unwritten sink.old) }
+    ensures remaining { length (unwritten sink.new) + 8 * length octets.now ≡ length (unwritten sink.old) }
 {
     put_bytes(sink, octets.as_slice());
 }
@@ -19,7 +19,7 @@ pub fn put_octets(sink: &mut BitSink<'_>, octets: &Octets)
 pub fn put_bytes(sink: &mut BitSink<'_>, bytes: &[u8])
     requires { 8 * length bytes.now ≤ length (unwritten sink.old) }
     ensures wrote { Wrote (bits_of bytes.now) sink.old sink.new }
-    ensures left { length (unwritten sink.new) + 8 * length bytes.now ≡ length (unwritten sink.old) }
+    ensures remaining { length (unwritten sink.new) + 8 * length bytes.now ≡ length (unwritten sink.old) }
 {
     for byte in bytes {
         sink.put_u8(*byte, 8);
@@ -30,7 +30,7 @@ pub fn put_bytes(sink: &mut BitSink<'_>, bytes: &[u8])
 pub fn put_zeros(sink: &mut BitSink<'_>, count: usize)
     requires { 8 * count ≤ length (unwritten sink.old) }
     ensures wrote { Wrote (bits_of (replicate count 0)) sink.old sink.new }
-    ensures left { length (unwritten sink.new) + 8 * count ≡ length (unwritten sink.old) }
+    ensures remaining { length (unwritten sink.new) + 8 * count ≡ length (unwritten sink.old) }
 {
     for _ in 0..count {
         sink.put_u8(0, 8);

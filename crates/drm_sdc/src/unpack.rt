@@ -28,7 +28,7 @@ pub fn block_room(value: &[u8], bits: u32) -> Result<usize, SdcFault>
 }
 
 fn room_of(bits: u32) -> Option<usize>
-    ensures some { IfSome result (λ d. (d ≤ 1023) × ((bits ≡ 8 * d + 20) ⊎ (bits ≡ 8 * d + 24))) }
+    ensures found { IfSome result (λ d. (d ≤ 1023) × ((bits ≡ 8 * d + 20) ⊎ (bits ≡ 8 * d + 24))) }
     ensures none { IfNone result (¬ IsBlockLength bits) }
 {
     if bits < 20 || bits % 4 != 0 || (bits - 20) / 8 > 1023 {
@@ -57,7 +57,7 @@ pub fn unpack_block(value: &[u8], bits: u32, field: &mut [u8]) -> Result<u8, Sdc
 
 fn behind_front(value: &[u8], bits: u32) -> Bits<'_>
     requires length { length value.now ≡ (bits + 7) / 8 }
-    requires some { 4 ≤ bits }
+    requires at_least_one { 4 ≤ bits }
     ensures second { bits % 8 ≡ 0 → result ≡ drop 4 (take bits (bits_of value.now)) }
     ensures first { ¬ (bits % 8 ≡ 0) → result ≡ take bits (bits_of value.now) }
 {

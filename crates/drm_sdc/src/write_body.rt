@@ -20,7 +20,7 @@ pub fn write_body(sink: &mut BitSink<'_>, body: &Body)
     requires fits { BodyFits body.now }
     requires room { 4 + 8 * body_length body.now ≤ length (unwritten sink.old) }
     ensures wrote { Wrote (spelled (body_fields body.now)) sink.old sink.new }
-    ensures left { length (unwritten sink.new) + (4 + 8 * body_length body.now) ≡ length (unwritten sink.old) }
+    ensures remaining { length (unwritten sink.new) + (4 + 8 * body_length body.now) ≡ length (unwritten sink.old) }
 {
     match body {
         Body::Mux { desc } => desc.write(sink),
@@ -119,7 +119,7 @@ fn write_frequencies(
     requires fits { Fit (channel_fields list.now) }
     requires room { 4 + 8 * (count restriction + count region + 2 * length list.now) ≤ length (unwritten sink.old) }
     ensures wrote { Wrote (spelled (body_fields (Freq sync layer restriction region list.now))) sink.old sink.new }
-    ensures left { length (unwritten sink.new) + (4 + 8 * (count restriction + count region + 2 * length list.now)) ≡ length (unwritten sink.old) }
+    ensures remaining { length (unwritten sink.new) + (4 + 8 * (count restriction + count region + 2 * length list.now)) ≡ length (unwritten sink.old) }
 {
     sink.put_flag(sync);
     sink.put_flag(layer);
@@ -134,7 +134,7 @@ fn write_channels(sink: &mut BitSink<'_>, channels: &[Channel15])
     requires fits { Fit (channel_fields channels.now) }
     requires room { 16 * length channels.now ≤ length (unwritten sink.old) }
     ensures wrote { Wrote (spelled (channel_fields channels.now)) sink.old sink.new }
-    ensures left { length (unwritten sink.new) + 16 * length channels.now ≡ length (unwritten sink.old) }
+    ensures remaining { length (unwritten sink.new) + 16 * length channels.now ≡ length (unwritten sink.old) }
 {
     for channel in channels {
         sink.put_flag(channel.first);
@@ -146,7 +146,7 @@ fn write_raw(sink: &mut BitSink<'_>, nibble: u8, bytes: &Octets)
     requires fits { nibble < 2 ^ 4 }
     requires room { 4 + 8 * length bytes.now ≤ length (unwritten sink.old) }
     ensures wrote { (kind : ℕ) → Wrote (spelled (body_fields (Raw kind nibble bytes.now))) sink.old sink.new }
-    ensures left { length (unwritten sink.new) + (4 + 8 * length bytes.now) ≡ length (unwritten sink.old) }
+    ensures remaining { length (unwritten sink.new) + (4 + 8 * length bytes.now) ≡ length (unwritten sink.old) }
 {
     sink.put_u8(nibble, 4);
     put_octets(sink, bytes);

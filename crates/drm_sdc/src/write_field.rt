@@ -18,7 +18,7 @@ use drm_bits::BitSink;
 /// How many bytes the entities have.
 pub fn total_size(entities: &[Entity]) -> usize
     requires fit { All EntityFits entities.now }
-    requires small { total_size entities.now ≤ usize.MAX }
+    requires in_range { total_size entities.now ≤ usize.MAX }
     ensures { result ≡ total_size entities.now }
 {
     let mut total = 0;
@@ -46,7 +46,7 @@ pub fn write_entities(sink: &mut BitSink<'_>, entities: &[Entity])
     requires fit { All EntityFits entities.now }
     requires room { 8 * total_size entities.now ≤ length (unwritten sink.old) }
     ensures wrote { Wrote (entity_bits entities.now) sink.old sink.new }
-    ensures left { length (unwritten sink.new) + 8 * total_size entities.now ≡ length (unwritten sink.old) }
+    ensures remaining { length (unwritten sink.new) + 8 * total_size entities.now ≡ length (unwritten sink.old) }
 {
     for entity in entities {
         write_entity(sink, entity.version, &entity.body);
@@ -58,7 +58,7 @@ pub fn write_entity(sink: &mut BitSink<'_>, version: bool, body: &Body)
     requires fits { EntityFits (record { version = version; body = body.now }) }
     requires room { 8 * entity_size (record { version = version; body = body.now }) ≤ length (unwritten sink.old) }
     ensures wrote { Wrote (spelled (entity_fields (record { version = version; body = body.now }))) sink.old sink.new }
-    ensures left { length (unwritten sink.new) + 8 * entity_size (record { version = version; body = body.now }) ≡ length (unwritten sink.old) }
+    ensures remaining { length (unwritten sink.new) + 8 * entity_size (record { version = version; body = body.now }) ≡ length (unwritten sink.old) }
 {
     let len = body_size(body) as u8;
     sink.put_u8(len, 7);

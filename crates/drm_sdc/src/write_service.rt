@@ -15,7 +15,7 @@ pub fn write_label(sink: &mut BitSink<'_>, short: u8, spare: u8, text: &Octets)
     requires fits { Fit (body_fields (Label short spare text.now)) }
     requires room { 4 + 8 * length text.now ≤ length (unwritten sink.old) }
     ensures wrote { Wrote (spelled (body_fields (Label short spare text.now))) sink.old sink.new }
-    ensures left { length (unwritten sink.new) + (4 + 8 * length text.now) ≡ length (unwritten sink.old) }
+    ensures remaining { length (unwritten sink.new) + (4 + 8 * length text.now) ≡ length (unwritten sink.old) }
 {
     sink.put_u8(short, 2);
     sink.put_u8(spare, 2);
@@ -26,7 +26,7 @@ pub fn write_language(sink: &mut BitSink<'_>, short: u8, spare: u8, language: u3
     requires fits { Fit (body_fields (Language short spare language country)) }
     requires room { 44 ≤ length (unwritten sink.old) }
     ensures wrote { Wrote (spelled (body_fields (Language short spare language country))) sink.old sink.new }
-    ensures left { length (unwritten sink.new) + 44 ≡ length (unwritten sink.old) }
+    ensures remaining { length (unwritten sink.new) + 44 ≡ length (unwritten sink.old) }
 {
     sink.put_u8(short, 2);
     sink.put_u8(spare, 2);
@@ -47,7 +47,7 @@ pub fn write_application(
     requires mode { Fit (mode_fields packet) }
     requires room { 4 + 8 * (mode_size packet + length bytes.now) ≤ length (unwritten sink.old) }
     ensures wrote { Wrote (spelled (body_fields (App short stream packet enhancement domain bytes.now))) sink.old sink.new }
-    ensures left { length (unwritten sink.new) + (4 + 8 * (mode_size packet + length bytes.now)) ≡ length (unwritten sink.old) }
+    ensures remaining { length (unwritten sink.new) + (4 + 8 * (mode_size packet + length bytes.now)) ≡ length (unwritten sink.old) }
 {
     sink.put_u8(short, 2);
     sink.put_u8(stream, 2);
@@ -60,7 +60,7 @@ fn write_mode(sink: &mut BitSink<'_>, packet: AppMode, enhancement: bool, domain
     requires domain { domain < 2 ^ 3 }
     requires room { 8 * mode_size packet ≤ length (unwritten sink.old) }
     ensures wrote { Wrote (spelled (mode_fields packet ++ (flag enhancement ∷ field 3 domain ∷ mode_length packet))) sink.old sink.new }
-    ensures left { length (unwritten sink.new) + 8 * mode_size packet ≡ length (unwritten sink.old) }
+    ensures remaining { length (unwritten sink.new) + 8 * mode_size packet ≡ length (unwritten sink.old) }
 {
     match packet {
         AppMode::Sync { spare } => {
@@ -97,7 +97,7 @@ pub fn write_audio(
     requires fits { Fit (body_fields (Audio short stream coding sbr mode rate text enhancement coder spare config.now)) }
     requires room { 20 + 8 * length config.now ≤ length (unwritten sink.old) }
     ensures wrote { Wrote (spelled (body_fields (Audio short stream coding sbr mode rate text enhancement coder spare config.now))) sink.old sink.new }
-    ensures left { length (unwritten sink.new) + (20 + 8 * length config.now) ≡ length (unwritten sink.old) }
+    ensures remaining { length (unwritten sink.new) + (20 + 8 * length config.now) ≡ length (unwritten sink.old) }
 {
     sink.put_u8(short, 2);
     sink.put_u8(stream, 2);

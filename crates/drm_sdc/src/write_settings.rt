@@ -14,7 +14,7 @@ pub fn write_when(sink: &mut BitSink<'_>, id: u8, day: u8, start: u16, duration:
     requires fits { Fit (body_fields (When id day start duration)) }
     requires room { 36 ≤ length (unwritten sink.old) }
     ensures wrote { Wrote (spelled (body_fields (When id day start duration))) sink.old sink.new }
-    ensures left { length (unwritten sink.new) + 36 ≡ length (unwritten sink.old) }
+    ensures remaining { length (unwritten sink.new) + 36 ≡ length (unwritten sink.old) }
 {
     sink.put_u8(id, 4);
     sink.put_u8(day, 7);
@@ -26,7 +26,7 @@ pub fn write_time(sink: &mut BitSink<'_>, mjd: u32, hours: u8, minutes: u8, extr
     requires fits { Fit (body_fields (Time mjd hours minutes extra)) }
     requires room { 28 + 8 * count extra ≤ length (unwritten sink.old) }
     ensures wrote { Wrote (spelled (body_fields (Time mjd hours minutes extra))) sink.old sink.new }
-    ensures left { length (unwritten sink.new) + (28 + 8 * count extra) ≡ length (unwritten sink.old) }
+    ensures remaining { length (unwritten sink.new) + (28 + 8 * count extra) ≡ length (unwritten sink.old) }
 {
     sink.put_u32(mjd, 17);
     sink.put_u8(hours, 5);
@@ -48,7 +48,7 @@ pub fn write_next(
     requires fits { Fit (body_fields (Next enhancement mode occupancy short_depth msc qam4 services last)) }
     requires room { 20 ≤ length (unwritten sink.old) }
     ensures wrote { Wrote (spelled (body_fields (Next enhancement mode occupancy short_depth msc qam4 services last))) sink.old sink.new }
-    ensures left { length (unwritten sink.new) + 20 ≡ length (unwritten sink.old) }
+    ensures remaining { length (unwritten sink.new) + 20 ≡ length (unwritten sink.old) }
 {
     sink.put_flag(enhancement);
     sink.put_u8(mode, 2);

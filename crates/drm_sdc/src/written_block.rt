@@ -20,7 +20,7 @@ use drm_bits::BitSink;
 /// these keep what they were.
 pub fn write_block(block: &Block, room: usize, into: &mut [u8]) -> Result<u32, NoRoom>
     requires fit { All EntityFits block.now.entities }
-    requires small { total_size block.now.entities ≤ usize.MAX }
+    requires in_range { total_size block.now.entities ≤ usize.MAX }
     requires index { block.now.afs < 2 ^ 4 }
     requires room { room ≤ 1023 }
     requires into { room + 3 ≤ length into.old }

@@ -11,7 +11,7 @@ use Rattle.drm_links.proofs.ToldLemmas.{Outputs-then}
 use Rattle.drm_timeline.specs.Numbers.{frame_count}
 use Rattle.drm_server.specs.Datagrams.{IsDatagramAt, AreFirst, AreOfFrames, AreDatagrams}
 use Rattle.drm_server.specs.Capture.{IsCapture, IsFrontOfCapture}
-use Rattle.drm_server.specs.Gathering.{Gathers, IsFrontOfFrame, IsFrontWithDatagram}
+use Rattle.drm_server.specs.Gathering.{GathersDatagrams, IsFrontOfFrame, IsFrontWithDatagram}
 
 pub concat_append : (xs ys : List (List ℕ)) → concat (xs ++ ys) ≡ concat xs ++ concat ys
 concat_append [] ys = refl
@@ -134,13 +134,13 @@ module _ (plan : Plan) (from : ℕ) where
       ]
 
 -- what waited, and more behind it, and more again
-pub gathers_then : (waited xs ys then_waits waits : List ℕ) (a b c : Known Output) → Gathers waited xs then_waits a b → Gathers then_waits ys waits b c → Gathers waited (xs ++ ys) waits a c
+pub gathers_then : (waited xs ys then_waits waits : List ℕ) (a b c : Known Output) → GathersDatagrams waited xs then_waits a b → GathersDatagrams then_waits ys waits b c → GathersDatagrams waited (xs ++ ys) waits a c
 gathers_then waited xs ys then_waits waits a b c first second =
     Outputs-then (λ s. waited ++ xs ≡ s ++ then_waits) (λ t. then_waits ++ ys ≡ t ++ waits) (λ text. waited ++ (xs ++ ys) ≡ text ++ waits) a b c first second
     (λ s t is_s is_t. sym (append_assoc waited xs ys) ∙ (ap (λ l. l ++ ys) is_s ∙ (append_assoc s then_waits ys ∙ (ap (λ l. s ++ l) is_t ∙ sym (append_assoc s t waits)))))
 
 -- and then a front of what waits, and of more behind it
-pub gathers_front : (waited xs ys then_waits : List ℕ) (a b c : Known Output) → Gathers waited xs then_waits a b → Outputs b c (IsFront (then_waits ++ ys)) → Outputs a c (IsFront (waited ++ (xs ++ ys)))
+pub gathers_front : (waited xs ys then_waits : List ℕ) (a b c : Known Output) → GathersDatagrams waited xs then_waits a b → Outputs b c (IsFront (then_waits ++ ys)) → Outputs a c (IsFront (waited ++ (xs ++ ys)))
 gathers_front waited xs ys then_waits a b c first second =
     Outputs-then (λ s. waited ++ xs ≡ s ++ then_waits) (IsFront (then_waits ++ ys)) (IsFront (waited ++ (xs ++ ys))) a b c first second
     (λ s t is_s front. (
@@ -150,13 +150,13 @@ gathers_front waited xs ys then_waits a b c first second =
 
 -- one datagram more
 pub gathers_datagram : (waited : List ℕ) (datagrams : List (List ℕ)) (datagram then_waits waits : List ℕ) (a b c : Known Output)
-    → Gathers waited (concat datagrams) then_waits a b → Gathers then_waits datagram waits b c → Gathers waited (concat (datagrams ++ datagram ∷ [])) waits a c
+    → GathersDatagrams waited (concat datagrams) then_waits a b → GathersDatagrams then_waits datagram waits b c → GathersDatagrams waited (concat (datagrams ++ datagram ∷ [])) waits a c
 gathers_datagram waited datagrams datagram then_waits waits a b c first second =
-    subst (λ l. Gathers waited l waits a c) (sym (concat_push datagrams datagram)) (gathers_then waited (concat datagrams) datagram then_waits waits a b c first second)
+    subst (λ l. GathersDatagrams waited l waits a c) (sym (concat_push datagrams datagram)) (gathers_then waited (concat datagrams) datagram then_waits waits a b c first second)
 
 -- a front with one datagram more
 pub front_of_frame : (plan : Plan) (t i : ℕ) (datagrams : List (List ℕ)) (waited then_waits : List ℕ) (a b c : Known Output) → AreFirst plan t i datagrams
-    → Gathers waited (concat datagrams) then_waits a b → Outputs b c (IsFrontWithDatagram plan t i then_waits) → Outputs a c (IsFrontOfFrame plan t waited)
+    → GathersDatagrams waited (concat datagrams) then_waits a b → Outputs b c (IsFrontWithDatagram plan t i then_waits) → Outputs a c (IsFrontOfFrame plan t waited)
 front_of_frame plan t i datagrams waited then_waits a b c are first second =
     Outputs-then (λ s. waited ++ concat datagrams ≡ s ++ then_waits) (IsFrontWithDatagram plan t i then_waits) (IsFrontOfFrame plan t waited) a b c first second
     (λ s u is (datagram, is_datagram, (rest, front)). (
@@ -172,14 +172,14 @@ front_of_frame plan t i datagrams waited then_waits a b c are first second =
     ))
 
 -- the datagrams of one frame more
-pub gathers_frame : (before of_frame : List (List ℕ)) (then_waits waits : List ℕ) (a b c : Known Output) → Gathers [] (concat before) then_waits a b → Gathers then_waits (concat of_frame) waits b c → Gathers [] (concat (before ++ of_frame)) waits a c
+pub gathers_frame : (before of_frame : List (List ℕ)) (then_waits waits : List ℕ) (a b c : Known Output) → GathersDatagrams [] (concat before) then_waits a b → GathersDatagrams then_waits (concat of_frame) waits b c → GathersDatagrams [] (concat (before ++ of_frame)) waits a c
 gathers_frame before of_frame then_waits waits a b c first second =
-    subst (λ l. Gathers [] l waits a c) (sym (concat_append before of_frame)) (gathers_then [] (concat before) (concat of_frame) then_waits waits a b c first second)
+    subst (λ l. GathersDatagrams [] l waits a c) (sym (concat_append before of_frame)) (gathers_then [] (concat before) (concat of_frame) then_waits waits a b c first second)
 
 module _ (plan : Plan) (from : ℕ) where
   -- a part of the next frame
   pub part_written : (n : ℕ) (datagrams : List (List ℕ)) (waits : List ℕ) (a b c : Known Output) → from + n < frame_count plan → AreOfFrames plan from n datagrams
-      → Gathers [] (concat datagrams) waits a b → Outputs b c (IsFrontOfFrame plan (from + n) waits) → Outputs a c (IsFrontOfCapture plan from)
+      → GathersDatagrams [] (concat datagrams) waits a b → Outputs b c (IsFrontOfFrame plan (from + n) waits) → Outputs a c (IsFrontOfCapture plan from)
   part_written n datagrams waits a b c within are first second =
       Outputs-then (λ s. concat datagrams ≡ s ++ waits) (IsFrontOfFrame plan (from + n) waits) (IsFrontOfCapture plan from) a b c first second
       (λ s u is (i, of_frame, are_first, (rest, front)).
@@ -188,7 +188,7 @@ module _ (plan : Plan) (from : ℕ) where
 
   -- a front of what waits at the end
   pub end_written : (n : ℕ) (datagrams : List (List ℕ)) (waits : List ℕ) (a b c : Known Output) → from + n ≤ frame_count plan → AreOfFrames plan from n datagrams → IsFrontOfCapture plan from (concat datagrams)
-      → Gathers [] (concat datagrams) waits a b → Outputs b c (IsFront waits) → Outputs a c (IsFrontOfCapture plan from)
+      → GathersDatagrams [] (concat datagrams) waits a b → Outputs b c (IsFront waits) → Outputs a c (IsFrontOfCapture plan from)
   end_written n datagrams waits a b c within are all first second =
       Outputs-then (λ s. concat datagrams ≡ s ++ waits) (IsFront waits) (IsFrontOfCapture plan from) a b c first second
       (λ s u is (rest, front).
@@ -197,20 +197,20 @@ module _ (plan : Plan) (from : ℕ) where
 
   -- all of what waits at the end
   pub all_written : (datagrams : List (List ℕ)) (waits : List ℕ) (a b c : Known Output) → AreDatagrams plan from datagrams
-      → Gathers [] (concat datagrams) waits a b → Outputs b c (λ text. text ≡ waits) → Outputs a c (IsCapture plan from)
+      → GathersDatagrams [] (concat datagrams) waits a b → Outputs b c (λ text. text ≡ waits) → Outputs a c (IsCapture plan from)
   all_written datagrams waits a b c are first second =
       Outputs-then (λ s. concat datagrams ≡ s ++ waits) (λ text. text ≡ waits) (IsCapture plan from) a b c first second
       (λ s u is last. (datagrams, are, ap (λ l. s ++ l) last ∙ sym is))
 
 -- all that waits of one frame, and a front of it
-pub frame_written : (datagrams : List (List ℕ)) (waits : List ℕ) (a b c : Known Output) → Gathers [] (concat datagrams) waits a b → Outputs b c (λ text. text ≡ waits)
+pub frame_written : (datagrams : List (List ℕ)) (waits : List ℕ) (a b c : Known Output) → GathersDatagrams [] (concat datagrams) waits a b → Outputs b c (λ text. text ≡ waits)
     → Outputs a c (λ text. text ≡ concat datagrams)
 frame_written datagrams waits a b c first second =
     Outputs-then (λ s. concat datagrams ≡ s ++ waits) (λ text. text ≡ waits) (λ text. text ≡ concat datagrams) a b c first second
     (λ s u is last. ap (λ l. s ++ l) last ∙ sym is)
 
 pub frame_front : (plan : Plan) (t count : ℕ) (datagrams : List (List ℕ)) (waits : List ℕ) (a b c : Known Output) → 1 ≤ count → AreFirst plan t count datagrams
-    → Gathers [] (concat datagrams) waits a b → Outputs b c (IsFront waits) → Outputs a c (IsFrontOfFrame plan t [])
+    → GathersDatagrams [] (concat datagrams) waits a b → Outputs b c (IsFront waits) → Outputs a c (IsFrontOfFrame plan t [])
 frame_front plan t zero datagrams waits a b c some are first second = absurd (omega (arith, some))
 frame_front plan t (suc i) datagrams waits a b c some are first second =
     Outputs-then (λ s. concat datagrams ≡ s ++ waits) (IsFront waits) (IsFrontOfFrame plan t []) a b c first second

@@ -6,12 +6,12 @@ use Rattle.std.proofs.lemmas.Grind.{take_at_read}
 use Rattle.std.proofs.lemmas.List.{take_all}
 use Rattle.drm_schedule.specs.declared.plan.Plan.{Plan}
 use Rattle.dcp_pft.specs.declared.shape.Shape.{Shape}
-use Rattle.dcp_pft.specs.Carrying.{cut_of, datagram_count, Carries}
+use Rattle.dcp_pft.specs.Carrying.{cut_of, datagram_count, CarriesPacket}
 use Rattle.dcp_pft.proofs.Carried.{whole_count, cut_count, carries_whole, carries_cut}
 use Rattle.drm_timeline.specs.Numbers.{sequence_number}
 use Rattle.drm_links.specs.Told.{Known}
 use Rattle.drm_links.specs.Link.{Traffic}
-use Rattle.drm_links.specs.Transmission.{Transmits, SendsNoMore, Waits}
+use Rattle.drm_links.specs.Transmission.{LinkTransmits, SendsNoMore, WaitsBetween}
 use Rattle.drm_links.proofs.TransmissionLemmas.{Transmits-weaker}
 use Rattle.dcp_sender.specs.Sending as sending
 use Rattle.dcp_sender.specs.Sending.{IsDatagramOf, count_of, SentPacket, SentSome}
@@ -25,9 +25,9 @@ module _ (plan : Plan) (t : ℕ) (packet : List ℕ) (is : IsPacketAt plan t pac
   count_is (Some shape) same = cut_count plan.carry (length packet) shape same
 
   carried : (cut : Option Shape) (i : ℕ) (datagram : List ℕ) → cut_of plan.carry (length packet) ≡ cut → IsDatagramOf cut (sequence_number plan t) packet i datagram
-      → Carries plan.carry (sequence_number plan t) packet i datagram
+      → CarriesPacket plan.carry (sequence_number plan t) packet i datagram
   carried None i datagram same itself =
-      subst (λ (d : List ℕ). Carries plan.carry (sequence_number plan t) packet i d) (sym itself) (carries_whole plan.carry (sequence_number plan t) i packet same)
+      subst (λ (d : List ℕ). CarriesPacket plan.carry (sequence_number plan t) packet i d) (sym itself) (carries_whole plan.carry (sequence_number plan t) i packet same)
   carried (Some shape) i datagram same fragment = carries_cut plan.carry (sequence_number plan t) i packet datagram shape same fragment
 
   datagram_at : (cut : Option Shape) (i : ℕ) (datagram : List ℕ) → cut_of plan.carry (length packet) ≡ cut → i < count_of cut → IsDatagramOf cut (sequence_number plan t) packet i datagram
@@ -69,9 +69,9 @@ module _ (plan : Plan) (t : ℕ) (packet : List ℕ) (is : IsPacketAt plan t pac
 
   -- some of them
   sent_part : (cut : Option Shape) (a b : Known Traffic) → cut_of plan.carry (length packet) ≡ cut → SentSome cut (sequence_number plan t) packet a b
-      → Transmits a b (SendsPartOfFrame plan t)
+      → LinkTransmits a b (SendsPartOfFrame plan t)
   sent_part cut a b same (datagrams, each, fewer, next, is_next, sent) =
-      Transmits-weaker (λ x y. SendsNoMore datagrams x y × Waits (replicate (length datagrams) 0) 0 x y) (SendsPartOfFrame plan t) a b sent
+      Transmits-weaker (λ x y. SendsNoMore datagrams x y × WaitsBetween (replicate (length datagrams) 0) 0 x y) (SendsPartOfFrame plan t) a b sent
       (λ x y both. (
         length datagrams,
         next,
@@ -88,6 +88,6 @@ module _ (plan : Plan) (t : ℕ) (packet : List ℕ) (is : IsPacketAt plan t pac
   answers_whole cut (Err fault) a b same sent = tt
 
   pub answers_part : (cut : Option Shape) (result : Result ℕ LinkFault) (a b : Known Traffic) → cut_of plan.carry (length packet) ≡ cut
-      → OnErr result (SentSome cut (sequence_number plan t) packet a b) → OnErr result (Transmits a b (SendsPartOfFrame plan t))
+      → OnErr result (SentSome cut (sequence_number plan t) packet a b) → OnErr result (LinkTransmits a b (SendsPartOfFrame plan t))
   answers_part cut (Ok n) a b same sent = tt
   answers_part cut (Err fault) a b same sent = sent_part cut a b same sent

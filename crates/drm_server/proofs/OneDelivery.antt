@@ -8,7 +8,7 @@ use Rattle.dcp_pft.specs.declared.carry.Carry.TheVariants.{Plain, Pft}
 use Rattle.drm_schedule.specs.declared.plan.Plan.{Plan}
 use Rattle.dcp_pft.specs.Laws.{OneFragment}
 use Rattle.drm_timeline.specs.Numbers.{frame_count, sequence_number}
-use Rattle.dcp_pft.specs.Carrying.{Carries, datagram_count}
+use Rattle.dcp_pft.specs.Carrying.{CarriesPacket, datagram_count}
 use Rattle.drm_server.specs.Datagrams.{HasDatagrams, IsDatagramAt, AreFirst, AreOfFrame, AreOfFrames, AreDatagrams, AreBefore}
 use Rattle.drm_server.specs.Capture.{IsCapture}
 use Rattle.drm_server.proofs.OnePacket.{one_packet, some_bytes}
@@ -55,7 +55,7 @@ frames_split plan from t (suc n) datagrams l (before, of_frame, are, is, same) =
     (cases_lt t n)
 
 module _ (one_fragment : OneFragment) where
-  one_carried : (carry : Carry) (seq i : ℕ) (packet datagram other : List ℕ) → 1 ≤ length packet → Carries carry seq packet i datagram → Carries carry seq packet i other → datagram ≡ other
+  one_carried : (carry : Carry) (seq i : ℕ) (packet datagram other : List ℕ) → 1 ≤ length packet → CarriesPacket carry seq packet i datagram → CarriesPacket carry seq packet i other → datagram ≡ other
   one_carried Plain seq i packet datagram other some x y = x ∙ sym y
   one_carried (Pft m mtu) seq i packet datagram other some x y = one_fragment m mtu seq i packet other datagram some y x
 
@@ -63,7 +63,7 @@ module _ (one_fragment : OneFragment) where
   one_datagram plan t i datagram other x y =
       let seq : ℕ = sequence_number plan t in
       let same : x.packet ≡ y.packet = one_packet plan t x.packet y.packet x.is_packet y.is_packet in
-      one_carried plan.carry seq i y.packet datagram other (some_bytes plan t y.packet y.is_packet) (subst (λ (p : List ℕ). Carries plan.carry seq p i datagram) same x.is) y.is
+      one_carried plan.carry seq i y.packet datagram other (some_bytes plan t y.packet y.is_packet) (subst (λ (p : List ℕ). CarriesPacket plan.carry seq p i datagram) same x.is) y.is
 
   one_first : (plan : Plan) (t i : ℕ) (datagrams others : List (List ℕ)) → AreFirst plan t i datagrams → AreFirst plan t i others → datagrams ≡ others
   one_first plan t zero datagrams others x y = x ∙ sym y

@@ -3,14 +3,14 @@ use Rattle.std.proofs.Common.{◌≡◌, ◌+◌, ◌%◌, ◌^◌, ◌<◌, ℕ
 use Rattle.drm_links.specs.Told.{Known}
 use Rattle.drm_links.specs.Link.{Traffic}
 use Rattle.drm_links.specs.Sink.{Output, Outputs}
-use Rattle.drm_links.specs.Transmission.{Transmits}
+use Rattle.drm_links.specs.Transmission.{LinkTransmits}
 use Rattle.drm_links.proofs.ToldLemmas.{Outputs-weaker}
 use Rattle.drm_links.proofs.TransmissionLemmas.{Transmits-weaker}
 use Rattle.drm_schedule.specs.declared.live.Live.{Live}
 use Rattle.drm_schedule.specs.declared.plan.Plan.{Plan}
 use Rattle.drm_schedule.specs.Valid.{IsSchedule}
 use Rattle.dcp_pft.specs.declared.carry.Carry.{Carry}
-use Rattle.dcp_pft.specs.Carrying.{datagram_count, Carries}
+use Rattle.dcp_pft.specs.Carrying.{datagram_count, CarriesPacket}
 use Rattle.drm_timeline.specs.Numbers.{frame_count, sequence_number}
 use Rattle.live_streams.specs.Live.{Given, AreWhole, piece_at, live_schedule}
 use Rattle.live_streams.proofs.FrameLemmas.{same_carry, same_seq}
@@ -59,8 +59,8 @@ module _ (server : Serving) (plan : Plan) (has : HasFrame server plan) where
         packet = d.packet;
         is_packet = has.packet d.packet d.is_packet;
         within = subst (λ (c : Carry). i < datagram_count c (length d.packet)) (sym has.carry) d.within;
-        is = subst (λ (n : ℕ). Carries plan.carry n d.packet i datagram) number
-            (subst (λ (c : Carry). Carries c (sequence_number server.plan t) d.packet i datagram) (sym has.carry) d.is);
+        is = subst (λ (n : ℕ). CarriesPacket plan.carry n d.packet i datagram) number
+            (subst (λ (c : Carry). CarriesPacket c (sequence_number server.plan t) d.packet i datagram) (sym has.carry) d.is);
       }
 
   pub same_first : (i : ℕ) (datagrams : List (List ℕ)) → AreFirst server.plan t i datagrams → AreFirst plan t i datagrams
@@ -74,7 +74,7 @@ module _ (server : Serving) (plan : Plan) (has : HasFrame server plan) where
   pub same_sent : (n : ℕ) (before after : Known Traffic) → SentFrame server.plan t n before after → SentFrame plan t n before after
   same_sent n before after (datagrams, are, size, sent) = (datagrams, same_of_frame datagrams are, size, sent)
 
-  pub same_part : (before after : Known Traffic) → Transmits before after (SendsPartOfFrame server.plan t) → Transmits before after (SendsPartOfFrame plan t)
+  pub same_part : (before after : Known Traffic) → LinkTransmits before after (SendsPartOfFrame server.plan t) → LinkTransmits before after (SendsPartOfFrame plan t)
   same_part before after sent =
       Transmits-weaker (SendsPartOfFrame server.plan t) (SendsPartOfFrame plan t) before after sent
       (λ x y (i, next, datagrams, stand, none, waits). (i, next, datagrams, (same_datagram i next stand.0, same_first i datagrams stand.1), none, waits))

@@ -5,7 +5,7 @@ use Rattle.dcp_pft.specs.Limits.{most_fragments}
 use Rattle.drm_links.specs.Told.{Known, HasFailed}
 use Rattle.drm_links.specs.Link.{Traffic}
 use Rattle.drm_links.specs.ManyCalls.{MakesCalls}
-use Rattle.drm_links.specs.Transmission.{Transmits, SendsAll, Waits}
+use Rattle.drm_links.specs.Transmission.{LinkTransmits, SendsAll, WaitsBetween}
 use Rattle.drm_links.proofs.ToldLemmas.{once_then}
 use Rattle.drm_links.proofs.TransmissionLemmas.{Transmits-nothing, Transmits-no_wait}
 use Rattle.drm_links.proofs.ManyCallsLemmas.{no_calls, more_calls, at_most}
@@ -27,26 +27,26 @@ calls traffic = traffic.calls
 
 -- what a rest before a frame is that is sent behind n others
 pub record Rested (pace n : ℕ) (b m : Known Traffic) : Type 0 where
-  pub none : Transmits b m (SendsAll [])
-  pub waits : Transmits b m (Waits [] (pause pace n))
-  pub counted : Transmits b m (MadeCalls (rests_before pace n))
+  pub none : LinkTransmits b m (SendsAll [])
+  pub waits : LinkTransmits b m (WaitsBetween [] (pause pace n))
+  pub counted : LinkTransmits b m (MadeCalls (rests_before pace n))
   pub calls : MakesCalls (λ (traffic : Traffic). traffic.calls) 1 b m
   pub same : m.faults ≡ b.faults
 
 -- what is known of a frame of which n datagrams were sent
 pub record SentOne (plan : Plan) (t n : ℕ) (m c : Known Traffic) : Type 0 where
   pub whole : SentFrame plan t n m c
-  pub waited : Transmits m c (Waits (replicate n 0) 0)
+  pub waited : LinkTransmits m c (WaitsBetween (replicate n 0) 0)
   pub some : 1 ≤ n
-  pub counted : Transmits m c (MadeCalls n)
+  pub counted : LinkTransmits m c (MadeCalls n)
   pub same : c.faults ≡ m.faults
   pub calls : MakesCalls (λ (traffic : Traffic). traffic.calls) most_fragments m c
 
 module _ (plan : Plan) (first pace n : ℕ) (a b m c : Known Traffic) (s : SentFrames plan first pace n a b) (r : Rested pace n b m) where
-  rested : Transmits a m (SendsAll s.datagrams)
+  rested : LinkTransmits a m (SendsAll s.datagrams)
   rested = then_rested s.datagrams a b m s.sent r.none
 
-  paused : Transmits a m (Waits s.waits (pause pace n))
+  paused : LinkTransmits a m (WaitsBetween s.waits (pause pace n))
   paused = then_paused s.waits (pause pace n) a b m s.waited r.waits
 
   so_many : MakesCalls (λ (traffic : Traffic). traffic.calls) most_fragments m c → MakesCalls (λ (traffic : Traffic). traffic.calls) (calls_of_frame * n + 1 + most_fragments) a c
@@ -76,7 +76,7 @@ module _ (plan : Plan) (first pace n : ℕ) (a b m c : Known Traffic) (s : SentF
       }
 
   -- a frame of which the link took a part
-  pub cut_off : first + n < frame_count plan → Transmits m c (SendsPartOfFrame plan (first + n)) → HasFailed m c
+  pub cut_off : first + n < frame_count plan → LinkTransmits m c (SendsPartOfFrame plan (first + n)) → HasFailed m c
       → MakesCalls (λ (traffic : Traffic). traffic.calls) most_fragments m c → SentPart plan first pace a c
   cut_off within part once many =
       let few : calls_of_frame * n + 1 + most_fragments ≤ calls_of_frame * frame_count plan = omega (arith, within) in
@@ -97,7 +97,7 @@ nothing_yet plan first pace a =
       waits = [];
       paced = paced_none pace plan first;
       waited = Transmits-no_wait a;
-      counted = subst (λ k. Transmits a a (MadeCalls k)) (no_rests pace) (made_none a);
+      counted = subst (λ k. LinkTransmits a a (MadeCalls k)) (no_rests pace) (made_none a);
       same = refl;
       calls = subst (λ k. MakesCalls (λ (traffic : Traffic). traffic.calls) k a a) (sym none) (no_calls calls a);
     }

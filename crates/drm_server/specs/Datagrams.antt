@@ -2,7 +2,7 @@
 use Rattle.std.specs.Prelude.{ℕ, zero, suc, ◌≡◌, ◌+◌, ◌-◌, ◌<◌, List, [], ◌∷◌, ◌++◌, length}
 use Rattle.drm_schedule.specs.declared.plan.Plan.{Plan}
 use Rattle.drm_timeline.specs.Numbers.{frame_count, sequence_number}
-use Rattle.dcp_pft.specs.Carrying.{datagram_count, Carries}
+use Rattle.dcp_pft.specs.Carrying.{datagram_count, CarriesPacket}
 use Rattle.drm_server.specs.Frames.{IsPacketAt}
 
 -- The packet of frame t is carried by so many datagrams.
@@ -20,7 +20,7 @@ pub record IsDatagramAt (plan : Plan) (t i : ℕ) (datagram : List ℕ) : Type 0
   pub packet : List ℕ
   pub is_packet : IsPacketAt plan t packet
   pub within : i < datagram_count plan.carry (length packet)
-  pub is : Carries plan.carry (sequence_number plan t) packet i datagram
+  pub is : CarriesPacket plan.carry (sequence_number plan t) packet i datagram
 
 -- the first i datagrams of frame t
 abbrev pub AreFirst : Plan → ℕ → ℕ → List (List ℕ) → Type 0

@@ -8,13 +8,13 @@ use Rattle.dcp_pft.specs.Limits.{most_packet}
 use Rattle.drm_server.specs.Datagrams.{AreOfFrame, AreFirst, HasDatagram, IsDatagramAt}
 
 -- What waited, and these bytes behind it, was written, but for what waits now.
-abbrev pub Gathers : List ℕ → List ℕ → List ℕ → Known Output → Known Output → Type 0
-Gathers waited bytes waits before after = Outputs before after (λ text. waited ++ bytes ≡ text ++ waits)
+abbrev pub GathersDatagrams : List ℕ → List ℕ → List ℕ → Known Output → Known Output → Type 0
+GathersDatagrams waited bytes waits before after = Outputs before after (λ text. waited ++ bytes ≡ text ++ waits)
 
 -- the bytes are datagram i of frame t
 abbrev pub GathersDatagram : Plan → ℕ → ℕ → List ℕ → List ℕ → Known Output → Known Output → Type 0
 GathersDatagram plan t i waited waits before after =
-    (datagram : List ℕ) × IsDatagramAt plan t i datagram × Gathers waited datagram waits before after
+    (datagram : List ℕ) × IsDatagramAt plan t i datagram × GathersDatagrams waited datagram waits before after
 
 -- a front of what waited, and of datagram i of frame t behind it
 abbrev pub IsFrontWithDatagram : Plan → ℕ → ℕ → List ℕ → List ℕ → Type 0
@@ -23,7 +23,7 @@ IsFrontWithDatagram plan t i waited text = (datagram : List ℕ) × IsDatagramAt
 -- the bytes are the datagrams of frame t
 abbrev pub GathersFrame : Plan → ℕ → List ℕ → List ℕ → Known Output → Known Output → Type 0
 GathersFrame plan t waited waits before after =
-    (datagrams : List (List ℕ)) × AreOfFrame plan t datagrams × Gathers waited (concat datagrams) waits before after
+    (datagrams : List (List ℕ)) × AreOfFrame plan t datagrams × GathersDatagrams waited (concat datagrams) waits before after
 
 -- a front of what waited, and of some first datagrams of frame t behind it
 abbrev pub IsFrontOfFrame : Plan → ℕ → List ℕ → List ℕ → Type 0
@@ -41,6 +41,6 @@ pub record HasPlace (plan : Plan) (t i waiting : ℕ) (bytes : List ℕ) : Type 
   pub room : waiting + most_packet plan.carry ≤ length bytes
 
 -- so many bytes wait in a room that has the longest datagram
-pub record Waits (waiting most : ℕ) (bytes : List ℕ) : Type 0 where
+pub record BytesWait (waiting most : ℕ) (bytes : List ℕ) : Type 0 where
   pub within : waiting ≤ length bytes
   pub room : most ≤ length bytes

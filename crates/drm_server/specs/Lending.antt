@@ -7,5 +7,5 @@ use Rattle.drm_server.specs.Serving.{Serving}
 use Rattle.drm_server.specs.contracts.server.Server.{the_row}
 
 -- the server is as it was
-abbrev pub Stays : MutBor Serving → Fml
-Stays server = Rests (the_row (record { mir = named 1; lft = [] })) server (λ after. after ≡ server.now)
+abbrev pub ServerStays : MutBor Serving → Fml
+ServerStays server = Rests (the_row (record { mir = named 1; lft = [] })) server (λ after. after ≡ server.now)

@@ -4,7 +4,7 @@ use Rattle.drm_schedule.specs.declared.plan.Plan.{Plan}
 use Rattle.drm_links.specs.Told.{Known, HasFailed}
 use Rattle.drm_links.specs.Link.{Traffic}
 use Rattle.drm_links.specs.ManyCalls.{MakesCalls}
-use Rattle.drm_links.specs.Transmission.{Transmits, SendsAll, Waits}
+use Rattle.drm_links.specs.Transmission.{LinkTransmits, SendsAll, WaitsBetween}
 use Rattle.dcp_sender.specs.Sending.{MadeCalls}
 use Rattle.link_group.specs.declared.member.Member.{Member}
 use Rattle.drm_timeline.specs.Numbers.{frame_count}
@@ -17,18 +17,18 @@ use Rattle.drm_server.specs.Sending.{SendsPart}
 pub record SentFrames (plan : Plan) (first pace n : ℕ) (start now : Known Traffic) : Type 0 where
   pub datagrams : List (List ℕ)
   pub are : AreOfFrames plan first n datagrams
-  pub sent : Transmits start now (SendsAll datagrams)
+  pub sent : LinkTransmits start now (SendsAll datagrams)
   pub waits : List ℕ
   pub paced : ArePaced pace plan first datagrams waits
-  pub waited : Transmits start now (Waits waits 0)
+  pub waited : LinkTransmits start now (WaitsBetween waits 0)
   -- one call for each datagram and, where there is a pace, for each rest between two frames
-  pub counted : Transmits start now (MadeCalls (length datagrams + rests_between pace n))
+  pub counted : LinkTransmits start now (MadeCalls (length datagrams + rests_between pace n))
   pub same : now.faults ≡ start.faults
   pub calls : MakesCalls (λ (traffic : Traffic). traffic.calls) (calls_of_frame * n) start now
 
 -- Some first ones of the schedule's from frame `first` on went over it, and then it failed: no call was made afterwards.
 pub record SentPart (plan : Plan) (first pace : ℕ) (start now : Known Traffic) : Type 0 where
-  pub part : Transmits start now (SendsPart plan first pace)
+  pub part : LinkTransmits start now (SendsPart plan first pace)
   pub once : HasFailed start now
   -- so few calls a frame that a link that tells will tell at the end
   pub calls : MakesCalls (λ (traffic : Traffic). traffic.calls) (calls_of_frame * frame_count plan) start now

@@ -4,7 +4,7 @@ ghost use Rattle.std.specs.Prelude.{ℕ, List, [], ◌≡◌, ◌<◌, ◌≤◌
 ghost use Rattle.dcp_pft.specs.Limits.{longest_packet, most_packet, most_fragments, most_parity};
 ghost use Rattle.drm_links.specs.Told.{HasCause};
 ghost use Rattle.drm_links.specs.ManyCalls.{MakesCalls};
-ghost use Rattle.drm_links.specs.Transmission.{Transmits, Waits};
+ghost use Rattle.drm_links.specs.Transmission.{LinkTransmits, WaitsBetween};
 ghost use Rattle.dcp_sender.specs.Sending.{MadeCalls};
 ghost use Rattle.drm_timeline.specs.Numbers as numbers;
 ghost use Rattle.drm_timeline.specs.Numbers.{packet_size};
@@ -133,8 +133,8 @@ impl<'a> Loaded<'a> {
     /// How many frames the schedule has.
     pub fn frames(&self) -> u32
         ensures frames { result ≡ numbers.frame_count self.now.base }
-        ensures some { 1 ≤ result }
-        ensures few { result ≤ 3000000 }
+        ensures at_least_one { 1 ≤ result }
+        ensures within_limit { result ≤ 3000000 }
     {
         frame_count(self.plan)
     }
@@ -186,7 +186,7 @@ impl<'a> Loaded<'a> {
     pub fn packet(&self) -> &[u8]
         ensures packet { IsPacketAt self.now.plan self.now.frame result.now }
         ensures len { length result.now ≡ packet_size self.now.plan self.now.frame }
-        ensures small { length result.now ≤ most_packet self.now.plan.carry }
+        ensures in_range { length result.now ≤ most_packet self.now.plan.carry }
         ensures within { length result.now ≤ longest_packet }
     {
         &self.buffer[..self.len]
@@ -195,8 +195,8 @@ impl<'a> Loaded<'a> {
     /// How many datagrams carry the packet: one, where it is carried whole, else its fragments.
     pub fn fragments(&self) -> u32
         ensures datagrams { HasDatagrams self.now.plan self.now.frame result }
-        ensures some { 1 ≤ result }
-        ensures few { result ≤ most_fragments }
+        ensures at_least_one { 1 ≤ result }
+        ensures within_limit { result ≤ most_fragments }
     {
         all_taken();
         datagrams(self.cut)
@@ -218,11 +218,11 @@ impl<'a> Loaded<'a> {
         requires { most_packet self.now.plan.carry ≤ length room.old }
         ensures whole { IfOk result (λ n. SentFrame self.now.plan self.now.frame n
             (L.known link.old) (L.known link.new)) }
-        ensures waits { IfOk result (λ n. Transmits (L.known link.old) (L.known link.new) (Waits (replicate n 0) 0)) }
-        ensures some { IfOk result (λ n. 1 ≤ n) }
-        ensures few { IfOk result (λ n. n ≤ most_fragments) }
-        ensures counted { IfOk result (λ n. Transmits (L.known link.old) (L.known link.new) (MadeCalls n)) }
-        ensures part { OnErr result (Transmits (L.known link.old) (L.known link.new)
+        ensures waits { IfOk result (λ n. LinkTransmits (L.known link.old) (L.known link.new) (WaitsBetween (replicate n 0) 0)) }
+        ensures at_least_one { IfOk result (λ n. 1 ≤ n) }
+        ensures within_limit { IfOk result (λ n. n ≤ most_fragments) }
+        ensures counted { IfOk result (λ n. LinkTransmits (L.known link.old) (L.known link.new) (MadeCalls n)) }
+        ensures part { OnErr result (LinkTransmits (L.known link.old) (L.known link.new)
             (SendsPartOfFrame self.now.plan self.now.frame)) }
         ensures cause { HasCause (L.known link.old) (L.known link.new) (IsErr result) }
         ensures idle { L.idles link.new ≡ L.idles link.old }
@@ -239,9 +239,9 @@ impl<'a> Loaded<'a> {
         requires within { HasDatagram self.now.plan self.now.frame i }
         requires room { most_packet self.now.plan.carry ≤ length into.old }
         ensures datagram { IsDatagramAt self.now.plan self.now.frame i (take result into.new) }
-        ensures small { result ≤ most_packet self.now.plan.carry }
+        ensures in_range { result ≤ most_packet self.now.plan.carry }
         ensures within { result ≤ longest_packet }
-        ensures long { length into.new ≡ length into.old }
+        ensures same_length { length into.new ≡ length into.old }
     {
         let packet = &self.buffer[..self.len];
         match self.cut {
@@ -259,7 +259,7 @@ fn write_front(bytes: &[u8], into: &mut [u8]) -> usize
     requires { length bytes.now ≤ length into.old }
     ensures front { take result into.new ≡ bytes.now }
     ensures len { result ≡ length bytes.now }
-    ensures long { length into.new ≡ length into.old }
+    ensures same_length { length into.new ≡ length into.old }
 {
     into[..bytes.len()].copy_from_slice(bytes);
     bytes.len()

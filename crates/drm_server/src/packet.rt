@@ -31,9 +31,9 @@ pub fn write_packet(
     requires room { length into.old ≡ longest_packet }
     ensures packet { IsPacketAt (live_schedule live.now (only_at t piece.now) plan.now) t (take result into.new) }
     ensures len { result ≡ packet_size plan.now t }
-    ensures small { result ≤ most_packet plan.now.carry }
+    ensures in_range { result ≤ most_packet plan.now.carry }
     ensures within { result ≤ longest_packet }
-    ensures some { 1 ≤ result }
+    ensures at_least_one { 1 ≤ result }
 {
     plan.always_valid();
     let len = write_first(plan, t, live, piece, &mut into[HEAD..], rooms);
@@ -54,7 +54,7 @@ fn write_first(
     requires room { longest_payload ≤ length room.old }
     ensures written { IsPayloadWith live.now piece.now plan.now t (take result room.new) }
     ensures len { result + 12 ≡ packet_size plan.now t }
-    ensures small { result + 12 ≤ most_packet plan.now.carry }
+    ensures in_range { result + 12 ≤ most_packet plan.now.carry }
     ensures within { result ≤ longest_payload }
     ensures room { length room.new ≡ length room.old }
 {

@@ -56,9 +56,9 @@ pub fn write_payload(
     requires piece { length piece.now ≡ piece_at live.now plan.now t }
     ensures written { IsPayloadWith live.now piece.now plan.now t (take result into.new) }
     ensures len { result + 12 ≡ packet_size plan.now t }
-    ensures small { result + 12 ≤ most_packet plan.now.carry }
+    ensures in_range { result + 12 ≤ most_packet plan.now.carry }
     ensures within { result ≤ longest_payload }
-    ensures long { length into.new ≡ longest_payload }
+    ensures length { length into.new ≡ longest_payload }
 {
     let config = config_of_frame(plan, t);
     // For its clauses alone: they say that all fits.
@@ -81,7 +81,7 @@ pub fn write_payload(
 
 // How many bytes there are. A function of its own, since behind the writer their number is known only in a call.
 fn total(bytes: &[u8; MOST_PAYLOAD]) -> usize
-    ensures all { result ≡ length bytes.now }
+    ensures whole_length { result ≡ length bytes.now }
     ensures known { result ≡ longest_payload }
 {
     bytes.len()
@@ -93,7 +93,7 @@ fn write_head(writer: &mut MdiWriter<'_>, plan: &Schedule, t: u32, config: &Conf
     requires fits { ConfigInLines config.now }
     ensures written { (fac : Fac) × (fac_of plan.now t ≡ Some fac)
         × IsHead ((plan.now.dlfc + t) % 2 ^ 32) fac (description_of config.now) config.now.mode (written writer.new) }
-    ensures left { length (behind writer.new) + head_length (length config.now.streams) ≡ length (behind writer.old) }
+    ensures remaining { length (behind writer.new) + head_length (length config.now.streams) ≡ length (behind writer.old) }
     ensures next { next writer.new ≡ sdc_ }
     ensures same_reference { lender writer.new ≡ lender writer.old }
 {
@@ -113,7 +113,7 @@ fn write_block_where(
     requires place { IsBefore sdc_ (if t % 3 == 0 then config.now.room + 11 else 0) writer.old }
     ensures written { (block : Option BlockBytes) × HasBlockWhere (t % 3 == 0) plan.now (t / 3) config.now.room block
         × (written writer.new ≡ written writer.old ++ spelling (block_pieces block)) }
-    ensures left { length (behind writer.new) + (if t % 3 == 0 then config.now.room + 11 else 0) ≡ length (behind writer.old) }
+    ensures remaining { length (behind writer.new) + (if t % 3 == 0 then config.now.room + 11 else 0) ≡ length (behind writer.old) }
     ensures from { sdc_ ≤ next writer.new }
     ensures to { next writer.new ≤ str 0 }
     ensures same_reference { lender writer.new ≡ lender writer.old }
@@ -135,7 +135,7 @@ fn write_block(
     requires place { IsBefore sdc_ (config.now.room + 11) writer.old }
     ensures written { (block : BlockBytes) × IsBlockAt plan.now sf config.now.room block
         × (written writer.new ≡ written writer.old ++ spelled (block_piece block.bits block.value)) }
-    ensures left { length (behind writer.new) + (config.now.room + 11) ≡ length (behind writer.old) }
+    ensures remaining { length (behind writer.new) + (config.now.room + 11) ≡ length (behind writer.old) }
     ensures next { next writer.new ≡ sdc_ + 1 }
     ensures same_reference { lender writer.new ≡ lender writer.old }
 {

@@ -4,7 +4,7 @@ ghost use Rattle.std.specs.Prelude.{ℕ, [], ◌≡◌, ◌+◌, ◌-◌, ◌<�
 ghost use Rattle.drm_links.specs.Told.{Known, HasCause};
 ghost use Rattle.drm_links.specs.Link.{Traffic};
 ghost use Rattle.drm_links.specs.ManyCalls.{MakesCalls};
-ghost use Rattle.drm_links.specs.Transmission.{Transmits, SendsAll, Waits};
+ghost use Rattle.drm_links.specs.Transmission.{LinkTransmits, SendsAll, WaitsBetween};
 ghost use Rattle.link_group.specs.Reaching.{AreUp};
 ghost use Rattle.link_group.specs.declared.member.Member.{Member};
 ghost use Rattle.drm_schedule.specs.declared.plan.Plan.{Plan};
@@ -82,9 +82,9 @@ fn serve_one<L: Link>(server: &mut Server<'_>, n: u32, member: &mut Member<L>, p
 
 // Rests before a frame that is sent behind n others, but not before the first one.
 fn rest_between<L: Link>(link: &mut L, n: u32, pace: u32)
-    ensures none { Transmits (L.known link.old) (L.known link.new) (SendsAll []) }
-    ensures waits { Transmits (L.known link.old) (L.known link.new) (Waits [] (pause pace n)) }
-    ensures rests { Transmits (L.known link.old) (L.known link.new) (MadeCalls (rests_before pace n)) }
+    ensures none { LinkTransmits (L.known link.old) (L.known link.new) (SendsAll []) }
+    ensures waits { LinkTransmits (L.known link.old) (L.known link.new) (WaitsBetween [] (pause pace n)) }
+    ensures rests { LinkTransmits (L.known link.old) (L.known link.new) (MadeCalls (rests_before pace n)) }
     ensures calls { MakesCalls (λ traffic. traffic.calls) 1 (L.known link.old) (L.known link.new) }
     ensures cause { (L.known link.new).faults ≡ (L.known link.old).faults }
     ensures idle { L.idles link.new ≡ L.idles link.old }
@@ -98,11 +98,11 @@ fn rest_between<L: Link>(link: &mut L, n: u32, pace: u32)
 fn send_frame<L: Link>(server: &mut Server<'_>, link: &mut L) -> Result<u64, LinkFault>
     ensures whole { IfOk result (λ n. SentFrame server.old.plan server.old.frame n
         (L.known link.old) (L.known link.new)) }
-    ensures waits { IfOk result (λ n. Transmits (L.known link.old) (L.known link.new) (Waits (replicate n 0) 0)) }
-    ensures some { IfOk result (λ n. 1 ≤ n) }
-    ensures few { IfOk result (λ n. n ≤ most_fragments) }
-    ensures counted { IfOk result (λ n. Transmits (L.known link.old) (L.known link.new) (MadeCalls n)) }
-    ensures part { OnErr result (Transmits (L.known link.old) (L.known link.new)
+    ensures waits { IfOk result (λ n. LinkTransmits (L.known link.old) (L.known link.new) (WaitsBetween (replicate n 0) 0)) }
+    ensures at_least_one { IfOk result (λ n. 1 ≤ n) }
+    ensures within_limit { IfOk result (λ n. n ≤ most_fragments) }
+    ensures counted { IfOk result (λ n. LinkTransmits (L.known link.old) (L.known link.new) (MadeCalls n)) }
+    ensures part { OnErr result (LinkTransmits (L.known link.old) (L.known link.new)
         (SendsPartOfFrame server.old.plan server.old.frame)) }
     ensures cause { HasCause (L.known link.old) (L.known link.new) (IsErr result) }
     ensures idle { L.idles link.new ≡ L.idles link.old }

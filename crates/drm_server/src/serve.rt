@@ -5,7 +5,7 @@ ghost use Rattle.drm_links.specs.Told.{HasCause};
 ghost use Rattle.drm_links.specs.Sink.{Outputs, IsFront};
 ghost use Rattle.dcp_pft.specs.Limits.{most_packet, most_fragments};
 ghost use Rattle.drm_server.specs.Capture.{IsCapture, IsFrontOfCapture, IsCount};
-ghost use Rattle.drm_server.specs.Gathering.{HasPlace, Waits, GathersDatagram, IsFrontWithDatagram, GathersFrame, IsFrontOfFrame, WroteFrame};
+ghost use Rattle.drm_server.specs.Gathering.{HasPlace, BytesWait, GathersDatagram, IsFrontWithDatagram, GathersFrame, IsFrontOfFrame, WroteFrame};
 
 use crate::Server;
 use crate::loaded::Loaded;
@@ -32,7 +32,7 @@ pub fn write_frame<O: Sink>(server: &mut Server<'_>, out: &mut O) -> Result<u64,
     ensures whole { IfOk result (λ n. WroteFrame server.old.plan server.old.frame n (O.known out.old) (O.known out.new)) }
     ensures front { OnErr result (Outputs (O.known out.old) (O.known out.new)
         (IsFrontOfFrame server.old.plan server.old.frame [])) }
-    ensures few { IfOk result (λ n. n ≤ most_fragments) }
+    ensures within_limit { IfOk result (λ n. n ≤ most_fragments) }
     ensures cause { HasCause (O.known out.old) (O.known out.new) (IsErr result) }
     ensures server { server.new ≡ server.old }
 {
@@ -49,9 +49,9 @@ fn write_loaded<O: Sink>(
     ensures whole { IfOk result (λ n. WroteFrame loaded.now.plan loaded.now.frame n (O.known out.old) (O.known out.new)) }
     ensures front { OnErr result (Outputs (O.known out.old) (O.known out.new)
         (IsFrontOfFrame loaded.now.plan loaded.now.frame [])) }
-    ensures few { IfOk result (λ n. n ≤ most_fragments) }
+    ensures within_limit { IfOk result (λ n. n ≤ most_fragments) }
     ensures cause { HasCause (O.known out.old) (O.known out.new) (IsErr result) }
-    ensures long { length room.new ≡ length room.old }
+    ensures same_length { length room.new ≡ length room.old }
 {
     let count = loaded.fragments();
     let waiting = gather_frame(loaded, room, 0, out)?;
@@ -74,7 +74,7 @@ fn serve<O: Sink>(
     ensures cause { HasCause (O.known out.old) (O.known out.new) (IsErr result) }
     ensures schedule { loaded.new.base ≡ loaded.old.base }
     ensures carry { loaded.new.plan.carry ≡ loaded.new.base.carry }
-    ensures long { length room.new ≡ length room.old }
+    ensures same_length { length room.new ≡ length room.old }
 {
     let mut waiting = 0;
     let mut written = 0;
@@ -102,8 +102,8 @@ fn gather_frame<O: Sink>(
         (take waiting room.old) (take n room.new) (O.known out.old) (O.known out.new)) }
     ensures front { OnErr result (Outputs (O.known out.old) (O.known out.new)
         (IsFrontOfFrame loaded.now.plan loaded.now.frame (take waiting room.old))) }
-    ensures left { IfOk result (λ n. n + most_packet loaded.now.plan.carry ≤ length room.new) }
-    ensures long { length room.new ≡ length room.old }
+    ensures remaining { IfOk result (λ n. n + most_packet loaded.now.plan.carry ≤ length room.new) }
+    ensures same_length { length room.new ≡ length room.old }
     ensures cause { HasCause (O.known out.old) (O.known out.new) (IsErr result) }
 {
     let mut waiting = waiting;
@@ -126,8 +126,8 @@ fn gather<O: Sink>(
         (take waiting room.old) (take n room.new) (O.known out.old) (O.known out.new)) }
     ensures front { OnErr result (Outputs (O.known out.old) (O.known out.new)
         (IsFrontWithDatagram loaded.now.plan loaded.now.frame i (take waiting room.old))) }
-    ensures left { IfOk result (λ n. n + most_packet loaded.now.plan.carry ≤ length room.new) }
-    ensures long { length room.new ≡ length room.old }
+    ensures remaining { IfOk result (λ n. n + most_packet loaded.now.plan.carry ≤ length room.new) }
+    ensures same_length { length room.new ≡ length room.old }
     ensures cause { HasCause (O.known out.old) (O.known out.new) (IsErr result) }
 {
     let waiting = waiting + loaded.write_datagram(i, &mut room[waiting..]);
@@ -142,11 +142,11 @@ fn pass_on<O: Sink>(
     most: usize,
     out: &mut O,
 ) -> Result<usize, WriteFault>
-    requires { Waits waiting most room.now }
+    requires { BytesWait waiting most room.now }
     ensures whole { IfOk result (λ n. Outputs (O.known out.old) (O.known out.new)
         (λ text. take waiting room.now ≡ text ++ take n room.now)) }
     ensures front { OnErr result (Outputs (O.known out.old) (O.known out.new) (IsFront (take waiting room.now))) }
-    ensures left { IfOk result (λ n. n + most ≤ length room.now) }
+    ensures remaining { IfOk result (λ n. n + most ≤ length room.now) }
     ensures cause { HasCause (O.known out.old) (O.known out.new) (IsErr result) }
 {
     if room.len() - waiting >= most {

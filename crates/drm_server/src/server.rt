@@ -8,7 +8,7 @@ ghost use Rattle.live_streams.specs.Live.{piece_at, live_schedule};
 ghost use Rattle.drm_server.specs.Serving.{only_at};
 ghost use Rattle.drm_server.specs.Frames.{IsPacketAt};
 ghost use Rattle.drm_server.specs.Datagrams.{HasDatagrams, HasDatagram, IsDatagramAt};
-ghost use Rattle.drm_server.specs.Lending.{Stays};
+ghost use Rattle.drm_server.specs.Lending.{ServerStays};
 
 use crate::loaded::Loaded;
 use dcp_pft::{LONGEST_PACKET, most_packet};
@@ -70,8 +70,8 @@ impl<'a> Server<'a> {
     /// How many frames there are.
     pub fn frames(&self) -> u32
         ensures frames { result ≡ frame_count self.now.base }
-        ensures some { 1 ≤ result }
-        ensures few { result ≤ 3000000 }
+        ensures at_least_one { 1 ≤ result }
+        ensures within_limit { result ≤ 3000000 }
     {
         self.loaded.frames()
     }
@@ -108,7 +108,7 @@ impl<'a> Server<'a> {
     pub fn packet(&self) -> &[u8]
         ensures packet { IsPacketAt self.now.plan self.now.frame result.now }
         ensures len { length result.now ≡ packet_size self.now.plan self.now.frame }
-        ensures small { length result.now ≤ most_packet self.now.plan.carry }
+        ensures in_range { length result.now ≤ most_packet self.now.plan.carry }
         ensures within { length result.now ≤ longest_packet }
     {
         self.loaded.packet()
@@ -117,8 +117,8 @@ impl<'a> Server<'a> {
     /// How many datagrams carry the packet: one, where it is carried whole, else its fragments.
     pub fn fragments(&self) -> u32
         ensures datagrams { HasDatagrams self.now.plan self.now.frame result }
-        ensures some { 1 ≤ result }
-        ensures few { result ≤ most_fragments }
+        ensures at_least_one { 1 ≤ result }
+        ensures within_limit { result ≤ most_fragments }
     {
         self.loaded.fragments()
     }
@@ -126,9 +126,9 @@ impl<'a> Server<'a> {
     /// The datagram with this number, from 0, of the frame that is loaded.
     pub fn datagram(&mut self, i: u32) -> &[u8]
         requires within { HasDatagram self.old.plan self.old.frame i }
-        ensures* after { sem 𝓛 (Stays self.entry) }
+        ensures* after { sem 𝓛 (ServerStays self.entry) }
         ensures datagram { IsDatagramAt self.old.plan self.old.frame i result.now }
-        ensures small { length result.now ≤ most_packet self.old.plan.carry }
+        ensures in_range { length result.now ≤ most_packet self.old.plan.carry }
         ensures within { length result.now ≤ longest_packet }
     {
         if self.loaded.is_whole() {

@@ -30,7 +30,7 @@ pub fn write_streams(
     requires piece { length piece.now ≡ size_from live.now 0 streams.now }
     ensures written { written writer.new ≡ written writer.old
         ++ spelling (stream_pieces 0 (streams_with live.now (Some piece.now) (map (stream_bytes frame) streams.now))) }
-    ensures left { length (behind writer.new) + sum_by (λ s. 8 + stream_size s) streams.now ≡ length (behind writer.old) }
+    ensures remaining { length (behind writer.new) + sum_by (λ s. 8 + stream_size s) streams.now ≡ length (behind writer.old) }
     ensures same_reference { lender writer.new ≡ lender writer.old }
 {
     let mut left = piece;
@@ -49,7 +49,7 @@ fn write_live<'p>(writer: &mut MdiWriter<'_>, k: u8, stream: &Stream, piece: &'p
     requires fits { StreamInLines stream.now }
     requires enough { stream_size stream.now ≤ length piece.now }
     ensures written { written writer.new ≡ written writer.old ++ spelled (whole (str k) (take (stream_size stream.now) piece.now)) }
-    ensures left { length (behind writer.new) + (8 + stream_size stream.now) ≡ length (behind writer.old) }
+    ensures remaining { length (behind writer.new) + (8 + stream_size stream.now) ≡ length (behind writer.old) }
     ensures next { next writer.new ≡ str k + 1 }
     ensures same_reference { lender writer.new ≡ lender writer.old }
     ensures rest { result.now ≡ drop (stream_size stream.now) piece.now }
@@ -71,7 +71,7 @@ fn write_stream(
     requires place { IsBeforeStream k (8 + stream_size stream.now) writer.old }
     requires ready { IsReady frame stream.now }
     ensures written { written writer.new ≡ written writer.old ++ spelled (whole (str k) (stream_bytes frame stream.now)) }
-    ensures left { length (behind writer.new) + (8 + stream_size stream.now) ≡ length (behind writer.old) }
+    ensures remaining { length (behind writer.new) + (8 + stream_size stream.now) ≡ length (behind writer.old) }
     ensures next { next writer.new ≡ str k + 1 }
     ensures same_reference { lender writer.new ≡ lender writer.old }
 {
@@ -86,10 +86,10 @@ fn write_stream(
 
 // Writes one byte so many times.
 fn write_fill(writer: &mut MdiWriter<'_>, k: u8, byte: u8, size: usize, room: &mut [u8; MOST])
-    requires few { size ≤ 8190 }
+    requires within_limit { size ≤ 8190 }
     requires place { IsBeforeStream k (8 + size) writer.old }
     ensures written { written writer.new ≡ written writer.old ++ spelled (whole (str k) (replicate size byte)) }
-    ensures left { length (behind writer.new) + (8 + size) ≡ length (behind writer.old) }
+    ensures remaining { length (behind writer.new) + (8 + size) ≡ length (behind writer.old) }
     ensures next { next writer.new ≡ str k + 1 }
     ensures same_reference { lender writer.new ≡ lender writer.old }
 {

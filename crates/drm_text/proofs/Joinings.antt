@@ -6,12 +6,12 @@ use Rattle.std.specs.Str.{IsUtf8}
 use Rattle.drm_text.specs.declared.gather.SegmentRoom.{SegmentRoom}
 use Rattle.drm_text.specs.declared.message.MessageRoom.{MessageRoom}
 use Rattle.drm_text.specs.Segment.{Segment}
-use Rattle.drm_text.specs.Joining.{State, Gathered, Fills, gather, segment_after, Reads, ReadsIn, begun_after, begun_by, after, Gives}
+use Rattle.drm_text.specs.Joining.{State, Gathered, Fills, gather, segment_after, ReadsSegment, ReadsIn, begun_after, begun_by, after, GivesMessage}
 use Rattle.drm_text.specs.Rooms.{segment_in, begun_in, front_of}
-use Rattle.drm_text.specs.Taking.{TookSegment, text_of, Tells}
+use Rattle.drm_text.specs.Taking.{TookSegment, text_of, GivesOfPiece}
 use Rattle.drm_text.proofs.Spellings.{one_segment}
 
-pub one_read : (bytes : List ℕ) (q r : Option Segment) → Reads bytes q → Reads bytes r → q ≡ r
+pub one_read : (bytes : List ℕ) (q r : Option Segment) → ReadsSegment bytes q → ReadsSegment bytes r → q ≡ r
 one_read bytes None None h k = refl
 one_read bytes None (Some s) h k = absurd (h s k)
 one_read bytes (Some s) None h k = absurd (k s h)
@@ -37,14 +37,14 @@ full_leaves s segment left old new piece bytes len view is segment_is took =
     subst (λ (t : State). Leaves t piece (state_of left new)) view here
 
 pub full_tells : (s : State) (segment : SegmentRoom) (old new : MessageRoom) (piece bytes : List ℕ) (len : Option ℕ) (result : Option (Bor (List ℕ))) → state_of segment old ≡ s
-    → gather (segment_in segment) piece ≡ Fills bytes → TookSegment bytes old len new → Gives (front_of new.text len) (text_of result) → Tells s piece result
+    → gather (segment_in segment) piece ≡ Fills bytes → TookSegment bytes old len new → GivesMessage (front_of new.text len) (text_of result) → GivesOfPiece s piece result
 full_tells s segment old new piece bytes len result view is took gives =
     let R : Gathered → Type 0 = λ x. ReadsIn x took.read in
-    let G : Option (List ℕ) → Type 0 = λ w. Gives w (text_of result) in
-    subst (λ (t : State). Tells t piece result) view (took.read, subst R (sym is) took.reads, subst G took.whole gives)
+    let G : Option (List ℕ) → Type 0 = λ w. GivesMessage w (text_of result) in
+    subst (λ (t : State). GivesOfPiece t piece result) view (took.read, subst R (sym is) took.reads, subst G took.whole gives)
 
 -- the text that is lent of these bytes
-pub gives_text : (bytes front : List ℕ) (r : Option (Bor (List ℕ))) → front ≡ bytes → IsSome r ↔ IsUtf8 front → IfSome r (λ t. t.now ≡ front) → Gives (Some bytes) (text_of r)
+pub gives_text : (bytes front : List ℕ) (r : Option (Bor (List ℕ))) → front ≡ bytes → IsSome r ↔ IsUtf8 front → IfSome r (λ t. t.now ≡ front) → GivesMessage (Some bytes) (text_of r)
 gives_text bytes front None is utf8 text =
     let none : Option (List ℕ) = None in
     let P : List ℕ → Type 0 = λ l. IsSome none ↔ IsUtf8 l in

@@ -75,13 +75,13 @@ abbrev pub whole : Segment → Option (List ℕ) → Option (List ℕ)
 whole s bytes = if s.last then bytes else None
 
 -- the bytes are this segment, or no segment
-abbrev pub Reads : List ℕ → Option Segment → Type 0
-Reads bytes None = (s : Segment) → IsSegment s bytes → ⊥
-Reads bytes (Some s) = IsSegment s bytes
+abbrev pub ReadsSegment : List ℕ → Option Segment → Type 0
+ReadsSegment bytes None = (s : Segment) → IsSegment s bytes → ⊥
+ReadsSegment bytes (Some s) = IsSegment s bytes
 
 -- what is read of a piece: a segment where it is the last piece of one
 abbrev pub ReadsIn : Gathered → Option Segment → Type 0
-ReadsIn (Fills bytes) read = Reads bytes read
+ReadsIn (Fills bytes) read = ReadsSegment bytes read
 ReadsIn other read = read ≡ None
 
 -- the message that was begun, after a segment that was read or wasn't
@@ -107,6 +107,6 @@ whole_with b None = None
 whole_with b (Some s) = whole s (bytes_with b s)
 
 -- a message is given exactly where the bytes are UTF-8
-abbrev pub Gives : Option (List ℕ) → Option (List ℕ) → Type 0
-Gives None text = text ≡ None
-Gives (Some bytes) text = (IsSome text ↔ IsUtf8 bytes) × IfSome text (λ given. given ≡ bytes)
+abbrev pub GivesMessage : Option (List ℕ) → Option (List ℕ) → Type 0
+GivesMessage None text = text ≡ None
+GivesMessage (Some bytes) text = (IsSome text ↔ IsUtf8 bytes) × IfSome text (λ given. given ≡ bytes)

@@ -7,6 +7,6 @@ use Rattle.drm_text.specs.Joining.{State, gather, ReadsIn, after}
 use Rattle.drm_text.specs.contracts.joiner.TextJoiner.{the_row}
 
 -- the joiner after the piece, whatever it was read as
-abbrev pub Joins : List ℕ → MutBor State → Fml
-Joins piece joiner =
+abbrev pub JoinerAfterPiece : List ℕ → MutBor State → Fml
+JoinerAfterPiece piece joiner =
     Rests the_row joiner (λ left. (read : Option Segment) → ReadsIn (gather joiner.now.segment piece) read → left ≡ after joiner.now piece read)

@@ -30,7 +30,7 @@ abbrev pub front : Segment → List ℕ
 front s = head s ∷ 16 * s.number ∷ s.body
 
 -- The bytes are the segment, the check value of all before it, and zeros up to a multiple of four bytes.
-pub record Spells (s : Segment) (check : ℕ) (bytes : List ℕ) : Type 0 where
+pub record SpellsSegment (s : Segment) (check : ℕ) (bytes : List ℕ) : Type 0 where
   pub some : 1 ≤ length s.body
   pub few : length s.body ≤ most_body
   pub number : s.number < 16
@@ -39,4 +39,4 @@ pub record Spells (s : Segment) (check : ℕ) (bytes : List ℕ) : Type 0 where
 
 -- the bytes are this segment
 abbrev pub IsSegment : Segment → List ℕ → Type 0
-IsSegment s bytes = (check : ℕ) × Spells s check bytes
+IsSegment s bytes = (check : ℕ) × SpellsSegment s check bytes

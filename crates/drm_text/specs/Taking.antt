@@ -5,7 +5,7 @@ use Rattle.drm_text.specs.declared.joiner.TextJoiner.TheInside.{Inside}
 use Rattle.drm_text.specs.declared.message.MessageRoom.{MessageRoom}
 use Rattle.drm_text.specs.Segment.{Segment}
 use Rattle.drm_text.specs.Message.{most_message}
-use Rattle.drm_text.specs.Joining.{State, Reads, ReadsIn, gather, begun_after, whole_with, Gives}
+use Rattle.drm_text.specs.Joining.{State, ReadsSegment, ReadsIn, gather, begun_after, whole_with, GivesMessage}
 use Rattle.drm_text.specs.Rooms.{segment_in, begun_in, front_of, IsSegmentRoom, IsMessageRoom}
 
 abbrev pub state : Inside → State
@@ -18,7 +18,7 @@ pub record IsSound (j : Inside) : Type 0 where
 -- The bytes are this segment, or none, and the message was joined with it.
 pub record TookSegment (bytes : List ℕ) (old : MessageRoom) (len : Option ℕ) (new : MessageRoom) : Type 0 where
   pub read : Option Segment
-  pub reads : Reads bytes read
+  pub reads : ReadsSegment bytes read
   pub begun : begun_in new ≡ begun_after (begun_in old) read
   pub whole : front_of new.text len ≡ whole_with (begun_in old) read
   pub within : IfSome len (λ n. n ≤ most_message)
@@ -30,6 +30,6 @@ text_of None = None
 text_of (Some text) = Some text.now
 
 -- What a piece is read as is told: the message that is whole with it, if it is UTF-8, and else nothing.
-abbrev pub Tells : State → List ℕ → Option (Bor (List ℕ)) → Type 0
-Tells s piece result =
-    (read : Option Segment) × ReadsIn (gather s.segment piece) read × Gives (whole_with s.begun read) (text_of result)
+abbrev pub GivesOfPiece : State → List ℕ → Option (Bor (List ℕ)) → Type 0
+GivesOfPiece s piece result =
+    (read : Option Segment) × ReadsIn (gather s.segment piece) read × GivesMessage (whole_with s.begun read) (text_of result)

@@ -8,7 +8,7 @@ segment_of p =
     record { toggle = p.toggle; first = p.first; last = p.last; number = p.number; body = p.body.now }
 
 -- a segment that has a spelling
-pub record Fits (s : Segment) : Type 0 where
+pub record FitsSegment (s : Segment) : Type 0 where
   pub some : 1 ≤ length s.body
   pub few : length s.body ≤ most_body
   pub number : s.number < 16

@@ -83,8 +83,8 @@ fn is_start(piece: [u8; 4]) -> bool
 
 // Whether the first so many bytes are as many as the first of them says.
 fn is_complete(bytes: &[u8; 20], len: usize) -> bool
-    requires some { 4 ≤ len }
-    requires few { len ≤ 20 }
+    requires at_least_one { 4 ≤ len }
+    requires within_limit { len ≤ 20 }
     ensures { result ≡ all_there (take len bytes.now) }
 {
     let body = usize::from(bytes[0] % 16) + 1;

@@ -5,8 +5,8 @@ ghost use Rattle.std.specs.Str.{IsUtf8};
 ghost use Rattle.std.specs.Borrow.{sem};
 ghost use Rattle.drm_text.specs.Joining.{made};
 ghost use Rattle.drm_text.specs.Rooms.{IsMessageRoom};
-ghost use Rattle.drm_text.specs.Taking.{Tells, TookSegment};
-ghost use Rattle.drm_text.specs.Lending.{Joins};
+ghost use Rattle.drm_text.specs.Taking.{GivesOfPiece, TookSegment};
+ghost use Rattle.drm_text.specs.Lending.{JoinerAfterPiece};
 
 use crate::gather::{Gathered, SegmentRoom};
 use crate::message::MessageRoom;
@@ -44,8 +44,8 @@ impl TextJoiner {
 
     /// Takes a piece, and gives the message that is whole with it, if one is.
     pub fn piece(&mut self, piece: [u8; 4]) -> Option<&str>
-        ensures tells { Tells self.old piece result }
-        ensures* after { sem 𝓛 (Joins piece self.entry) }
+        ensures tells { GivesOfPiece self.old piece result }
+        ensures* after { sem 𝓛 (JoinerAfterPiece piece self.entry) }
     {
         match self.segment.take(piece) {
             Gathered::Start { breaks } => {

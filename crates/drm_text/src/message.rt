@@ -2,7 +2,7 @@
 
 ghost use Rattle.std.specs.Prelude.{◌≡◌, ◌+◌, ◌≤◌, ◌<◌, ◌++◌, List, ℕ, length, take, None, IfSome};
 ghost use Rattle.drm_text.specs.Message.{most_message};
-ghost use Rattle.drm_text.specs.Writing.{segment_of, Fits};
+ghost use Rattle.drm_text.specs.Writing.{segment_of, FitsSegment};
 ghost use Rattle.drm_text.specs.Joining.{bytes_with, going_on, whole};
 ghost use Rattle.drm_text.specs.Rooms.{begun_in, begun_of, body_from, front_of, IsMessageRoom};
 
@@ -40,7 +40,7 @@ impl MessageRoom {
     /// Takes a segment, and answers how many bytes the message has that is whole with it, if one is.
     pub(crate) fn join(&mut self, part: &Part<'_>) -> Option<usize>
         requires room { IsMessageRoom self.old }
-        requires fits { Fits (segment_of part.now) }
+        requires fits { FitsSegment (segment_of part.now) }
         ensures begun { begun_in self.new ≡ going_on (segment_of part.now) (bytes_with (begun_in self.old) (segment_of part.now)) }
         ensures whole { front_of self.new.text result ≡ whole (segment_of part.now) (bytes_with (begun_in self.old) (segment_of part.now)) }
         ensures within { IfSome result (λ len. len ≤ most_message) }
@@ -87,7 +87,7 @@ impl MessageRoom {
 // Where the bytes of a segment belong, if it is the next one of the message or begins one.
 fn place_of(begun: Option<Begun>, part: &Part<'_>) -> Option<usize>
     requires within { IfSome begun (λ b. b.len ≤ most_message) }
-    requires fits { Fits (segment_of part.now) }
+    requires fits { FitsSegment (segment_of part.now) }
     ensures place { (text : List ℕ) → length text ≡ most_message
         → body_from text part.now.body.now result ≡ bytes_with (begun_of text begun) (segment_of part.now) }
     ensures fits { IfSome result (λ at. at + length part.now.body.now ≤ most_message) }

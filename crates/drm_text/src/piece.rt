@@ -14,8 +14,8 @@ const SEGMENT_PIECES: usize = 6;
 
 /// Piece `k` of a message, from 0 on: none exactly past the last one. The toggle changes with each message.
 pub fn text_piece(message: &str, toggle: bool, k: usize) -> Option<[u8; 4]>
-    requires some { 1 ≤ length message.now }
-    requires few { length message.now ≤ most_message }
+    requires at_least_one { 1 ≤ length message.now }
+    requires within_limit { length message.now ≤ most_message }
     ensures { IsPieceOf toggle message.now k result }
 {
     let bytes = message.as_bytes();
@@ -39,7 +39,7 @@ pub fn text_piece(message: &str, toggle: bool, k: usize) -> Option<[u8; 4]>
 
 // A segment of a message.
 fn part_at(message: &[u8], toggle: bool, number: usize) -> Part<'_>
-    requires few { length message.now ≤ most_message }
+    requires within_limit { length message.now ≤ most_message }
     requires within { number * 16 < length message.now }
     ensures { segment_of result ≡ segment_at toggle message.now number }
 {

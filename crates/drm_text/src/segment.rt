@@ -2,7 +2,7 @@
 
 ghost use Rattle.std.specs.Prelude.{◌≡◌, ℕ, ◌+◌, ◌-◌, ◌≤◌, ◌++◌, length, take, replicate};
 ghost use Rattle.drm_text.specs.Segment.{head as head_byte, round_up, IsSegment};
-ghost use Rattle.drm_text.specs.Writing.{segment_of, Fits};
+ghost use Rattle.drm_text.specs.Writing.{segment_of, FitsSegment};
 
 use drm_bits::{crc16, put_at};
 
@@ -24,7 +24,7 @@ pub(crate) struct Part<'a> {
 
 /// Writes a segment, and answers how many bytes it has.
 pub(crate) fn write_segment(part: &Part<'_>, into: &mut [u8]) -> usize
-    requires fits { Fits (segment_of part.now) }
+    requires fits { FitsSegment (segment_of part.now) }
     requires room { 20 ≤ length into.old }
     ensures end { result ≡ round_up (length part.now.body.now) + 4 }
     ensures segment { IsSegment (segment_of part.now) (take result into.new) }
@@ -40,7 +40,7 @@ pub(crate) fn write_segment(part: &Part<'_>, into: &mut [u8]) -> usize
 }
 
 fn head_of(part: &Part<'_>) -> u8
-    requires { Fits (segment_of part.now) }
+    requires { FitsSegment (segment_of part.now) }
     ensures { result ≡ head_byte (segment_of part.now) }
 {
     0x80 * u8::from(part.toggle)

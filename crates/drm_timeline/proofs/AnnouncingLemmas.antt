@@ -22,7 +22,7 @@ use Rattle.drm_timeline.specs.Standing.{is_counting}
 use Rattle.drm_timeline.specs.FastAccess.{services_of}
 use Rattle.drm_timeline.specs.Description.{description_of, parameters_of}
 use Rattle.drm_timeline.specs.Announcing.{next, as_next, packed_in, announcement_of, left_in}
-use Rattle.drm_timeline.specs.Telling.{WroteEntities, Tells}
+use Rattle.drm_timeline.specs.Telling.{WroteEntities, BlockAnnounces}
 use Rattle.drm_timeline.proofs.PackedLemmas.{Packs, packs_none, packs_first, packs_all, room_all, some_next, sizes_as_next}
 
 -- the description of the streams, as the code asks for it
@@ -159,7 +159,7 @@ room_whole before c sf bits is room = omega (arith, room_same is, room)
 
 pub tells_whole : (before c : Config) (sf : ℕ) {n d : ℕ} {free : List ℕ} (s t : BitSink) → Computes before c sf n d free
     → (w : (entities : List Entity) × (announcement_of c ≡ Some entities) × WroteEntities (packed_in (sf - d) (take n free) front entities) s t × (total_size (packed_in (sf - d) (take n free) front entities) ≤ left_in (sf - d) (take n free) front))
-    → Tells before sf (Some c) s t
+    → BlockAnnounces before sf (Some c) s t
 tells_whole before c sf {n} {d} {free} s t is w =
     let here : List Entity = packed_in (sf - countdown_start c) (free_in_countdown before c) front w.0 in
     let same : packed_in (sf - d) (take n free) front w.0 ≡ here = ap (λ k. packed_in k (take n free) front w.0) (frame_same is) ∙ ap (λ l. packed_in (sf - countdown_start c) l front w.0) (free_same is) in

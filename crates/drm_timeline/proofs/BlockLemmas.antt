@@ -16,7 +16,7 @@ use Rattle.drm_schedule.specs.declared.plan.Plan.{Plan}
 use Rattle.drm_schedule.specs.Sizes.{HasRoom, free_bytes, told_size, size_if, tells_clock}
 use Rattle.drm_timeline.specs.Standing.{announced_in}
 use Rattle.drm_timeline.specs.Blocks.{told_in, entities_of}
-use Rattle.drm_timeline.specs.Telling.{WroteEntities, Tells}
+use Rattle.drm_timeline.specs.Telling.{WroteEntities, BlockAnnounces}
 use Rattle.drm_timeline.proofs.PackedLemmas.{size_append, wrote_both}
 use Rattle.drm_timeline.proofs.ToldLemmas.{own_size, own_room, bits_length}
 
@@ -27,7 +27,7 @@ pub record Filled (c : Config) (plan : Plan) (sf : ℕ) (s t : BitSink) : Type 0
   pub wrote : WroteEntities entities s t
   pub few : total_size entities ≤ c.room
 
-pub filled : (c : Config) (plan : Plan) (sf : ℕ) (s t u : BitSink) → 1 ≤ length c.blocks → HasRoom c → WroteEntities (told_in c sf) s t → Tells c sf (announced_in plan sf) t u → Filled c plan sf s u
+pub filled : (c : Config) (plan : Plan) (sf : ℕ) (s t u : BitSink) → 1 ≤ length c.blocks → HasRoom c → WroteEntities (told_in c sf) s t → BlockAnnounces c sf (announced_in plan sf) t u → Filled c plan sf s u
 filled c plan sf s t u some room told tells = record {
   entities = told_in c sf ++ tells.entities;
   are = ap (option_map (λ announced. told_in c sf ++ announced)) tells.are;

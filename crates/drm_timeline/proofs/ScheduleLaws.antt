@@ -9,7 +9,7 @@ use Rattle.drm_schedule.specs.Valid.{IsSchedule, AreFaultless}
 use Rattle.drm_reconfiguration.specs.declared.seen.Seen.{Seen}
 use Rattle.drm_reconfiguration.specs.declared.seen.Signature.{Signature}
 use Rattle.drm_timeline.specs.Standing.{index_of, frames_before}
-use Rattle.drm_reconfiguration.specs.Announced.{Announces, AreSent}
+use Rattle.drm_reconfiguration.specs.Announced.{IndexAnnounces, AreSent}
 use Rattle.drm_timeline.specs.Starts.{later_starts, signature_at, AnnouncesStarts, AreSeenOf, SwitchesOnlyAtStarts, SwitchesAtAllStarts, ResumesNowhere}
 use Rattle.drm_reconfiguration.proofs.AnnouncedLemmas.{only_at_starts, at_all_starts, none_resumed}
 use Rattle.drm_timeline.proofs.SignatureAtLemmas.{IsThere, there, signed_in, changes_in}
@@ -52,7 +52,7 @@ announces_starts plan is are =
 abbrev signature_or : Plan → Signature → ℕ → Signature
 signature_or plan other t = unwrap_or (signature_at plan t) other
 
-announces_or : (plan : Plan) (other : Signature) → AnnouncesStarts plan → Announces (index_of plan) (signature_or plan other) (later_starts plan)
+announces_or : (plan : Plan) (other : Signature) → AnnouncesStarts plan → IndexAnnounces (index_of plan) (signature_or plan other) (later_starts plan)
 announces_or plan other a =
     record { named = a.named; before = λ start is above. a.before start is; changes = λ t differ. a.changes t (λ same. differ (ap (λ o. unwrap_or o other) same)) }
 

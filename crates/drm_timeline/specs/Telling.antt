@@ -17,7 +17,7 @@ pub record WroteEntities (entities : List Entity) (old new : BitSink) : Type 0 w
   pub left : length (unwritten new) + 8 * total_size entities ≡ length (unwritten old)
 
 -- What the block of super frame sf tells of the configuration that is announced, within the free bytes.
-pub record Tells (before : Config) (sf : ℕ) (announced : Option Config) (old new : BitSink) : Type 0 where
+pub record BlockAnnounces (before : Config) (sf : ℕ) (announced : Option Config) (old new : BitSink) : Type 0 where
   pub entities : List Entity
   pub are : announced_by before sf announced ≡ Some entities
   pub written : WroteEntities entities old new

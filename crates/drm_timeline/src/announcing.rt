@@ -19,7 +19,7 @@ ghost use Rattle.drm_timeline.specs.Standing as standing;
 ghost use Rattle.drm_timeline.specs.FastAccess.{services_of};
 ghost use Rattle.drm_timeline.specs.Description.{description_of, parameters_of};
 ghost use Rattle.drm_timeline.specs.Announcing.{next, as_next, announcement_of, packed_in, left_in};
-ghost use Rattle.drm_timeline.specs.Telling.{WroteEntities, Tells};
+ghost use Rattle.drm_timeline.specs.Telling.{WroteEntities, BlockAnnounces};
 
 use crate::block_contents::description;
 use crate::fast_access::code;
@@ -35,7 +35,7 @@ pub fn write_announcement(sink: &mut BitSink<'_>, before: &Config, config: &Conf
     requires counting { standing.is_counting sf config.now ≡ true }
     requires can { announcement.can_be_announced before.now config.now ≡ true }
     requires room { 8 * free_bytes before.now sf ≤ length (unwritten sink.old) }
-    ensures told { Tells before.now sf (Some config.now) sink.old sink.new }
+    ensures told { BlockAnnounces before.now sf (Some config.now) sink.old sink.new }
 {
     let countdown = u32::from(config.countdown);
     let frame = (sf - config.start.saturating_sub(countdown)) as usize;

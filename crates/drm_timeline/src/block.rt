@@ -13,7 +13,7 @@ ghost use Rattle.drm_schedule.specs.Ranges.{ConfigInLines};
 ghost use Rattle.drm_schedule.specs.Sizes.{HasRoom, free_bytes, told_size, size_if, tells_clock};
 ghost use Rattle.drm_timeline.specs.Standing.{config_of, announced_in};
 ghost use Rattle.drm_timeline.specs.Blocks.{block_of, entities_of, told_in, clock_in};
-ghost use Rattle.drm_timeline.specs.Telling.{WroteEntities, Tells};
+ghost use Rattle.drm_timeline.specs.Telling.{WroteEntities, BlockAnnounces};
 
 use crate::announcing::write_announcement;
 use crate::block_contents::{description, moment};
@@ -60,7 +60,7 @@ fn write_announced(sink: &mut BitSink<'_>, plan: &Schedule, sf: u32, config: &Co
     requires config { config_of plan.now sf ≡ Some config.now }
     requires fits { ConfigInLines config.now }
     requires room { 8 * free_bytes config.now sf ≤ length (unwritten sink.old) }
-    ensures told { Tells config.now sf (announced_in plan.now sf) sink.old sink.new }
+    ensures told { BlockAnnounces config.now sf (announced_in plan.now sf) sink.old sink.new }
 {
     if let Some(next) = announced(plan, sf) {
         write_announcement(sink, config, next, sf);

@@ -59,7 +59,7 @@ fn last_started(configs: &[Config], sf: u32) -> Option<usize>
 /// announced; 0 where none is.
 pub fn index_at(plan: &Schedule, sf: u32) -> u8
     ensures index { result ≡ index_of plan.now sf }
-    ensures small { result < 8 }
+    ensures in_range { result < 8 }
 {
     match announced(plan, sf) {
         None => 0,

@@ -42,7 +42,7 @@ fn fac_under(config: &Config, index: u8, t: u32) -> Fac
 pub fn code(config: &Config) -> u8
     requires { IsSome (services_of config.now) }
     ensures code { Some result ≡ services_of config.now }
-    ensures small { result < 16 }
+    ensures in_range { result < 16 }
 {
     let (audio, data_count) = counts(config);
     match services_code(audio, data_count) {

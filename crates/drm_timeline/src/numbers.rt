@@ -15,8 +15,8 @@ use drm_schedule::{Config, Schedule};
 /// How many frames a schedule has.
 pub fn frame_count(plan: &Schedule) -> u32
     ensures count { result ≡ numbers.frame_count plan.now }
-    ensures some { 1 ≤ result }
-    ensures few { result ≤ 3000000 }
+    ensures at_least_one { 1 ≤ result }
+    ensures within_limit { result ≤ 3000000 }
 {
     plan.always_valid();
     3 * plan.length()
@@ -38,9 +38,9 @@ pub fn config_of_frame(plan: &Schedule, t: u32) -> &Config
 #[tactic(auto, unfolding(crate::specs::Numbers::packet_size))]
 pub fn packet_len(plan: &Schedule, t: u32) -> usize
     ensures len { result ≡ packet_size plan.now t }
-    ensures some { 1 ≤ result }
+    ensures at_least_one { 1 ≤ result }
     // The limit that a valid schedule keeps.
-    ensures small { result ≤ most_packet plan.now.carry }
+    ensures in_range { result ≤ most_packet plan.now.carry }
     ensures within { result ≤ longest_packet }
 {
     drm_schedule::packet_len(standing(plan, t / 3), t % 3 == 0) as usize

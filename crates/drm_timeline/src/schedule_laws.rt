@@ -15,7 +15,7 @@ pub fn starts_are_announced(plan: &Schedule)
 /// missing, each later start behind the first frame has its switch, and none is resumed.
 pub fn switches_are_at_starts(plan: &Schedule)
     ensures only { SwitchesOnlyAtStarts plan.now }
-    ensures all { SwitchesAtAllStarts plan.now }
+    ensures at_all_starts { SwitchesAtAllStarts plan.now }
     ensures never_resumed { ResumesNowhere plan.now }
 {
     starts_are_announced(plan);

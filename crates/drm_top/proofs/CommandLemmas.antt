@@ -1,6 +1,6 @@
 -- The ends of runs that tell of no frames.
 use Rattle.std.proofs.Common.{◌≡◌, ℕ, ◌⊎◌, inl, inr, Bool, List, true, false, [], Option, None, Some, Result, Ok, Err, refl, sym, ◌∙◌, ap, subst}
-use Rattle.drm_links.specs.Told.{Known, Counts, WhileTold, BothTold}
+use Rattle.drm_links.specs.Told.{Known, RisesWhere, IfBothKnown, IfBoth}
 use Rattle.drm_links.proofs.ToldLemmas.{counts_as}
 use Rattle.drm_links.specs.Dock.{DockContents}
 use Rattle.link_group.specs.Reaching.{NothingSent}
@@ -36,7 +36,7 @@ pub whole_lacks_none : (result : Result Bool Fault) (done : Result (Unit {0}) Fa
 whole_lacks_none result done whole is = lacks_none done (sym whole ∙ is)
 
 -- a count of a run that tells of no frames
-pub whole_cause : {a b : ℕ} (result : Result Bool Fault) (done : Result (Unit {0}) Fault) (fault : Fault) → result ≡ whole_of done → Counts a b (done ≡ Err fault) → Counts a b (result ≡ Err fault)
+pub whole_cause : {a b : ℕ} (result : Result Bool Fault) (done : Result (Unit {0}) Fault) (fault : Fault) → result ≡ whole_of done → RisesWhere a b (done ≡ Err fault) → RisesWhere a b (result ≡ Err fault)
 whole_cause result done fault whole cause = counts_as (fault_of_whole result done fault whole) (λ is. whole ∙ ap whole_of is) cause
 
 -- ---- a fault that is known by its status
@@ -49,10 +49,10 @@ module _ (code : ℕ) (fault : Fault) (status : code ≡ fault_status fault) (kn
   to_status is = status ∙ ap fault_status (inner_fault fault known is)
 
 -- a dock that is left alone
-pub dock_still : (a : Known DockContents) → WhileTold a a NothingSent
+pub dock_still : (a : Known DockContents) → IfBothKnown a a NothingSent
 dock_still a = still a.told
   where
-    still : (told : Option DockContents) → BothTold told told NothingSent
+    still : (told : Option DockContents) → IfBoth told told NothingSent
     still None = tt
     still (Some x) = ([], refl)
 

@@ -25,7 +25,7 @@ use Rattle.drm_top.specs.Outside.{Outside}
 use Rattle.drm_words.specs.declared.request.Request.{Request}
 use Rattle.drm_words.specs.declared.request.Request.TheVariants.{Receive, Air}
 use Rattle.drm_top.specs.Words.{options_of}
-use Rattle.drm_top.specs.Command.{CommandRun, Runs}
+use Rattle.drm_top.specs.Command.{CommandRun, RunsCommand}
 use Rattle.drm_top.specs.Headline.{WroteFeeds, HeadlineOfRun}
 
 -- ---- the three commands that report
@@ -85,12 +85,12 @@ module _ {S I O E D : Type 0} (clean told : Bool) (o : Outside S I O E D) where
       of_schedule name script window clean o.shelf.known o.shelf.before run.0.between o.shelf.after o.out.known o.out.before o.out.after run.0.came run.0.loads run.0.runs
   of_command _ run = tt
 
-  of_runs : (request : Request) → Runs request (Ok clean) told o → HeadlineOfRun request clean o
+  of_runs : (request : Request) → RunsCommand request (Ok clean) told o → HeadlineOfRun request clean o
   of_runs request (inl run) = of_command request run
   of_runs request (inr (memory, untouched, quiet)) = absurd (no_fault clean faults.NoMemory memory)
 
   -- whatever Bool has this status is the one with which the run ended
-  pub headline_of : (request : Request) (other : Bool) → clean_status clean ≡ clean_status other → Runs request (Ok clean) told o → HeadlineOfRun request other o
+  pub headline_of : (request : Request) (other : Bool) → clean_status clean ≡ clean_status other → RunsCommand request (Ok clean) told o → HeadlineOfRun request other o
   headline_of request other same runs = rw (← one_status clean other same) (of_runs request runs)
 
 -- the statuses 0 and 7 are those of no fault

@@ -94,14 +94,14 @@ abbrev pub IsUntouched : {S I O D : Type 0} → S → S → I → I → O → O 
 IsUntouched shelf shelf' input input' out out' dock dock' = (shelf' ≡ shelf) × (input' ≡ input) × (out' ≡ out) × (dock' ≡ dock)
 
 -- What comes of words that ask for this: a run of the command; or memory ran out while they were read, and nothing was touched.
-abbrev pub Runs : {S I O E D : Type 0} → Request → Result Bool Fault → Bool → Outside S I O E D → Type 0
-Runs request ending told o =
+abbrev pub RunsCommand : {S I O E D : Type 0} → Request → Result Bool Fault → Bool → Outside S I O E D → Type 0
+RunsCommand request ending told o =
     CommandRun request ending told o
     ⊎ ((ending ≡ Err NoMemory) × IsUntouched o.shelf.before o.shelf.after o.input.before o.input.after o.out.before o.out.after o.dock.before o.dock.after × IsQuiet told o.err.before o.err.after)
 
 -- How a run ends: its status, and the line of its fault on err, behind what the command has written there, unless err failed.
-abbrev pub Ends : {E : Type 0} → Result Bool Fault → Bool → ℕ → (E → Known Output) → E → E → Type 0
-Ends ending told code known err err' = (code ≡ report_status ending) × ReportsIf told (done_of ending) known err err'
+abbrev pub RunEnds : {E : Type 0} → Result Bool Fault → Bool → ℕ → (E → Known Output) → E → E → Type 0
+RunEnds ending told code known err err' = (code ≡ report_status ending) × ReportsIf told (done_of ending) known err err'
 
 -- a command that opens a link
 abbrev pub OpensALink : Request → Type 0

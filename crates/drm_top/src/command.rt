@@ -1,31 +1,31 @@
 //! The top call.
 
 ghost use Rattle.std.specs.Prelude.{◌≡◌, ◌≤◌, ◌⊎◌, map, string_bytes, Result, Ok, IsErrOf, Bool, true, false};
-ghost use Rattle.drm_links.specs.Told.{HasCause, WhileTold};
+ghost use Rattle.drm_links.specs.Told.{HasCause, IfBothKnown};
 ghost use Rattle.cmd_faults.specs.Causes.{OneFailed, OpeningFailed};
 ghost use Rattle.cmd_faults.specs.Lines.{fault_line};
 ghost use Rattle.cmd_faults.specs.Fault.{WritesLine, whole_of, clean_status};
 ghost use Rattle.link_group.specs.Reaching.{NothingSent};
-ghost use Rattle.drm_top.specs.Command.{CommandRun, Runs, Ends, IsQuiet, IsUntouched, OpensALink, WritesReport};
+ghost use Rattle.drm_top.specs.Command.{CommandRun, RunsCommand, RunEnds, IsQuiet, IsUntouched, OpensALink, WritesReport};
 ghost use Rattle.drm_top.specs.Headline.{HeadlineOfRun};
 ghost use Rattle.drm_top.specs.Outside.{outside};
 ghost use Rattle.drm_top.specs.Words.{AsksFor, AsksForNothing, IsInRange};
 ghost use Rattle.drm_words.specs.declared.request.Request.{Request};
 
 use crate::words::{options_of, text};
-use cmd_unpack::{texts, unpack};
-use cmd_pack::pack;
 use cmd_air::air;
 use cmd_convert::convert;
 use cmd_count::{count, count_capture};
 use cmd_exercise::exercise;
 use cmd_faults::Fault;
-use cmd_show::{fac, show};
-use drm_links::{Dock, Link, Shelf, Sink, Source, Status};
+use cmd_gate::gate;
+use cmd_pack::pack;
 use cmd_receive::{receive, receive_from_capture};
 use cmd_serve::{check, send, send_live, serve, serve_live};
+use cmd_show::{fac, show};
+use cmd_unpack::{texts, unpack};
+use drm_links::{Dock, Link, Shelf, Sink, Source, Status};
 use drm_words::{Request, WordsFault, read_words};
-use cmd_gate::gate;
 use std::alloc::Global;
 use std::thread::Threads;
 
@@ -59,12 +59,12 @@ where
     // Words that ask for a command are a run of it, or memory ran out while they were read. Each command has a record: what is
     // loaded, read, opened, written and sent, when each refusal comes, and that nothing is lost where nothing fails.
     ensures runs { (request : Request) → AsksFor request (map string_bytes words.now)
-        → (ending : Result Bool Fault) × (told : Bool) × (mid : E) × Ends ending told result.code E.known mid err.new
-        × Runs request ending told (outside S.known shelf.old shelf.new I.known input.old input.new
+        → (ending : Result Bool Fault) × (told : Bool) × (mid : E) × RunEnds ending told result.code E.known mid err.new
+        × RunsCommand request ending told (outside S.known shelf.old shelf.new I.known input.old input.new
         O.known out.old out.new E.known err.old mid D.known dock.old dock.new) }
     // Words that ask for none are refused, and nothing is touched.
     ensures nothing { AsksForNothing (map string_bytes words.now)
-        → (ending : Result Bool Fault) × Ends ending true result.code E.known err.old err.new
+        → (ending : Result Bool Fault) × RunEnds ending true result.code E.known err.old err.new
         × (IsErrOf ending Fault.Words ⊎ IsErrOf ending Fault.NoMemory)
         × IsUntouched shelf.old shelf.new input.old input.new out.old out.new dock.old dock.new }
     // The headline. Where `receive` or `air` ends with 0 or 7, each report says of whatever delivery of whatever valid schedule
@@ -77,7 +77,7 @@ where
     // What the statuses say of any command. 1: neither read nor written was anything, and nothing was sent.
     ensures known { result.code ≤ 7 }
     ensures memory { result.code ≡ 1 → (input.new ≡ input.old) × (out.new ≡ out.old) }
-    ensures unsent { result.code ≡ 1 → WhileTold (D.known dock.old) (D.known dock.new) NothingSent }
+    ensures unsent { result.code ≡ 1 → IfBothKnown (D.known dock.old) (D.known dock.new) NothingSent }
     // 2: the words are no command line of a command that is built.
     ensures words { result.code ≡ 2 → AsksForNothing (map string_bytes words.now) }
     // 4: one read of input failed, or one load. With any other status but 6 none did: a failed link is told before a failed read.
@@ -128,7 +128,7 @@ where
     D::L: Link + Send,
     requires { told.old ≡ true }
     ensures runs { (request : Request) → AsksFor request (map string_bytes words.now)
-        → Runs request result told.new (outside S.known shelf.old shelf.new I.known input.old input.new
+        → RunsCommand request result told.new (outside S.known shelf.old shelf.new I.known input.old input.new
         O.known out.old out.new E.known err.old err.new D.known dock.old dock.new) }
     ensures nothing { AsksForNothing (map string_bytes words.now)
         → (IsErrOf result Fault.Words ⊎ IsErrOf result Fault.NoMemory)
@@ -137,7 +137,7 @@ where
     ensures words { IsErrOf result Fault.Words → AsksForNothing (map string_bytes words.now) }
     ensures memory { IsErrOf result Fault.NoMemory → (input.new ≡ input.old) × (out.new ≡ out.old) }
     ensures unsent { IsErrOf result Fault.NoMemory
-        → WhileTold (D.known dock.old) (D.known dock.new) NothingSent }
+        → IfBothKnown (D.known dock.old) (D.known dock.new) NothingSent }
     ensures read { (IsErrOf result Fault.Link → ⊥) → OneFailed (I.known input.old) (I.known input.new)
         (S.known shelf.old) (S.known shelf.new) (IsErrOf result Fault.Read) }
     ensures write { HasCause (O.known out.old) (O.known out.new) (IsErrOf result Fault.Write) }
@@ -183,7 +183,7 @@ where
     ensures opening { OpeningFailed (D.known dock.old) (D.known dock.new) (IsErrOf result Fault.Link) }
     ensures lacking { result ≡ Ok false → WritesReport request.now }
     ensures unsent { IsErrOf result Fault.NoMemory
-        → WhileTold (D.known dock.old) (D.known dock.new) NothingSent }
+        → IfBothKnown (D.known dock.old) (D.known dock.new) NothingSent }
     ensures dock { (OpensALink request.now → ⊥) → dock.new ≡ dock.old }
 {
     match request {

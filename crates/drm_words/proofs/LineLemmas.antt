@@ -10,7 +10,7 @@ use Rattle.cli_syntax.specs.Arguing.{Sorted, read}
 use Rattle.drm_words.specs.Asking.{request_of}
 use Rattle.drm_words.specs.Line.{IsLine}
 use Rattle.drm_words.specs.Whole.{line_of}
-use Rattle.cli_syntax.specs.Gives.{Gives}
+use Rattle.cli_syntax.specs.Gives.{ParserGives}
 use Rattle.cli_syntax.proofs.OptionLemmas.{stepped}
 use Rattle.cli_syntax.proofs.SpellingLemmas.{read_fits, read_is}
 use Rattle.drm_words.proofs.TableLemmas.{request_fits, request_is}
@@ -38,21 +38,21 @@ line_once words r other h k = same_Some r other (sym (line_is words r h) ∙ lin
 
 -- what an answer that gives what is read says of the requests that fit
 module _ (words : List (List ℕ)) where
-  pub found : (result : Result Request WordsFault) → Gives result (line_of words) → IfOk result (λ r. IsLine words r)
+  pub found : (result : Result Request WordsFault) → ParserGives result (line_of words) → IfOk result (λ r. IsLine words r)
   found (Ok r) h = line_fits words r h
   found (Err fault) h = tt
 
-  pub only : (result : Result Request WordsFault) → Gives result (line_of words) → (r : Request) → IsLine words r → (result ≡ Ok r) ⊎ (result ≡ Err NoMemory)
+  pub only : (result : Result Request WordsFault) → ParserGives result (line_of words) → (r : Request) → IsLine words r → (result ≡ Ok r) ⊎ (result ≡ Err NoMemory)
   only (Ok x) h r k = inl (ap Ok (same_Some x r (sym h ∙ line_is words r k)))
   only (Err Words) h r k = absurd (let e = line_is words r k in cc)
   only (Err NoMemory) h r k = inr refl
 
-  pub refused : (result : Result Request WordsFault) → Gives result (line_of words) → result ≡ Err Words → (r : Request) → IsLine words r → ⊥
+  pub refused : (result : Result Request WordsFault) → ParserGives result (line_of words) → result ≡ Err Words → (r : Request) → IsLine words r → ⊥
   refused (Ok x) h e r k = cc
   refused (Err Words) h e r k = let f = line_is words r k in cc
   refused (Err NoMemory) h e r k = cc
 
-  pub exact : (result : Result Request WordsFault) → Gives result (line_of words) → ((r : Request) → IsLine words r → ⊥) → (result ≡ Err Words) ⊎ (result ≡ Err NoMemory)
+  pub exact : (result : Result Request WordsFault) → ParserGives result (line_of words) → ((r : Request) → IsLine words r → ⊥) → (result ≡ Err Words) ⊎ (result ≡ Err NoMemory)
   exact (Ok x) h none = absurd (none x (line_fits words x h))
   exact (Err Words) h none = inl refl
   exact (Err NoMemory) h none = inr refl

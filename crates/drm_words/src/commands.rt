@@ -3,7 +3,7 @@
 ghost use Rattle.std.specs.Prelude.{◌≡◌, IfOk, IfErr, IfSome, IsUtf8, map};
 ghost use Rattle.cli_syntax.specs.Arguing.{option_said};
 ghost use Rattle.drm_words.specs.Asking.{is_bare, bare_of, check_of, serve_with, serve_of, addresses_or_none, receive_with, receive_of, address_or_none, count_with, count_of, air_with, air_of, convert_with, convert_of, exercise_with, exercise_of, gate_with, gate_of, pack_with, pack_of, unpack_with, unpack_of, texts_with, texts_of, request_of};
-ghost use Rattle.cli_syntax.specs.Gives.{Gives};
+ghost use Rattle.cli_syntax.specs.Gives.{ParserGives};
 ghost use Rattle.drm_words.specs.Table.{HasTextNames};
 ghost use Rattle.cli_syntax.specs.declared.fault.WordsFault.TheVariants as faults;
 
@@ -12,11 +12,11 @@ use crate::options::{
     window,
 };
 use crate::request::Request;
+use cli_syntax::{Named, WordsFault, address, carry, read_addresses, within};
 use drm_bits::Octets;
 use drm_links::{Address, Addresses};
 use drm_schedule::Live;
 use std::alloc::Global;
-use cli_syntax::{Named, WordsFault, address, carry, read_addresses, within};
 
 fn octets(alloc: Global, text: &str) -> Result<Octets, WordsFault>
     ensures ok { IfOk result (λ octets. octets ≡ text.now) }
@@ -30,7 +30,7 @@ fn octets(alloc: Global, text: &str) -> Result<Octets, WordsFault>
 // A request that no option or number refuses.
 fn asked(request: Option<Request>) -> Result<Request, WordsFault>
     requires { IfSome request HasTextNames }
-    ensures gives { Gives result request }
+    ensures gives { ParserGives result request }
     ensures text { IfOk result HasTextNames }
 {
     match request {
@@ -48,7 +48,7 @@ fn is_bare(texts: &[&str], options: &[Named<'_>]) -> bool
 
 fn bare(request: Request, texts: &[&str], options: &[Named<'_>]) -> Result<Request, WordsFault>
     requires { HasTextNames request }
-    ensures gives { Gives result (bare_of request (map (λ text. text.now) texts.now) (map option_said options.now)) }
+    ensures gives { ParserGives result (bare_of request (map (λ text. text.now) texts.now) (map option_said options.now)) }
     ensures text { IfOk result HasTextNames }
 {
     if is_bare(texts, options) {
@@ -61,7 +61,7 @@ fn bare(request: Request, texts: &[&str], options: &[Named<'_>]) -> Result<Reque
 // check NAME
 #[tactic(auto, unfolding(crate::specs::Asking::check_of))]
 fn check(alloc: Global, texts: &[&str], options: &[Named<'_>]) -> Result<Request, WordsFault>
-    ensures gives { Gives result (check_of (map (λ text. text.now) texts.now) (map option_said options.now)) }
+    ensures gives { ParserGives result (check_of (map (λ text. text.now) texts.now) (map option_said options.now)) }
     ensures text { IfOk result HasTextNames }
 {
     let [name] = texts else {
@@ -93,7 +93,7 @@ fn serve_with(name: Octets, to: Addresses, live: Live, options: &[Named<'_>]) ->
 // serve NAME [--to ADDRS] [--pace MS] [--from N] [--live LIST]
 #[tactic(auto, unfolding(crate::specs::Asking::serve_of))]
 fn serve(alloc: Global, texts: &[&str], options: &[Named<'_>]) -> Result<Request, WordsFault>
-    ensures gives { Gives result (serve_of (map (λ text. text.now) texts.now) (map option_said options.now)) }
+    ensures gives { ParserGives result (serve_of (map (λ text. text.now) texts.now) (map option_said options.now)) }
     ensures text { IfOk result HasTextNames }
 {
     let [name] = texts else {
@@ -110,7 +110,7 @@ fn serve(alloc: Global, texts: &[&str], options: &[Named<'_>]) -> Result<Request
 
 // No addresses, or those of the one plain word.
 fn addresses_or_none(alloc: Global, texts: &[&str]) -> Result<Option<Addresses>, WordsFault>
-    ensures { Gives result (addresses_or_none (map (λ text. text.now) texts.now)) }
+    ensures { ParserGives result (addresses_or_none (map (λ text. text.now) texts.now)) }
 {
     if texts.is_empty() {
         return Ok(None);
@@ -141,7 +141,7 @@ fn receive_with(options: &[Named<'_>], addresses: Option<Addresses>) -> Option<R
 // receive [ADDRS] [--window W] [--reach A] [--first N] [--frames N] [--idle K] [--limit L]
 #[tactic(auto, unfolding(crate::specs::Asking::receive_of))]
 fn receive(alloc: Global, texts: &[&str], options: &[Named<'_>]) -> Result<Request, WordsFault>
-    ensures gives { Gives result (receive_of (map (λ text. text.now) texts.now) (map option_said options.now)) }
+    ensures gives { ParserGives result (receive_of (map (λ text. text.now) texts.now) (map option_said options.now)) }
     ensures text { IfOk result HasTextNames }
 {
     if !are_of_reading(options) {
@@ -184,7 +184,7 @@ fn count_with(options: &[Named<'_>], address: Option<Address>) -> Option<Request
 // count [ADDR] [--window W] [--reach A] [--first N] [--frames N] [--idle K] [--limit L]
 #[tactic(auto, unfolding(crate::specs::Asking::count_of))]
 fn count(texts: &[&str], options: &[Named<'_>]) -> Result<Request, WordsFault>
-    ensures gives { Gives result (count_of (map (λ text. text.now) texts.now) (map option_said options.now)) }
+    ensures gives { ParserGives result (count_of (map (λ text. text.now) texts.now) (map option_said options.now)) }
     ensures text { IfOk result HasTextNames }
 {
     if !are_of_reading(options) {
@@ -213,7 +213,7 @@ fn air_with(name: Octets, script: Octets, options: &[Named<'_>]) -> Option<Reque
 // air NAME SCRIPT [--window W]
 #[tactic(auto, unfolding(crate::specs::Asking::air_of))]
 fn air(alloc: Global, texts: &[&str], options: &[Named<'_>]) -> Result<Request, WordsFault>
-    ensures gives { Gives result (air_of (map (λ text. text.now) texts.now) (map option_said options.now)) }
+    ensures gives { ParserGives result (air_of (map (λ text. text.now) texts.now) (map option_said options.now)) }
     ensures text { IfOk result HasTextNames }
 {
     let [name, script] = texts else {
@@ -245,7 +245,7 @@ fn convert_with(text: &str, options: &[Named<'_>]) -> Option<Request>
 // convert CARRY [--window W] [--reach A] [--first N] [--frames N]
 #[tactic(auto, unfolding(crate::specs::Asking::convert_of))]
 fn convert(texts: &[&str], options: &[Named<'_>]) -> Result<Request, WordsFault>
-    ensures gives { Gives result (convert_of (map (λ text. text.now) texts.now) (map option_said options.now)) }
+    ensures gives { ParserGives result (convert_of (map (λ text. text.now) texts.now) (map option_said options.now)) }
     ensures text { IfOk result HasTextNames }
 {
     let [text] = texts else {
@@ -268,7 +268,7 @@ fn exercise_with(text: &str) -> Option<Request>
 // exercise N
 #[tactic(auto, unfolding(crate::specs::Asking::exercise_of))]
 fn exercise(texts: &[&str], options: &[Named<'_>]) -> Result<Request, WordsFault>
-    ensures gives { Gives result (exercise_of (map (λ text. text.now) texts.now) (map option_said options.now)) }
+    ensures gives { ParserGives result (exercise_of (map (λ text. text.now) texts.now) (map option_said options.now)) }
     ensures text { IfOk result HasTextNames }
 {
     let [text] = texts else {
@@ -303,7 +303,7 @@ fn gate_with(from: &str, to: Addresses, text: &str, options: &[Named<'_>]) -> Op
 // gate FROM ADDRS CARRY [--window W] [--reach A] [--first N] [--frames N] [--idle K] [--limit L]
 #[tactic(auto, unfolding(crate::specs::Asking::gate_of))]
 fn gate(alloc: Global, texts: &[&str], options: &[Named<'_>]) -> Result<Request, WordsFault>
-    ensures gives { Gives result (gate_of (map (λ text. text.now) texts.now) (map option_said options.now)) }
+    ensures gives { ParserGives result (gate_of (map (λ text. text.now) texts.now) (map option_said options.now)) }
     ensures text { IfOk result HasTextNames }
 {
     let [from, to, text] = texts else {
@@ -328,7 +328,7 @@ fn pack_with(pid: &str, length: &str) -> Option<Request>
 // pack PID LENGTH
 #[tactic(auto, unfolding(crate::specs::Asking::pack_of))]
 fn pack(texts: &[&str], options: &[Named<'_>]) -> Result<Request, WordsFault>
-    ensures gives { Gives result (pack_of (map (λ text. text.now) texts.now) (map option_said options.now)) }
+    ensures gives { ParserGives result (pack_of (map (λ text. text.now) texts.now) (map option_said options.now)) }
     ensures text { IfOk result HasTextNames }
 {
     let [pid, length] = texts else {
@@ -362,7 +362,7 @@ fn unpack_with(stream: &str, pid: &str, length: &str, options: &[Named<'_>]) -> 
 // unpack STREAM PID LENGTH [--window W] [--reach A] [--first N] [--frames N]
 #[tactic(auto, unfolding(crate::specs::Asking::unpack_of))]
 fn unpack(texts: &[&str], options: &[Named<'_>]) -> Result<Request, WordsFault>
-    ensures gives { Gives result (unpack_of (map (λ text. text.now) texts.now) (map option_said options.now)) }
+    ensures gives { ParserGives result (unpack_of (map (λ text. text.now) texts.now) (map option_said options.now)) }
     ensures text { IfOk result HasTextNames }
 {
     let [stream, pid, length] = texts else {
@@ -392,7 +392,7 @@ fn texts_with(stream: &str, options: &[Named<'_>]) -> Option<Request>
 // texts STREAM [--window W] [--reach A] [--first N] [--frames N]
 #[tactic(auto, unfolding(crate::specs::Asking::texts_of))]
 fn messages(texts: &[&str], options: &[Named<'_>]) -> Result<Request, WordsFault>
-    ensures gives { Gives result (texts_of (map (λ text. text.now) texts.now) (map option_said options.now)) }
+    ensures gives { ParserGives result (texts_of (map (λ text. text.now) texts.now) (map option_said options.now)) }
     ensures text { IfOk result HasTextNames }
 {
     let [stream] = texts else {
@@ -412,7 +412,7 @@ pub(crate) fn request(
     texts: &[&str],
     options: &[Named<'_>],
 ) -> Result<Request, WordsFault>
-    ensures gives { Gives result (request_of command.now (map (λ text. text.now) texts.now)
+    ensures gives { ParserGives result (request_of command.now (map (λ text. text.now) texts.now)
         (map option_said options.now)) }
     ensures text { IfOk result HasTextNames }
 {

@@ -6,7 +6,7 @@ mod options;
 mod read;
 mod request;
 
+pub use cli_syntax::WordsFault;
 pub use drm_links::Addresses;
 pub use read::{one_request, read_words};
 pub use request::Request;
-pub use cli_syntax::WordsFault;

@@ -2,14 +2,14 @@
 
 ghost use Rattle.std.specs.Prelude.{◌≡◌, ◌≤◌, IfSome, map, option_map, codes};
 ghost use Rattle.cli_syntax.specs.Arguing.{option_said};
-ghost use Rattle.cli_syntax.specs.Gives.{Gives};
+ghost use Rattle.cli_syntax.specs.Gives.{ParserGives};
 ghost use Rattle.drm_words.specs.Table.{told, stretch_names, reading_names};
 ghost use Rattle.drm_words.specs.Asking.{is_one_of, are_of, number_or, number_or_none, window_of, reach_of, first_of, frames_of, stretch_of, reading_of, idle_of, limit_of, pace_of, from_of, to_of, live_told};
 
+use cli_syntax::{Named, WordsFault, read_addresses, read_live, within};
 use drm_links::Addresses;
 use drm_schedule::{Live, MOST_FRAMES};
 use std::alloc::Global;
-use cli_syntax::{Named, WordsFault, read_addresses, read_live, within};
 
 /// Which packets are read, and how many frames of them.
 #[derive(Clone, Copy)]
@@ -208,7 +208,7 @@ pub(crate) fn from(options: &[Named<'_>]) -> Option<u32>
 /// Where datagrams are sent.
 #[tactic(auto, unfolding(crate::specs::Asking::to_of))]
 pub(crate) fn to(alloc: Global, options: &[Named<'_>]) -> Result<Addresses, WordsFault>
-    ensures { Gives result (to_of (map option_said options.now)) }
+    ensures { ParserGives result (to_of (map option_said options.now)) }
 {
     match told(options, "to") {
         Some(text) => read_addresses(alloc, text),
@@ -219,7 +219,7 @@ pub(crate) fn to(alloc: Global, options: &[Named<'_>]) -> Result<Addresses, Word
 /// The streams that take their bytes from input.
 #[tactic(auto, unfolding(crate::specs::Asking::live_told))]
 pub(crate) fn live(alloc: Global, options: &[Named<'_>]) -> Result<Live, WordsFault>
-    ensures { Gives result (live_told (map option_said options.now)) }
+    ensures { ParserGives result (live_told (map option_said options.now)) }
 {
     match told(options, "live") {
         Some(text) => read_live(alloc, text),

@@ -4,17 +4,17 @@ ghost use Rattle.std.specs.Prelude.{◌≡◌, ◌⊎◌, Err, IfOk, map, string
 ghost use Rattle.drm_words.specs.Line.{IsLine, HasOneRequest};
 ghost use Rattle.drm_words.specs.Table.{HasTextNames};
 ghost use Rattle.drm_words.specs.Whole.{line_of};
-ghost use Rattle.cli_syntax.specs.Gives.{Gives};
+ghost use Rattle.cli_syntax.specs.Gives.{ParserGives};
 ghost use Rattle.cli_syntax.specs.declared.fault.WordsFault.TheVariants as faults;
 ghost use Rattle.drm_words.specs.declared.request.Request.{Request};
 
 use crate::commands::request;
 use crate::request::Request;
-use std::alloc::Global;
 use cli_syntax::{WordsFault, read_arguments};
+use std::alloc::Global;
 
 fn read_line(alloc: Global, words: &[String]) -> Result<Request, WordsFault>
-    ensures gives { Gives result (line_of (map string_bytes words.now)) }
+    ensures gives { ParserGives result (line_of (map string_bytes words.now)) }
     ensures text { IfOk result HasTextNames }
 {
     let Some((command, behind)) = words.split_first() else {

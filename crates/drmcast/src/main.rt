@@ -2,9 +2,9 @@
 
 #![tactic(auto)]
 
+use cli_program::given_words;
 use drm_adapt::{FileShelf, StreamSink, StreamSource, UdpDock};
 use drm_top::{no_memory, run};
-use cli_program::given_words;
 use std::env;
 use std::process::ExitCode;
 

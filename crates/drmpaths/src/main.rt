@@ -2,9 +2,9 @@
 
 #![tactic(auto)]
 
-use drm_adapt::{StreamSink, UdpDock};
-use cmd_paths::{no_memory, run_paths};
 use cli_program::given_words;
+use cmd_paths::{no_memory, run_paths};
+use drm_adapt::{StreamSink, UdpDock};
 use std::env;
 use std::process::ExitCode;
 

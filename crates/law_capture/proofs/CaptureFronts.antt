@@ -5,23 +5,23 @@ use Rattle.std.specs.List.{concat}
 use Rattle.std.proofs.lemmas.List.{take_at}
 use Rattle.std.proofs.lemmas.List.Elements.{All-head, All-tail}
 use Rattle.capture_reader.specs.declared.fault.CaptureField.{CaptureField}
-use Rattle.capture_reader.specs.Front.{Packet, Wrong, Cut, Begins, IsWhole}
+use Rattle.capture_reader.specs.Front.{Packet, Wrong, Cut, BytesBegin, IsWhole}
 use Rattle.capture_reader.specs.Capture.{Ending, End, Fault, TooLong, EndsWith, most_bytes}
 use Rattle.law_capture.specs.Laws.{PacketsInFront}
 use Rattle.capture_reader.proofs.FrontLaws.{one_front, packet_in_front, packet_alone, packet_size}
 
-in_front : (p more : List ℕ) → IsWhole p → Begins (p ++ more) (Packet (length p))
+in_front : (p more : List ℕ) → IsWhole p → BytesBegin (p ++ more) (Packet (length p))
 in_front p more whole =
-    let P : List ℕ → Type 0 = λ l. Begins l (Packet (length p)) in
+    let P : List ℕ → Type 0 = λ l. BytesBegin l (Packet (length p)) in
     packet_in_front (p ++ more) (length p) (length p) (subst P (sym (take_at p more (length p) refl)) whole)
 
-packet_wrong : (bytes : List ℕ) (n : ℕ) (g : CaptureField) → Begins bytes (Packet n) → Begins bytes (Wrong g) → ⊥
+packet_wrong : (bytes : List ℕ) (n : ℕ) (g : CaptureField) → BytesBegin bytes (Packet n) → BytesBegin bytes (Wrong g) → ⊥
 packet_wrong bytes n g a b = let e : Packet n ≡ Wrong g = one_front bytes (Packet n) (Wrong g) a b in cc
 
-packet_cut : (bytes : List ℕ) (n : ℕ) (g : CaptureField) → Begins bytes (Packet n) → Begins bytes (Cut g) → ⊥
+packet_cut : (bytes : List ℕ) (n : ℕ) (g : CaptureField) → BytesBegin bytes (Packet n) → BytesBegin bytes (Cut g) → ⊥
 packet_cut bytes n g a b = let e : Packet n ≡ Cut g = one_front bytes (Packet n) (Cut g) a b in cc
 
-same_packet : (bytes : List ℕ) (m n : ℕ) → Begins bytes (Packet m) → Begins bytes (Packet n) → m ≡ n
+same_packet : (bytes : List ℕ) (m n : ℕ) → BytesBegin bytes (Packet m) → BytesBegin bytes (Packet n) → m ≡ n
 same_packet bytes m n a b = let e : Packet m ≡ Packet n = one_front bytes (Packet m) (Packet n) a b in cc
 
 -- where a packet stands, nothing ends
@@ -61,7 +61,7 @@ front_by size at (p ∷ packets) [] more rest ending whole wholes is few ends =
     absurd (stands size (at + 0) p (concat packets ++ more) ending (All-head IsWhole p packets whole) (omega (arith, few, both)) (subst P same ends))
 front_by size at (p ∷ packets) (q ∷ all) more rest ending whole wholes is few ends =
     let a : p ++ (concat packets ++ more) ≡ q ++ (concat all ++ rest) = sym (append_assoc p (concat packets) more) ∙ is ∙ append_assoc q (concat all) rest in
-    let P : List ℕ → Type 0 = λ l. Begins l (Packet (length q)) in
+    let P : List ℕ → Type 0 = λ l. BytesBegin l (Packet (length q)) in
     let m : length p ≡ length q =
     same_packet (p ++ (concat packets ++ more)) (length p) (length q) (in_front p (concat packets ++ more) (All-head IsWhole p packets whole))
     (subst P (sym a) (in_front q (concat all ++ rest) (All-head IsWhole q all wholes))) in

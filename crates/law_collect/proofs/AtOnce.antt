@@ -11,7 +11,7 @@ use Rattle.dcp_collect.specs.Fragments.{suffice, of_packet}
 use Rattle.dcp_collect.specs.Reading.{Incoming, Read, Unread, Brings}
 use Rattle.dcp_collect.specs.State.{State, made, ready, ready_by, is_above, is_far, reached, answer_within, answer_at, answer, number_of, after_answer, after_take, after_item}
 use Rattle.dcp_collect.specs.Numbers.{newer, end_of}
-use Rattle.dcp_collect.specs.Runs.{Item, Gives, Steps}
+use Rattle.dcp_collect.specs.Runs.{Item, CollectorGives, CollectorSteps}
 use Rattle.dcp_collect.proofs.Lists.{all_insert, all_filter, all_weaker}
 use Rattle.law_collect.specs.Laws.{FewAtOnce}
 use Rattle.law_collect.proofs.Numbers.{one_nearest}
@@ -62,12 +62,12 @@ reached_item window c h r = record {
       (all_filter (λ f. reached c.newest f.number ≡ true) (λ f. not (eqb f.number c.next)) c.kept h.kept);
 }
 
-pub reached_gives : (window : ℕ) (items : List Item) (c d : State) → IsReached window c → Gives c items d → IsReached window d
+pub reached_gives : (window : ℕ) (items : List Item) (c d : State) → IsReached window c → CollectorGives c items d → IsReached window d
 reached_gives window [] c d h g = subst (IsReached window) (sym g.1) h
 reached_gives window (item ∷ items) c d h g = reached_gives window items (after_item c) d (reached_item window c h g.0) g.2
 
 reached_steps : (window : ℕ) (datagrams : List (List ℕ)) (answers : List Taken) (given : List Item) (c d : State)
-    → IsReached window c → ready c ≡ false → Steps c datagrams answers given d → IsReached window d × (ready d ≡ false)
+    → IsReached window c → ready c ≡ false → CollectorSteps c datagrams answers given d → IsReached window d × (ready d ≡ false)
 reached_steps window [] [] given c d h quiet s = (subst (IsReached window) (sym s.1) h, ap ready s.1 ∙ quiet)
 reached_steps window [] (a ∷ answers) given c d h quiet s = absurd s
 reached_steps window (b ∷ datagrams) [] given c d h quiet s = absurd s
@@ -131,7 +131,7 @@ near_take : (c : State) (read : Read) (m : ℕ) → c.newest ≡ Some m → end_
 near_take c (Unread field) m e = subst (λ o. end_of None o ≤ m + c.reach + 1) (sym e) (omega arith)
 near_take c (Brings incoming) m e = near_by c (number_of c incoming) incoming m (is_far c (number_of c incoming)) refl e
 
-pub gives_newest : (items : List Item) (c d : State) → Gives c items d → d.newest ≡ c.newest
+pub gives_newest : (items : List Item) (c d : State) → CollectorGives c items d → d.newest ≡ c.newest
 gives_newest [] c d g = ap (λ m. m.newest) g.1
 gives_newest (item ∷ items) c d g = gives_newest items (after_item c) d g.2
 

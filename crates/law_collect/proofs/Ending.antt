@@ -6,7 +6,7 @@ use Rattle.drm_bits.specs.Bits.{IsBytes}
 use Rattle.dcp_collect.specs.Fragments.{Fragment, suffice, of_packet}
 use Rattle.dcp_collect.specs.State.{State, ready, ready_by, reached, after_item, count_of}
 use Rattle.dcp_collect.specs.Decoding.{IsDecoded}
-use Rattle.dcp_collect.specs.Runs.{Item, Packet, Lost, Damaged, IsItem, Gives}
+use Rattle.dcp_collect.specs.Runs.{Item, Packet, Lost, Damaged, IsItem, CollectorGives}
 use Rattle.law_collect.specs.Laws.{GivingEnds}
 use Rattle.dcp_collect.proofs.Lists.{all_filter, all_weaker}
 
@@ -90,7 +90,7 @@ the_item decide c bytes false s =
     (Lost c.next (length (of_packet c.next c.kept)) (count_of (of_packet c.next c.kept)), (refl, s, refl, refl))
 
 gives_from : (decide : Decides) (n : ℕ) (c : State) (b : Bool) → left c ≤ n → 1 ≤ c.window → AllByRecursion (λ f. IsBytes f.payload) c.kept
-    → ready c ≡ b → (given : List Item) × (after : State) × Gives c given after
+    → ready c ≡ b → (given : List Item) × (after : State) × CollectorGives c given after
 gives_from decide n c false few w bytes r = ([], c, (r, refl))
 gives_from decide zero c true few w bytes r = absurd (let l = left_less c w r in omega (arith, l, few))
 gives_from decide (suc n) c true few w bytes r =

@@ -8,7 +8,7 @@ use Rattle.dcp_pft.specs.Head.{head}
 use Rattle.dcp_collect.specs.declared.taken.Taken.{Taken}
 use Rattle.dcp_collect.specs.Reading.{Incoming, Read, Unread, Brings, IsIncoming, IsRead}
 use Rattle.dcp_collect.specs.State.{State, number_of, answer, after_take, ready, after_item, after_next}
-use Rattle.dcp_collect.specs.Runs.{Item, Takes, Gives}
+use Rattle.dcp_collect.specs.Runs.{Item, CollectorTakes, CollectorGives}
 use Rattle.dcp_collect.proofs.Lists.{all_insert}
 use Rattle.law_collect.specs.Laws.{IsFit}
 use Rattle.law_collect.proofs.Stays.{after_by}
@@ -41,7 +41,7 @@ fit_read c (Unread field) bytes are is fit = fit
 fit_read c (Brings incoming) bytes are is fit = fit_after c incoming fit (payload_bytes incoming bytes are is)
 
 -- after a datagram
-pub fit_taken : (c d : State) (bytes : List ℕ) (a : Taken) → IsBytes bytes → Takes c bytes a d → IsFit c → IsFit d
+pub fit_taken : (c d : State) (bytes : List ℕ) (a : Taken) → IsBytes bytes → CollectorTakes c bytes a d → IsFit c → IsFit d
 fit_taken c d bytes a are takes fit = subst IsFit (sym takes.after_is) (fit_read c takes.read bytes are takes.is_read fit)
 
 fit_item : (c : State) → IsFit c → IsFit (after_item c)
@@ -55,6 +55,6 @@ pub fit_next : (c : State) → IsFit c → IsFit (after_next c)
 fit_next c fit = fit_by (ready c) c fit
 
 -- after all that were ready
-pub fit_given : (items : List Item) (c d : State) → Gives c items d → IsFit c → IsFit d
+pub fit_given : (items : List Item) (c d : State) → CollectorGives c items d → IsFit c → IsFit d
 fit_given [] c d gives fit = subst IsFit (sym gives.1) fit
 fit_given (item ∷ items) c d gives fit = fit_given items (after_item c) d gives.2 (fit_item c fit)

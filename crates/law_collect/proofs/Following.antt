@@ -10,7 +10,7 @@ use Rattle.dcp_collect.specs.Fragments.{Fragment, agree, has_index, suffice, of_
 use Rattle.dcp_collect.specs.Reading.{Incoming, Brings}
 use Rattle.dcp_collect.specs.State.{State, made, is_far, reached, is_late, number_of, answer, answer_by, answer_within, answer_at, after_answer, after_take, after_item}
 use Rattle.dcp_collect.specs.Numbers.{newer, end_of}
-use Rattle.dcp_collect.specs.Runs.{Item, Takes, Gives}
+use Rattle.dcp_collect.specs.Runs.{Item, CollectorTakes, CollectorGives}
 use Rattle.dcp_collect.proofs.Answering.{not_far}
 use Rattle.dcp_collect.proofs.Lists.{all_filter}
 use Rattle.dcp_pft.specs.declared.carry.Carry.{Carry}
@@ -84,7 +84,7 @@ nothing_reached : (m : Option ℕ) (fs : List Fragment) → m ≡ None → AllBy
 nothing_reached m [] e all = refl
 nothing_reached m (f ∷ fs) e all = absurd (let x : false ≡ true = subst (λ o. reached o f.number ≡ true) e all.0 in cc)
 
-gives_first : (items : List Item) (c d : State) → Gives c items d → d.first ≡ c.first
+gives_first : (items : List Item) (c d : State) → CollectorGives c items d → d.first ≡ c.first
 gives_first [] c d g = ap (λ s. s.first) g.1
 gives_first (item ∷ items) c d g = gives_first items (after_item c) d g.2
 
@@ -124,7 +124,7 @@ module _ (sequence0 window reach : ℕ) (base : ℤ) (newest : Option ℕ) (c : 
       takes_reach_of = reach_stays c (number_of c incoming) incoming (answer c (Brings incoming)) ∙ f.reach_is
 
 follows_gives : (sequence0 window reach : ℕ) (base : ℤ) (newest : Option ℕ) (rest : List (ℕ × ℕ)) (items : List Item) (c d : State)
-    → Follows sequence0 window reach base newest rest c → Gives c items d → Follows sequence0 window reach base newest rest d
+    → Follows sequence0 window reach base newest rest c → CollectorGives c items d → Follows sequence0 window reach base newest rest d
 follows_gives sequence0 window reach base newest rest items c d f gives = record {
   is_reached = reached_gives window items c d f.is_reached gives;
   reach_is = gives_reach items c d gives ∙ f.reach_is;
@@ -137,7 +137,7 @@ follows_gives sequence0 window reach base newest rest items c d f gives = record
 pub follows_pair : (one_reading : OneReading) (carry : Carry) (sequence0 window reach : ℕ) (packets : List (List ℕ)) (base : ℤ) (newest : Option ℕ) (c kept mid : State)
     (pair : ℕ × ℕ) (rest : List (ℕ × ℕ)) (datagram : List ℕ) (a : Taken) (now : List Item)
     → Follows sequence0 window reach base newest (pair ∷ rest) c → IsWithinSpan reach base newest (pair ∷ rest) → number base pair <ℤ pos (2 ^ 62)
-    → BringsPair carry sequence0 packets pair datagram → Takes c datagram a kept → Gives kept now mid
+    → BringsPair carry sequence0 packets pair datagram → CollectorTakes c datagram a kept → CollectorGives kept now mid
     → Follows sequence0 window reach base (newer_number newest (number base pair)) rest mid
 follows_pair one_reading carry sequence0 window reach packets base newest c kept mid pair rest datagram a now f span small brings takes gives =
     let same : takes.read ≡ Brings brings.incoming = one_reading datagram (Brings brings.incoming) takes.read brings.is_read takes.is_read in

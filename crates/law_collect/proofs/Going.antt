@@ -8,7 +8,7 @@ use Rattle.std.proofs.lemmas.List.FromFn.{map-range_with_len_more}
 use Rattle.dcp_collect.specs.Fragments.{suffice, of_packet}
 use Rattle.dcp_collect.specs.State.{State, ready, ready_by, reached, after_item}
 use Rattle.dcp_collect.specs.Numbers.{end_of}
-use Rattle.dcp_collect.specs.Runs.{Item, Gives}
+use Rattle.dcp_collect.specs.Runs.{Item, CollectorGives}
 use Rattle.dcp_pft.specs.declared.carry.Carry.{Carry}
 use Rattle.law_collect.specs.Delivery.{packet_at, got, item}
 use Rattle.law_collect.proofs.Sent.{IsCut}
@@ -57,7 +57,7 @@ module _ (carry : Carry) (packets : List (List ℕ)) (window : ℕ) (base : ℤ)
   }
 
   -- while the delivery goes on
-  pub gives_during : (given : List Item) (c d : State) → IsOpen carry packets window base pairs c → Gives c given d
+  pub gives_during : (given : List Item) (c d : State) → IsOpen carry packets window base pairs c → CollectorGives c given d
       → IsOpen carry packets window base pairs d × (d.first ≡ c.first)
       × (first_items (item carry packets window base (pairs ++ more)) c.next ++ given ≡ first_items (item carry packets window base (pairs ++ more)) d.next)
   gives_during [] c d o g = (
@@ -77,7 +77,7 @@ module _ (carry : Carry) (packets : List (List ℕ)) (window : ℕ) (base : ℤ)
     (cut : (q : ℕ) (packet : List ℕ) → packet_at packets (base +ℤ pos q) ≡ Some packet → IsCut carry packet)
     (pairs : List (ℕ × ℕ)) (n : ℕ) where
   -- after `finish`, up to the end
-  pub gives_to_end : (given : List Item) (c d : State) → IsAfter carry packets window base pairs c → c.end ≡ Some n → Gives c given d
+  pub gives_to_end : (given : List Item) (c d : State) → IsAfter carry packets window base pairs c → c.end ≡ Some n → CollectorGives c given d
       → (m : ℕ) × (n ≤ m) × (c.next ≤ n → m ≡ n)
       × (first_items (item carry packets window base pairs) c.next ++ given ≡ first_items (item carry packets window base pairs) m)
   gives_to_end [] c d h u g =

@@ -3,7 +3,7 @@ use Rattle.std.proofs.Common.{ℕ, ◌≡◌, ◌+◌, true, false, List, [], �
 use Rattle.std.proofs.lemmas.List.{append-nil}
 use Rattle.dcp_collect.specs.declared.taken.Taken.{Taken}
 use Rattle.dcp_collect.specs.State.{State, ready, after_item}
-use Rattle.dcp_collect.specs.Runs.{Item, IsItem, Takes, Gives, Steps}
+use Rattle.dcp_collect.specs.Runs.{Item, IsItem, CollectorTakes, CollectorGives, CollectorSteps}
 use Rattle.law_collect.specs.Laws.{Given, StepsJoin, StepsPart, StepsCount}
 use Rattle.law_collect.proofs.Stays.{take_next, take_reach}
 
@@ -14,17 +14,17 @@ given_more [] c d item g r is = (ap ready (sym g) ∙ r, subst (λ x. IsItem x i
 given_more (first ∷ items) c d item g r is = (g.0, g.1, given_more items (after_item c) d item g.2 r is)
 
 -- all that was ready
-pub given_all : (items : List Item) (c d : State) → Given c items d → ready d ≡ false → Gives c items d
+pub given_all : (items : List Item) (c d : State) → Given c items d → ready d ≡ false → CollectorGives c items d
 given_all [] c d g r = (ap ready (sym g) ∙ r, g)
 given_all (first ∷ items) c d g r = (g.0, g.1, given_all items (after_item c) d g.2 r)
 
 -- what is given so far, and then all that is left
-pub gives_after : (items more : List Item) (c d e : State) → Given c items d → Gives d more e → Gives c (items ++ more) e
-gives_after [] more c d e gives rest = subst (λ (s : State). Gives s more e) gives rest
+pub gives_after : (items more : List Item) (c d e : State) → Given c items d → CollectorGives d more e → CollectorGives c (items ++ more) e
+gives_after [] more c d e gives rest = subst (λ (s : State). CollectorGives s more e) gives rest
 gives_after (item ∷ items) more c d e gives rest = (gives.0, gives.1, gives_after items more (after_item c) d e gives.2 rest)
 
 -- a whole giving is a giving so far, after which nothing is ready
-pub gives_given : (items : List Item) (c d : State) → Gives c items d → Given c items d × (ready d ≡ false)
+pub gives_given : (items : List Item) (c d : State) → CollectorGives c items d → Given c items d × (ready d ≡ false)
 gives_given [] c d g = (g.1, ap ready g.1 ∙ g.0)
 gives_given (first ∷ items) c d g =
     let rest = gives_given items (after_item c) d g.2 in
@@ -32,7 +32,7 @@ gives_given (first ∷ items) c d g =
 
 pub steps_join : StepsJoin
 steps_join c mid after [] later [] answers' given given' s t =
-    subst (λ items. Steps c later answers' items after) (ap (λ l. l ++ given') (sym s.0)) (subst (λ m. Steps m later answers' given' after) s.1 t)
+    subst (λ items. CollectorSteps c later answers' items after) (ap (λ l. l ++ given') (sym s.0)) (subst (λ m. CollectorSteps m later answers' given' after) s.1 t)
 steps_join c mid after [] later (a ∷ answers) answers' given given' s t = absurd s
 steps_join c mid after (datagram ∷ before) later [] answers' given given' s t = absurd s
 steps_join c mid after (datagram ∷ before) later (a ∷ answers) answers' given given' (now, more, kept, next, takes, gives, steps, are) t = (
@@ -48,13 +48,13 @@ steps_join c mid after (datagram ∷ before) later (a ∷ answers) answers' give
 
 -- one datagram
 pub steps_one : (c kept after : State) (datagram : List ℕ) (a : Taken) (now : List Item)
-    → Takes c datagram a kept → Gives kept now after → Steps c (datagram ∷ []) (a ∷ []) now after
+    → CollectorTakes c datagram a kept → CollectorGives kept now after → CollectorSteps c (datagram ∷ []) (a ∷ []) now after
 steps_one c kept after datagram a now takes gives = (now, [], kept, after, takes, gives, (refl, refl), sym (append-nil now))
 
 -- one datagram more, and what was ready after it
 pub steps_more : (datagrams : List (List ℕ)) (answers : List Taken) (given now : List Item) (c d kept after : State) (datagram : List ℕ) (a : Taken)
-    → Steps c datagrams answers given d → Takes d datagram a kept → Gives kept now after
-    → Steps c (datagrams ++ datagram ∷ []) (answers ++ a ∷ []) (given ++ now) after
+    → CollectorSteps c datagrams answers given d → CollectorTakes d datagram a kept → CollectorGives kept now after
+    → CollectorSteps c (datagrams ++ datagram ∷ []) (answers ++ a ∷ []) (given ++ now) after
 steps_more datagrams answers given now c d kept after datagram a steps takes gives =
     steps_join c d after datagrams (datagram ∷ []) answers (a ∷ []) given now steps (steps_one d kept after datagram a now takes gives)
 
@@ -74,20 +74,20 @@ steps_part c after (datagram ∷ before) later (a ∷ answers) given (now, more,
       are ∙ ap (λ l. now ++ l) items ∙ sym (append_assoc now early late),
     )
 
-pub gives_count : (items : List Item) (c d : State) → Gives c items d → d.next ≡ c.next + length items
+pub gives_count : (items : List Item) (c d : State) → CollectorGives c items d → d.next ≡ c.next + length items
 gives_count [] c d g = ap (λ m. m.next) g.1 ∙ omega arith
 gives_count (first ∷ items) c d g = gives_count items (after_item c) d g.2 ∙ omega arith
 
 -- ---- the reach stays as it is
 
-pub gives_reach : (items : List Item) (c d : State) → Gives c items d → d.reach ≡ c.reach
+pub gives_reach : (items : List Item) (c d : State) → CollectorGives c items d → d.reach ≡ c.reach
 gives_reach [] c d g = ap (λ m. m.reach) g.1
 gives_reach (first ∷ items) c d g = gives_reach items (after_item c) d g.2
 
-pub takes_reach : (c kept : State) (datagram : List ℕ) (a : Taken) → Takes c datagram a kept → kept.reach ≡ c.reach
+pub takes_reach : (c kept : State) (datagram : List ℕ) (a : Taken) → CollectorTakes c datagram a kept → kept.reach ≡ c.reach
 takes_reach c kept datagram a takes = ap (λ m. m.reach) takes.after_is ∙ take_reach c takes.read
 
-pub steps_reach : (c d : State) (datagrams : List (List ℕ)) (answers : List Taken) (given : List Item) → Steps c datagrams answers given d → d.reach ≡ c.reach
+pub steps_reach : (c d : State) (datagrams : List (List ℕ)) (answers : List Taken) (given : List Item) → CollectorSteps c datagrams answers given d → d.reach ≡ c.reach
 steps_reach c d [] [] given s = ap (λ m. m.reach) s.1
 steps_reach c d [] (a ∷ answers) given s = absurd s
 steps_reach c d (datagram ∷ datagrams) [] given s = absurd s

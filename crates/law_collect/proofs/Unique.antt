@@ -4,7 +4,7 @@ use Rattle.dcp_collect.specs.declared.taken.Taken.{Taken}
 use Rattle.dcp_collect.specs.Fragments.{Fragment, suffice, of_packet}
 use Rattle.dcp_collect.specs.State.{State, answer, after_item, after_take}
 use Rattle.dcp_collect.specs.Decoding.{IsDecoded}
-use Rattle.dcp_collect.specs.Runs.{Item, Packet, Lost, Damaged, IsItem, Takes, Gives, Steps}
+use Rattle.dcp_collect.specs.Runs.{Item, Packet, Lost, Damaged, IsItem, CollectorTakes, CollectorGives, CollectorSteps}
 use Rattle.law_collect.specs.Laws.{OneReading, OneGiving, OneRun}
 
 -- fragments give no two byte lists
@@ -44,7 +44,7 @@ one_giving one_decoding c after after' (x ∷ xs) (y ∷ ys) g h =
 
 -- a datagram is answered in one way
 pub one_taking : (one_reading : OneReading) (c d d' : State) (datagram : List ℕ) (a a' : Taken)
-    → Takes c datagram a d → Takes c datagram a' d' → (a' ≡ a) × (d' ≡ d)
+    → CollectorTakes c datagram a d → CollectorTakes c datagram a' d' → (a' ≡ a) × (d' ≡ d)
 one_taking one_reading c d d' datagram a a' g h =
     let e = one_reading datagram g.read h.read g.is_read h.is_read in
     (h.taken_is ∙ ap (answer c) e ∙ sym g.taken_is, h.after_is ∙ ap (after_take c) e ∙ sym g.after_is)
@@ -58,8 +58,8 @@ one_run one_reading one_decoding c after after' (datagram ∷ datagrams) (a ∷ 
 one_run one_reading one_decoding c after after' (datagram ∷ datagrams) (a ∷ answers) (a' ∷ answers') given given'
     (now, later, kept, mid, takes, gives, steps, are) (now', later', kept', mid', takes', gives', steps', are') =
     let told = one_taking one_reading c kept kept' datagram a a' takes takes' in
-    let items = one_giving one_decoding kept mid mid' now now' gives (subst (λ m. Gives m now' mid') told.1 gives') in
-    let rest = one_run one_reading one_decoding mid after after' datagrams answers answers' later later' steps (subst (λ m. Steps m datagrams answers' later' after') items.1 steps') in (
+    let items = one_giving one_decoding kept mid mid' now now' gives (subst (λ m. CollectorGives m now' mid') told.1 gives') in
+    let rest = one_run one_reading one_decoding mid after after' datagrams answers answers' later later' steps (subst (λ m. CollectorSteps m datagrams answers' later' after') items.1 steps') in (
       (let p : a' ≡ a = told.0 in let q : answers' ≡ answers = rest.0 in cc),
       are' ∙ (let p : now' ≡ now = items.0 in let q : later' ≡ later = rest.1 in let e : (now' ++ later') ≡ (now ++ later) = cc in e) ∙ sym are,
       rest.2,

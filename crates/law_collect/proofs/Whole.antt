@@ -12,7 +12,7 @@ use Rattle.dcp_collect.specs.declared.taken.Taken.TheVariants.{Kept}
 use Rattle.dcp_collect.specs.Reading.{Incoming, Brings}
 use Rattle.dcp_collect.specs.State.{State, made, is_far, number_of, answer, answer_at, after_answer, after_take, after_finish}
 use Rattle.dcp_collect.specs.Numbers.{end_of}
-use Rattle.dcp_collect.specs.Runs.{Item, Takes, Gives, Steps, Run, up_to}
+use Rattle.dcp_collect.specs.Runs.{Item, CollectorTakes, CollectorGives, CollectorSteps, Run, up_to}
 use Rattle.dcp_pft.specs.declared.carry.Carry.{Carry}
 use Rattle.law_collect.specs.Delivery.{packet_at, number, newest_of, item, items, IsWithinSpan, IsBase}
 use Rattle.law_collect.specs.Laws.{OneReading, IsRight}
@@ -89,7 +89,7 @@ module _ (carry : Carry) (packets : List (List ℕ)) (sequence0 window reach : �
 
   module _ (one_reading : OneReading) where
     -- however it was read
-    step_by : (c d : State) (a : Taken) (pairs : List (ℕ × ℕ)) (pair : ℕ × ℕ) (rest : List (ℕ × ℕ)) (datagram : List ℕ) → Takes c datagram a d
+    step_by : (c d : State) (a : Taken) (pairs : List (ℕ × ℕ)) (pair : ℕ × ℕ) (rest : List (ℕ × ℕ)) (datagram : List ℕ) → CollectorTakes c datagram a d
         → IsOpen carry packets window base pairs c → BringsPair carry sequence0 packets pair datagram
         → IsBase sequence0 c.first (pair ∷ rest) base → c.reach ≡ reach → IsWithinSpan reach base (newest_of base None pairs) (pair ∷ rest)
         → IsOpen carry packets window base (pairs ++ pair ∷ []) d × IsRight a × IsBase sequence0 d.first rest base × (d.next ≡ c.next)
@@ -103,7 +103,7 @@ module _ (carry : Carry) (packets : List (List ℕ)) (sequence0 window reach : �
 
     steps_are : (rest pairs all : List (ℕ × ℕ)) (datagrams : List (List ℕ)) (c d : State) (answers : List Taken) (given : List Item)
         → pairs ++ rest ≡ all → IsOpen carry packets window base pairs c → AllZip (BringsPair carry sequence0 packets) rest datagrams
-        → IsBase sequence0 c.first rest base → c.reach ≡ reach → IsWithinSpan reach base (newest_of base None pairs) rest → Steps c datagrams answers given d
+        → IsBase sequence0 c.first rest base → c.reach ≡ reach → IsWithinSpan reach base (newest_of base None pairs) rest → CollectorSteps c datagrams answers given d
         → IsOpen carry packets window base all d × AllByRecursion IsRight answers
         × (first_items (item carry packets window base all) c.next ++ given ≡ first_items (item carry packets window base all) d.next)
     steps_are [] pairs all [] c d [] given e o z b r span run =
@@ -170,7 +170,7 @@ up_to_is I (Some n) newest m l e = take-map-range_with_len I 0 m n l
 ended : (carry : Carry) (packets : List (List ℕ)) (window : ℕ) (told : Option ℕ) (base : ℤ) (cuts : AreCut carry packets)
     (pairs : List (ℕ × ℕ)) (before rest given : List Item) (mid after : State)
     → IsOpen carry packets window base pairs mid → before ≡ first_items (item carry packets window base pairs) mid.next
-    → Gives (after_finish mid told) rest after → given ≡ up_to told (before ++ rest) → given ≡ items carry packets window base told pairs
+    → CollectorGives (after_finish mid told) rest after → given ≡ up_to told (before ++ rest) → given ≡ items carry packets window base told pairs
 ended carry packets window told base cuts pairs before rest given mid after o before_is g e =
     let last = gives_to_end carry packets window base (λ q packet at. cut_at carry packets (base +ℤ pos q) packet cuts at) pairs (end_of told mid.newest) rest (after_finish mid told) after
     (finish_after carry packets window base pairs mid told o.is_after) refl g in

@@ -9,7 +9,7 @@ use Rattle.dcp_collect.specs.declared.taken.Taken.{Taken}
 use Rattle.dcp_collect.specs.declared.taken.Taken.TheVariants.{Kept, Repeated, Late, Refused}
 use Rattle.dcp_collect.specs.Reading.{Incoming, Read, Unread, Brings, IsRead}
 use Rattle.dcp_collect.specs.State.{State, made, is_far, number_of, answer_within, ready, after_item, nearest}
-use Rattle.dcp_collect.specs.Runs.{Item, Packet, IsItem, Takes, Gives, Steps, Run}
+use Rattle.dcp_collect.specs.Runs.{Item, Packet, IsItem, CollectorTakes, CollectorGives, CollectorSteps, Run}
 use Rattle.dcp_pft.specs.declared.carry.Carry.{Carry}
 use Rattle.dcp_pft.specs.Carrying.{shape_under, losses}
 use Rattle.law_collect.specs.Delivery.{AreSent, AreDelivered, packet_at, got, item, items, IsWithinSpan, IsBase}
@@ -54,13 +54,13 @@ HasCause c cause datagram = IsRead (Unread cause) datagram
 -- What has cause to be refused is, and nothing else; and the collector stays as it was.
 abbrev pub Refusing : Type 0
 Refusing =
-    (c after : State) (datagram : List ℕ) (taken : Taken) (cause : Field) → Takes c datagram taken after
+    (c after : State) (datagram : List ℕ) (taken : Taken) (cause : Field) → CollectorTakes c datagram taken after
     → (HasCause c cause datagram ↔ (taken ≡ Refused cause)) × (taken ≡ Refused cause → after ≡ c)
 
 -- With the greatest reach nothing is far: what can be read is answered as if there were none.
 abbrev pub ReachingAll : Type 0
 ReachingAll =
-    (c after : State) (datagram : List ℕ) (taken : Taken) → 32767 ≤ c.reach → Takes c datagram taken after
+    (c after : State) (datagram : List ℕ) (taken : Taken) → 32767 ≤ c.reach → CollectorTakes c datagram taken after
     → (taken ≡ Refused Far → ⊥)
     × ((incoming : Incoming) → IsRead (Brings incoming) datagram → taken ≡ answer_within c (number_of c incoming) incoming.head)
 
@@ -94,35 +94,35 @@ InTime =
 abbrev pub OneRun : Type 0
 OneRun =
     (c after after' : State) (datagrams : List (List ℕ)) (answers answers' : List Taken) (given given' : List Item)
-    → Steps c datagrams answers given after → Steps c datagrams answers' given' after'
+    → CollectorSteps c datagrams answers given after → CollectorSteps c datagrams answers' given' after'
     → (answers' ≡ answers) × (given' ≡ given) × (after' ≡ after)
 
 abbrev pub OneGiving : Type 0
 OneGiving =
     (c after after' : State) (given given' : List Item)
-    → Gives c given after → Gives c given' after' → (given' ≡ given) × (after' ≡ after)
+    → CollectorGives c given after → CollectorGives c given' after' → (given' ≡ given) × (after' ≡ after)
 
 -- steps one after another are steps
 abbrev pub StepsJoin : Type 0
 StepsJoin =
     (c mid after : State) (before later : List (List ℕ)) (answers answers' : List Taken) (given given' : List Item)
-    → Steps c before answers given mid → Steps mid later answers' given' after
-    → Steps c (before ++ later) (answers ++ answers') (given ++ given') after
+    → CollectorSteps c before answers given mid → CollectorSteps mid later answers' given' after
+    → CollectorSteps c (before ++ later) (answers ++ answers') (given ++ given') after
 
 -- and steps over datagrams are steps over the first of them, and then over the others
 abbrev pub StepsPart : Type 0
 StepsPart =
     (c after : State) (before later : List (List ℕ)) (answers : List Taken) (given : List Item)
-    → Steps c (before ++ later) answers given after
+    → CollectorSteps c (before ++ later) answers given after
     → (mid : State) × (first : List Taken) × (last : List Taken) × (now : List Item) × (then_given : List Item)
-    × Steps c before first now mid × Steps mid later last then_given after
+    × CollectorSteps c before first now mid × CollectorSteps mid later last then_given after
     × (answers ≡ first ++ last) × (given ≡ now ++ then_given)
 
 -- each item that is given has the next number
 abbrev pub StepsCount : Type 0
 StepsCount =
     (c after : State) (datagrams : List (List ℕ)) (answers : List Taken) (given : List Item)
-    → Steps c datagrams answers given after → after.next ≡ c.next + length given
+    → CollectorSteps c datagrams answers given after → after.next ≡ c.next + length given
 
 -- the window isn't empty, and what is kept is bytes
 abbrev pub IsFit : State → Type 0
@@ -132,7 +132,7 @@ IsFit c = (1 ≤ c.window) × AllByRecursion (λ f. IsBytes f.payload) c.kept
 abbrev pub GivingEnds : Type 0
 GivingEnds =
     (c : State) → 1 ≤ c.window → AllByRecursion (λ f. IsBytes f.payload) c.kept
-    → (given : List Item) × (after : State) × Gives c given after
+    → (given : List Item) × (after : State) × CollectorGives c given after
 
 -- So many items one datagram brings at most: it can be newer by 32,767, and as many as the window are waited for. Once
 -- something was kept, it can be newer by the reach.
@@ -144,6 +144,6 @@ abbrev pub FewAtOnce : Type 0
 FewAtOnce =
     (window reach : ℕ) (first : Option ℕ) (datagrams : List (List ℕ)) (answers : List Taken) (given : List Item) (mid : State)
     (datagram : List ℕ) (taken : Taken) (kept : State) (items : List Item) (after : State)
-    → 1 ≤ window → Steps (made window reach first) datagrams answers given mid
-    → Takes mid datagram taken kept → Gives kept items after
+    → 1 ≤ window → CollectorSteps (made window reach first) datagrams answers given mid
+    → CollectorTakes mid datagram taken kept → CollectorGives kept items after
     → (length items ≤ most_at_once window) × IfSome mid.newest (λ n. length items ≤ reach + window)

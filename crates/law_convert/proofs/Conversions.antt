@@ -6,7 +6,7 @@ use Rattle.std.proofs.lemmas.List.{append-nil, take-append-le}
 use Rattle.dcp_pft.specs.declared.carry.Carry.{Carry}
 use Rattle.dcp_collect.specs.declared.taken.Taken.{Taken}
 use Rattle.dcp_collect.specs.State.{State, made, after_finish}
-use Rattle.dcp_collect.specs.Runs.{Item, Gives, Steps, Run, up_to}
+use Rattle.dcp_collect.specs.Runs.{Item, CollectorGives, CollectorSteps, Run, up_to}
 use Rattle.law_collect.specs.Laws.{GivingEnds, OneReading, Refusing, OneRun, StepsPart}
 use Rattle.drm_schedule.specs.declared.plan.Plan.{Plan}
 use Rattle.drm_timeline.specs.Numbers.{frame_count}
@@ -33,7 +33,7 @@ run_gives : OneRun → (plan : Plan) (window reach : ℕ) (first told : Option �
     → IsCollected plan window reach first datagrams → MayBeTold plan told → Run window reach first told datagrams answers items → AreAll plan items
 run_gives one_run plan window reach first told datagrams answers items c may run =
     let (same, given, mid) = one_run (made window reach first) run.mid c.mid datagrams answers c.answers run.during c.given run.steps c.steps in
-    let gives : Gives (after_finish c.mid told) run.rest run.after = subst (λ s. Gives (after_finish s told) run.rest run.after) (sym mid) run.gives in
+    let gives : CollectorGives (after_finish c.mid told) run.rest run.after = subst (λ s. CollectorGives (after_finish s told) run.rest run.after) (sym mid) run.gives in
     let as_given : up_to told (c.given ++ run.rest) ≡ items = ap (λ l. up_to told (l ++ run.rest)) given ∙ sym run.are in
     subst (AreAll plan) as_given (c.all told run.rest run.after may gives)
 
@@ -82,7 +82,7 @@ run_as window reach first told n packets taken items known run = (
     mid = run.mid;
     after = run.after;
     steps = run.steps;
-    gives = subst (λ o. Gives (after_finish run.mid o) run.rest run.after) known run.gives;
+    gives = subst (λ o. CollectorGives (after_finish run.mid o) run.rest run.after) known run.gives;
     are = run.are ∙ ap (λ o. up_to o (run.during ++ run.rest)) known;
   },
   refl,
@@ -128,7 +128,7 @@ first_of_all_packets plan t (item ∷ given) more are = (are.0, first_of_all_pac
 
 -- what was given of a front are packets of some first frames
 front_packets : GivingEnds → OneRun → StepsPart → (plan : Plan) (window reach : ℕ) (first : Option ℕ) (packets later : List (List ℕ)) (answers : List Taken) (given : List Item) (mid : State)
-    → IsCollected plan window reach first (packets ++ later) → Steps (made window reach first) packets answers given mid → AreFrom plan 0 given × (length given ≤ frame_count plan)
+    → IsCollected plan window reach first (packets ++ later) → CollectorSteps (made window reach first) packets answers given mid → AreFrom plan 0 given × (length given ≤ frame_count plan)
 front_packets giving_ends one_run steps_part plan window reach first packets later answers given mid c steps =
     let (between, replies, more, now, then_given, first_steps, steps_on, are_answers, are_given) = steps_part (made window reach first) c.mid packets later c.answers c.given c.steps in
     let same : now ≡ given = (one_run (made window reach first) mid between packets answers replies given now steps first_steps).1 in

@@ -11,7 +11,7 @@ use Rattle.dcp_pft.specs.Loss.{size}
 use Rattle.dcp_collect.specs.declared.taken.Taken.{Taken}
 use Rattle.dcp_collect.specs.Numbers.{newer, end_of}
 use Rattle.dcp_collect.specs.State.{State, made, after_finish}
-use Rattle.dcp_collect.specs.Runs.{Item, Gives, Steps, up_to}
+use Rattle.dcp_collect.specs.Runs.{Item, CollectorGives, CollectorSteps, up_to}
 use Rattle.law_collect.specs.Delivery.{number, newer_number, newest_of, packet_at, got, item, items}
 use Rattle.law_collect.specs.Laws.{Collecting, InTime, IsFit, GivingEnds, OneRun}
 use Rattle.drm_schedule.specs.declared.plan.Plan.{Plan}
@@ -90,9 +90,9 @@ pub record IsCollected (plan : Plan) (window reach : ℕ) (first : Option ℕ) (
   pub given : List Item
   pub mid : State
   pub fit : IsFit mid
-  pub steps : Steps (made window reach first) datagrams answers given mid
+  pub steps : CollectorSteps (made window reach first) datagrams answers given mid
   pub enough : frame_count plan ≤ length given
-  pub all : (told : Option ℕ) (rest : List Item) (after : State) → MayBeTold plan told → Gives (after_finish mid told) rest after → AreAll plan (up_to told (given ++ rest))
+  pub all : (told : Option ℕ) (rest : List Item) (after : State) → MayBeTold plan told → CollectorGives (after_finish mid told) rest after → AreAll plan (up_to told (given ++ rest))
 
 -- as many as the frames, where the end is told or nothing is beyond it
 many_of : (plan : Plan) (told newest : Option ℕ) (given rest : List Item) → MayBeTold plan told → frame_count plan ≤ length given → end_of None newest ≤ frame_count plan

@@ -12,7 +12,7 @@ use Rattle.dcp_collect.specs.declared.taken.Taken.{Taken}
 use Rattle.dcp_collect.specs.declared.taken.Taken.TheVariants.{Kept}
 use Rattle.dcp_collect.specs.Reading.{Incoming, Read, Unread, Brings}
 use Rattle.dcp_collect.specs.State.{State, made, ready, number_of, answer, answer_at, after_answer, after_take}
-use Rattle.dcp_collect.specs.Runs.{Item, Takes, Gives, Steps}
+use Rattle.dcp_collect.specs.Runs.{Item, CollectorTakes, CollectorGives, CollectorSteps}
 use Rattle.law_collect.specs.Delivery.{sequence_at, IsBase}
 use Rattle.law_collect.specs.Laws.{OneReading, HasCause, Refusing, OneRun}
 use Rattle.law_collect.proofs.Based.{kept_first}
@@ -22,7 +22,7 @@ use Rattle.law_collect.proofs.Stays.{first_stays}
 use Rattle.drm_schedule.specs.declared.plan.Plan.{Plan}
 use Rattle.drm_schedule.specs.Valid.{IsSchedule}
 use Rattle.law_delivery.specs.Laws.{AllAtOnce}
-use Rattle.law_delivery.specs.Sent.{Arrival, OfSchedule, Stray, IsStray, IsArrival, IsFarIfSo, AreFar, pairs_in, IsFollowed}
+use Rattle.law_delivery.specs.Sent.{Arrival, OfSchedule, Stray, IsStray, IsArrival, IsFarIfSo, AreFar, pairs_in, IsDeliveryOf}
 use Rattle.law_delivery.proofs.Following.{brings_of}
 use Rattle.recv_reading.proofs.Ways.{gives_first}
 use Rattle.law_convert.specs.Laws.{IsFirstOf, KnowsFirst, FirstIsKnown, FirstOfAll}
@@ -34,7 +34,7 @@ first_taken : (c : State) (read : Read) (f : ℕ) → c.first ≡ Some f → (af
 first_taken c (Unread field) f is = is
 first_taken c (Brings incoming) f is = first_stays c (number_of c incoming) incoming (answer c (Brings incoming)) f is
 
-pub first_steps : (c d : State) (datagrams : List (List ℕ)) (answers : List Taken) (given : List Item) (f : ℕ) → Steps c datagrams answers given d → c.first ≡ Some f → d.first ≡ Some f
+pub first_steps : (c d : State) (datagrams : List (List ℕ)) (answers : List Taken) (given : List Item) (f : ℕ) → CollectorSteps c datagrams answers given d → c.first ≡ Some f → d.first ≡ Some f
 first_steps c d [] [] given f steps is = ap (λ s. s.first) steps.1 ∙ is
 first_steps c d [] (a ∷ answers) given f steps is = absurd steps
 first_steps c d (datagram ∷ datagrams) [] given f steps is = absurd steps
@@ -46,7 +46,7 @@ first_steps c d (datagram ∷ datagrams) (a ∷ answers) given f (now, later, ke
 
 module _ (one_reading : OneReading) where
   pub first_told : (carry : Carry) (sequence0 window reach : ℕ) (packets : List (List ℕ)) (pair : ℕ × ℕ) (datagram : List ℕ) (a : Taken) (kept : State)
-      → BringsPair carry sequence0 packets pair datagram → Takes (made window reach None) datagram a kept → kept.first ≡ Some (sequence_at sequence0 pair.0)
+      → BringsPair carry sequence0 packets pair datagram → CollectorTakes (made window reach None) datagram a kept → kept.first ≡ Some (sequence_at sequence0 pair.0)
   first_told carry sequence0 window reach packets pair datagram a kept brings takes =
       let v : Incoming = brings.incoming in
       let c : State = made window reach None in
@@ -58,7 +58,7 @@ module _ (one_reading : OneReading) where
       ap (λ s. s.first) (takes.after_is ∙ ap (after_take c) same) ∙ (first ∙ ap (λ n. Some n) brings.sequence)
 
 -- a collector from which nothing is ready gives nothing
-nothing_given : (c kept mid : State) (now : List Item) → ready c ≡ false → kept ≡ c → Gives kept now mid → (now ≡ []) × (mid ≡ c)
+nothing_given : (c kept mid : State) (now : List Item) → ready c ≡ false → kept ≡ c → CollectorGives kept now mid → (now ≡ []) × (mid ≡ c)
 nothing_given c kept mid [] idle same gives = (refl, gives.1 ∙ same)
 nothing_given c kept mid (item ∷ now) idle same gives = absurd (true≢false (sym gives.0 ∙ (ap ready same ∙ idle)))
 
@@ -72,7 +72,7 @@ fresh_cause reach sequence0 c Far datagram stray far = absurd (let above = far.a
 
 module _ (one_reading : OneReading) (refusing : Refusing) (plan : Plan) (is : IsSchedule plan) (window reach : ℕ) where
   none_told : (arrivals : List Arrival) (datagrams : List (List ℕ)) (answers : List Taken) (given : List Item) (mid : State) → AllZip (IsArrival plan) arrivals datagrams
-      → AreFar reach plan.seq (pos 0) None arrivals datagrams → IsBase plan.seq None (pairs_in arrivals) (pos 0) → Steps (made window reach None) datagrams answers given mid → 1 ≤ length given → mid.first ≡ Some (sequence_at plan.seq 0)
+      → AreFar reach plan.seq (pos 0) None arrivals datagrams → IsBase plan.seq None (pairs_in arrivals) (pos 0) → CollectorSteps (made window reach None) datagrams answers given mid → 1 ≤ length given → mid.first ≡ Some (sequence_at plan.seq 0)
   none_told [] [] [] given mid all far base steps some = absurd (let none : length given ≡ 0 = ap length steps.0 in omega (arith, some, none))
   none_told [] [] (a ∷ answers) given mid all far base steps some = absurd steps
   none_told [] (datagram ∷ datagrams) answers given mid all far base steps some = absurd all
@@ -88,7 +88,7 @@ module _ (one_reading : OneReading) (refusing : Refusing) (plan : Plan) (is : Is
       let refused = refusing c kept datagram a cause takes in
       let none = nothing_given c kept after now refl (refused.1 (refused.0.0 (fresh_cause reach plan.seq c cause datagram all.0 far.0))) gives in
       let same : given ≡ later = are ∙ ap (λ l. l ++ later) none.0 in
-      none_told arrivals datagrams answers later mid all.1 far.1 base (subst (λ s. Steps s datagrams answers later mid) none.1 steps) (omega (arith, some, ap length same))
+      none_told arrivals datagrams answers later mid all.1 far.1 base (subst (λ s. CollectorSteps s datagrams answers later mid) none.1 steps) (omega (arith, some, ap length same))
 
   -- one that was told has it, too
   told_first : (f : ℕ) (pairs : List (ℕ × ℕ)) → IsBase plan.seq (Some f) pairs (pos 0) → IsFirstOf plan f
@@ -97,7 +97,7 @@ module _ (one_reading : OneReading) (refusing : Refusing) (plan : Plan) (is : Is
 
   -- after steps over a front of a delivery that gave anything
   pub knows_first : (first : Option ℕ) (arrivals : List Arrival) (datagrams later : List (List ℕ)) (answers : List Taken) (given : List Item) (mid : State)
-      → IsFollowed plan reach first (pos 0) arrivals (datagrams ++ later) → Steps (made window reach first) datagrams answers given mid → 1 ≤ length given → KnowsFirst plan mid
+      → IsDeliveryOf plan reach first (pos 0) arrivals (datagrams ++ later) → CollectorSteps (made window reach first) datagrams answers given mid → 1 ≤ length given → KnowsFirst plan mid
   knows_first None arrivals datagrams later answers given mid followed steps some =
       let front = front_followed plan reach None arrivals datagrams later followed in
       (sequence_at plan.seq 0, none_told (take (length datagrams) arrivals) datagrams answers given mid front.arrive front.far front.based steps some, omega arith)
@@ -116,5 +116,5 @@ first_of_all one_reading refusing one_run at_once plan window reach first told a
     let (replies, given, mid, steps, enough) = at_once plan window reach first arrivals datagrams whole.schedule whole.followed whole.in_time in
     let same : given ≡ run.during = (one_run (made window reach first) run.mid mid datagrams answers replies run.during given run.steps steps).1 in
     let some : 1 ≤ length run.during = omega (arith, least, enough, ap length same) in
-    let followed : IsFollowed plan reach first (pos 0) arrivals (datagrams ++ []) = subst (λ l. IsFollowed plan reach first (pos 0) arrivals l) (sym (append-nil datagrams)) whole.followed in
+    let followed : IsDeliveryOf plan reach first (pos 0) arrivals (datagrams ++ []) = subst (λ l. IsDeliveryOf plan reach first (pos 0) arrivals l) (sym (append-nil datagrams)) whole.followed in
     knows_first one_reading refusing plan whole.schedule window reach first arrivals datagrams [] answers run.during run.mid followed run.steps some

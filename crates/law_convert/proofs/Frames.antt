@@ -4,7 +4,7 @@ use Rattle.std.specs.List.{concat}
 use Rattle.std.proofs.Math.Seq.{take-suc}
 use Rattle.std.proofs.lemmas.List.{take_all}
 use Rattle.dcp_pft.specs.declared.carry.Carry.{Carry}
-use Rattle.dcp_pft.specs.Carrying.{datagram_count, Carries}
+use Rattle.dcp_pft.specs.Carrying.{datagram_count, CarriesPacket}
 use Rattle.drm_schedule.specs.declared.plan.Plan.{Plan}
 use Rattle.drm_timeline.specs.Numbers.{sequence_number}
 use Rattle.drm_server.specs.Frames.{IsPacketAt}
@@ -44,7 +44,7 @@ of_frame plan carry n t packet text at first carried =
       packet = packet;
       is_packet = here;
       within = omega (arith, within, carried.are.many);
-      is = subst (λ s. Carries carry s packet i (slice_index_or datagrams i [])) (same_sequence plan n t first) (carried.are.each i [] within);
+      is = subst (λ s. CarriesPacket carry s packet i (slice_index_or datagrams i [])) (same_sequence plan n t first) (carried.are.each i [] within);
     } in
     let front : AreFirst (under carry plan) t (length datagrams) (take (length datagrams) datagrams) = first_ones (under carry plan) t datagrams each (length datagrams) (omega arith) in
     let all : AreFirst (under carry plan) t (length datagrams) datagrams = subst (λ l. AreFirst (under carry plan) t (length datagrams) l) (take_all (length datagrams) datagrams (omega arith)) front in (

@@ -3,7 +3,7 @@ use Rattle.std.proofs.Common.{ℕ, zero, suc, List, [], ◌∷◌, ◌++◌, len
 use Rattle.std.specs.Prelude.{ℤ, pos}
 use Rattle.law_collect.specs.Delivery.{number, newer_number, IsWithinSpan, IsBase}
 use Rattle.drm_schedule.specs.declared.plan.Plan.{Plan}
-use Rattle.law_delivery.specs.Sent.{Arrival, OfSchedule, Stray, pairs_in, IsFollowed}
+use Rattle.law_delivery.specs.Sent.{Arrival, OfSchedule, Stray, pairs_in, IsDeliveryOf}
 use Rattle.law_delivery.proofs.Following.{far_front}
 use Rattle.law_delivery.proofs.Strays.{front_arrives}
 
@@ -26,8 +26,8 @@ front_based seq None arrivals n base = none_based seq arrivals n base
 front_based seq (Some f) arrivals n base = base
 
 -- where numbers count from the schedule's first frame
-pub front_followed : (plan : Plan) (reach : ℕ) (first : Option ℕ) (arrivals : List Arrival) (datagrams later : List (List ℕ)) → IsFollowed plan reach first (pos 0) arrivals (datagrams ++ later)
-    → IsFollowed plan reach first (pos 0) (take (length datagrams) arrivals) datagrams
+pub front_followed : (plan : Plan) (reach : ℕ) (first : Option ℕ) (arrivals : List Arrival) (datagrams later : List (List ℕ)) → IsDeliveryOf plan reach first (pos 0) arrivals (datagrams ++ later)
+    → IsDeliveryOf plan reach first (pos 0) (take (length datagrams) arrivals) datagrams
 front_followed plan reach first arrivals datagrams later followed = record {
   arrive = (front_arrives plan arrivals datagrams later followed.arrive).0;
   based = front_based plan.seq first arrivals (length datagrams) followed.based;

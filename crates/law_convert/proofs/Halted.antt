@@ -9,7 +9,7 @@ use Rattle.dcp_pft.specs.Carrying.{CarryFits, datagram_count}
 use Rattle.dcp_pft.proofs.Sizes.{some_fragments}
 use Rattle.dcp_collect.specs.declared.taken.Taken.{Taken}
 use Rattle.dcp_collect.specs.State.{State, made, after_finish}
-use Rattle.dcp_collect.specs.Runs.{Item, Takes, Steps, up_to}
+use Rattle.dcp_collect.specs.Runs.{Item, CollectorTakes, CollectorSteps, up_to}
 use Rattle.law_collect.specs.Laws.{GivingEnds, OneReading, Refusing, StepsPart}
 use Rattle.drm_schedule.specs.declared.plan.Plan.{Plan}
 use Rattle.drm_schedule.specs.Valid.{IsSchedule}
@@ -19,7 +19,7 @@ use Rattle.drm_server.specs.Datagrams.{HasDatagrams, AreOfFrames}
 use Rattle.drm_server.specs.Capture.{IsFrontOfCapture}
 use Rattle.drm_server.proofs.CaptureLemmas.{one_or_more}
 use Rattle.drm_server.proofs.OnePacket.{one_packet}
-use Rattle.law_delivery.specs.Sent.{Arrival, IsFollowed}
+use Rattle.law_delivery.specs.Sent.{Arrival, IsDeliveryOf}
 use Rattle.law_delivery.proofs.Configurations.{size_fits}
 use Rattle.law_delivery.proofs.Lengths.{packet_long}
 use Rattle.recv_reading.specs.Packets.{ComesAt, ComesTo, Terms}
@@ -75,7 +75,7 @@ module _ (collects : Collects) (giving_ends : GivingEnds) (one_reading : OneRead
     counted : (c : State) → KnowsFirst plan c → c.first ≡ last.first → IsFirstOf plan (first_of last)
     counted c (n, known, is) same = counted_from plan last (n, sym same ∙ known, is)
 
-    behind_packet : (bytes : List ℕ) (answer : Taken) → at.later ≡ bytes ∷ [] → Takes at.mid bytes answer at.state → IsComeTo plan items item last
+    behind_packet : (bytes : List ℕ) (answer : Taken) → at.later ≡ bytes ∷ [] → CollectorTakes at.mid bytes answer at.state → IsComeTo plan items item last
     behind_packet bytes answer is takes =
         let c : IsCollected plan terms.window terms.reach terms.first (packets ++ later) = collects plan terms.window terms.reach terms.first arrivals (packets ++ later) whole in
         let (end, after, gives) = giving_ends (after_finish c.mid None) c.fit.0 c.fit.1 in
@@ -94,17 +94,17 @@ module _ (collects : Collects) (giving_ends : GivingEnds) (one_reading : OneRead
     when_finished none is no_more room =
         let c : IsCollected plan terms.window terms.reach terms.first (packets ++ later) = collects plan terms.window terms.reach terms.first arrivals (packets ++ later) whole in
         let all : packets ++ later ≡ packets = ap (λ l. packets ++ l) no_more ∙ append-nil packets in
-        let steps : Steps new packets c.answers c.given c.mid = subst (λ l. Steps new l c.answers c.given c.mid) all c.steps in
+        let steps : CollectorSteps new packets c.answers c.given c.mid = subst (λ l. CollectorSteps new l c.answers c.given c.mid) all c.steps in
         let (end, after, gives) = giving_ends (after_finish c.mid terms.told) c.fit.0 c.fit.1 in
         let begins : Starts items item (c.given ++ end) = finished_starts terms packets items item last at none is c.answers c.given end c.mid after steps gives in
         let least = whole.schedule.in_lines.some_frames in
         let enough = c.enough in
         let some : 1 ≤ length c.given = omega (arith, least, enough) in
-        let followed : IsFollowed plan terms.reach terms.first (pos 0) arrivals ((packets ++ later) ++ []) = subst (λ l. IsFollowed plan terms.reach terms.first (pos 0) arrivals l) (sym (append-nil (packets ++ later))) whole.followed in
+        let followed : IsDeliveryOf plan terms.reach terms.first (pos 0) arrivals ((packets ++ later) ++ []) = subst (λ l. IsDeliveryOf plan terms.reach terms.first (pos 0) arrivals l) (sym (append-nil (packets ++ later))) whole.followed in
         let first : KnowsFirst plan c.mid =
         knows_first one_reading refusing plan whole.schedule terms.window terms.reach terms.first arrivals (packets ++ later) [] c.answers c.given c.mid followed c.steps some in
         let there : c.mid ≡ at.mid =
-        (one_way new at.mid c.mid packets at.taken c.answers at.during c.given (subst (λ l. Steps new l at.taken at.during at.mid) (sym (all_before terms packets items item last at none)) at.steps) steps).2 in
+        (one_way new at.mid c.mid packets at.taken c.answers at.during c.given (subst (λ l. CollectorSteps new l at.taken at.during at.mid) (sym (all_before terms packets items item last at none)) at.steps) steps).2 in
         record {
           all = up_to terms.told (c.given ++ end);
           are = c.all terms.told end after may gives;

@@ -3,12 +3,12 @@ use Rattle.std.proofs.Common.{ℕ, ◌≡◌, ◌≤◌, List, [], ◌++◌, Opt
 use Rattle.std.specs.Prelude.{ℤ}
 use Rattle.dcp_collect.specs.declared.taken.Taken.{Taken}
 use Rattle.dcp_collect.specs.State.{State, made, after_finish}
-use Rattle.dcp_collect.specs.Runs.{Item, Gives, Steps, Run, up_to}
+use Rattle.dcp_collect.specs.Runs.{Item, CollectorGives, CollectorSteps, Run, up_to}
 use Rattle.law_collect.specs.Delivery.{AreSent as AllSent, items}
 use Rattle.law_collect.specs.Laws.{IsHeard, Collecting, IsFit, GivingEnds}
 use Rattle.drm_schedule.specs.declared.plan.Plan.{Plan}
 use Rattle.drm_schedule.specs.Valid.{IsSchedule}
-use Rattle.law_delivery.specs.Sent.{Arrival, pairs_in, AreSent, IsFollowed}
+use Rattle.law_delivery.specs.Sent.{Arrival, pairs_in, AreSent, IsDeliveryOf}
 use Rattle.law_delivery.proofs.Early.{GoesOn, goes_on, all_brought_of}
 use Rattle.law_delivery.proofs.Packets.{ArePackets, some_packets, all_sent, delivered}
 use Rattle.law_delivery.proofs.Strays.{others_of, with_strays, stands_new}
@@ -26,13 +26,13 @@ pub record Hears (plan : Plan) (window reach : ℕ) (first : Option ℕ) (base :
   pub given : List Item
   pub mid : State
   pub fit : IsFit mid
-  pub without : Steps (made window reach first) others replies given mid
-  pub steps : Steps (made window reach first) datagrams answers given mid
-  pub law : (told : Option ℕ) (rest : List Item) (after : State) → Gives (after_finish mid told) rest after → up_to told (given ++ rest) ≡ items plan.carry packets window base told pairs
+  pub without : CollectorSteps (made window reach first) others replies given mid
+  pub steps : CollectorSteps (made window reach first) datagrams answers given mid
+  pub law : (told : Option ℕ) (rest : List Item) (after : State) → CollectorGives (after_finish mid told) rest after → up_to told (given ++ rest) ≡ items plan.carry packets window base told pairs
 
 module _ (collecting : Collecting) (giving_ends : GivingEnds) where
   pub hears : (plan : Plan) (window reach : ℕ) (first : Option ℕ) (base : ℤ) (arrivals : List Arrival) (datagrams : List (List ℕ)) → IsSchedule plan → 1 ≤ window
-      → IsFollowed plan reach first base arrivals datagrams → Hears plan window reach first base (pairs_in arrivals) datagrams
+      → IsDeliveryOf plan reach first base arrivals datagrams → Hears plan window reach first base (pairs_in arrivals) datagrams
   hears plan window reach first base arrivals datagrams is some followed =
       let pairs : List (ℕ × ℕ) = pairs_in arrivals in
       let (others, sent) = others_of plan arrivals datagrams followed.arrive in

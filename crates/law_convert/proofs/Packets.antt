@@ -11,7 +11,7 @@ use Rattle.drm_timeline.specs.Numbers.{frame_count, sequence_number}
 use Rattle.drm_server.specs.Frames.{IsPacketAt}
 use Rattle.drm_server.specs.Datagrams.{AreOfFrame, AreOfFrames}
 use Rattle.drm_server.proofs.DatagramLemmas.{next_frame}
-use Rattle.cmd_convert.specs.Converting.{Part, Converts, ConvertsAll, text_of, lines_of}
+use Rattle.cmd_convert.specs.Converting.{Part, ConvertsItem, ConvertsAll, text_of, lines_of}
 use Rattle.law_convert.specs.Laws.{under, IsFirstOf}
 use Rattle.law_convert.proofs.Frames.{IsOfFrame, of_frame}
 
@@ -32,7 +32,7 @@ from_each plan of t zero each = tt
 from_each plan of t (suc n) each = (each t (omega arith), from_each plan of (t + 1) n (λ q within. each q (omega (arith, within))))
 
 -- what is written of one, and that no line names it
-part_of : (plan : Plan) (carry : Carry) (n t : ℕ) (packet : List ℕ) (part : Part) → IsPacketAt plan t packet → IsFirstOf plan n → Converts carry n (Packet t packet) part
+part_of : (plan : Plan) (carry : Carry) (n t : ℕ) (packet : List ℕ) (part : Part) → IsPacketAt plan t packet → IsFirstOf plan n → ConvertsItem carry n (Packet t packet) part
     → IsOfFrame (under carry plan) t part.out × (part.line ≡ [])
 part_of plan carry n t packet part at first (inl (any, small, carried, none)) = (of_frame plan carry n t packet part.out at first carried, none)
 part_of plan carry n t packet part at first (inr (fault, is, none, line)) =
@@ -59,7 +59,7 @@ module _ (plan : Plan) (carry : Carry) (n : ℕ) (first : IsFirstOf plan n) wher
   all_written t before [] (part ∷ parts) are stand converts = absurd converts
   all_written t before (item ∷ items) [] are stand converts = absurd converts
   all_written t before (item ∷ items) (part ∷ parts) (at, are) stand (converts, more) =
-      let here : Converts carry n (Packet t at.packet) part = subst (λ i. Converts carry n i part) at.same converts in
+      let here : ConvertsItem carry n (Packet t at.packet) part = subst (λ i. ConvertsItem carry n i part) at.same converts in
       let (frame, none) = part_of plan carry n t at.packet part at.is first here in
       let mine : List (List ℕ) = frame.0 in
       let numbered : t ≡ 0 + t = omega arith in

@@ -11,13 +11,13 @@ use Rattle.capture_reader.specs.declared.fault.CaptureFault.{CaptureFault}
 use Rattle.capture_reader.specs.Capture as capture
 use Rattle.capture_reader.specs.Capture.{IsCaptureOf, End}
 use Rattle.capture_reader.specs.Front.{IsWhole}
-use Rattle.capture_reader.specs.Reading.{Breaks}
+use Rattle.capture_reader.specs.Reading.{ReadingBreaks}
 use Rattle.capture_reader.specs.Laws.{ReadOneWay}
 use Rattle.law_capture.specs.Laws.{PacketsInFront}
 use Rattle.drm_schedule.specs.declared.plan.Plan.{Plan}
 use Rattle.drm_server.specs.Capture.{IsCapture, IsFrontOfCapture}
 use Rattle.drm_server.proofs.CaptureLemmas.{end_written}
-use Rattle.law_delivery.specs.Sent.{IsFollowed}
+use Rattle.law_delivery.specs.Sent.{IsDeliveryOf}
 use Rattle.cmd_faults.specs.declared.fault.Fault.TheVariants as faults
 use Rattle.cmd_convert.specs.Converting.{Part, text_of, lines_of}
 use Rattle.cmd_convert.specs.Steps.{has_none}
@@ -116,7 +116,7 @@ module _ (in_front : PacketsInFront) (one_way : ReadOneWay) (conversions : Conve
         Outputs-weaker (IsFront (lines_of parts)) (λ t. t ≡ []) err err' names.front (λ t front. empty_front t (lines_of parts) none front),
       )
   captures_are_converted plan carry terms (Err faults.Read) told before after out out' err err' input rest fits small is_before is_after has may (read, whole, stops, lacks, shorter, parts, is, text, names) =
-      let (held, field, same, cut) = told_of (Breaks read) before after input rest is_before is_after stops in
+      let (held, field, same, cut) = told_of (ReadingBreaks read) before after input rest is_before is_after stops in
       let (later, begins) = front_read in_front one_way input.left has.packets has.capture read (held ++ rest.left) whole same in
       let all : AllInTime plan terms.window terms.reach terms.first has.arrivals (read ++ later) = subst (λ l. AllInTime plan terms.window terms.reach terms.first has.arrivals l) begins has.in_time in
       let (written, none) = broken plan carry terms has.arrivals read later parts all is in (
@@ -134,7 +134,7 @@ module _ (in_front : PacketsInFront) (one_way : ReadOneWay) (conversions : Conve
   captures_are_converted plan carry terms (Err faults.NoMemory) told before after out out' err err' input rest fits small is_before is_after has may (same, still, silent) = (still, silent)
   captures_are_converted plan carry terms (Err (faults.PacketSize number)) told before after out out' err err' input rest fits small is_before is_after has may (items, item, last, reads, large, parts, converts, text, names) =
       let (later, same, all) = begin_read in_front one_way input.left has.packets has.capture reads.at.later reads.packets before after input rest is_before is_after refl reads.read in
-      let followed : IsFollowed plan terms.reach terms.first (pos 0) has.arrivals (reads.packets ++ later) = subst (λ l. IsFollowed plan terms.reach terms.first (pos 0) has.arrivals l) same has.in_time.followed in
+      let followed : IsDeliveryOf plan terms.reach terms.first (pos 0) has.arrivals (reads.packets ++ later) = subst (λ l. IsDeliveryOf plan terms.reach terms.first (pos 0) has.arrivals l) same has.in_time.followed in
       none_is_too_large plan carry terms has.arrivals reads.packets later items item last number has.in_time.schedule small has.in_time.some followed reads.at large
   captures_are_converted plan carry terms (Err (faults.Capture fault)) told before after out out' err err' input rest fits small is_before is_after has may (read, whole, stops, lacks, shorter, parts, broken, text, names) =
       let at = told_of (λ left more. IsCaptureOf left read (capture.Fault fault)) before after input rest is_before is_after stops in

@@ -14,7 +14,7 @@ use Rattle.dcp_pft.specs.Loss.{size, is_recoverable}
 use Rattle.dcp_collect.specs.Numbers.{end_of}
 use Rattle.dcp_collect.specs.State.{State, made, ready, ready_by, after_finish}
 use Rattle.dcp_collect.specs.declared.taken.Taken.{Taken}
-use Rattle.dcp_collect.specs.Runs.{Item, Packet, Lost, Takes, up_to}
+use Rattle.dcp_collect.specs.Runs.{Item, Packet, Lost, CollectorTakes, up_to}
 use Rattle.law_collect.specs.Delivery.{packet_at, got, newest_of, item_by, item, items}
 use Rattle.law_collect.specs.Laws.{Collecting, GivingEnds, StepsCount}
 use Rattle.drm_schedule.specs.declared.plan.Plan.{Plan}
@@ -101,7 +101,7 @@ before_end (Some n) newest last k end next is_ready =
 module _ (collecting : Collecting) (giving_ends : GivingEnds) (steps_count : StepsCount) where
   module _ (plan : Plan) (carry : Carry) (is : IsSchedule plan) (fits : FitsCarry carry plan) (terms : Terms) (pairs : List (ℕ × ℕ)) (packets : List (List ℕ)) (given : List Item) (next : Item) (last : State) (number : ℕ)
       (h : Hears plan terms.window terms.reach terms.first (pos 0) pairs packets) (at : ComesAt terms packets given next last) where
-    not_taken : (bytes : List ℕ) (answer : Taken) → at.later ≡ bytes ∷ [] → Takes at.mid bytes answer at.state → IsTooLarge carry next number → ⊥
+    not_taken : (bytes : List ℕ) (answer : Taken) → at.later ≡ bytes ∷ [] → CollectorTakes at.mid bytes answer at.state → IsTooLarge carry next number → ⊥
     not_taken bytes answer same takes large =
         let (rest, begins) = taken_starts terms packets given next last at bytes answer same takes packets [] h.answers h.given h.mid (sym (append-nil packets)) h.steps in
         let (end, after, gives) = giving_ends (after_finish h.mid None) h.fit.0 h.fit.1 in

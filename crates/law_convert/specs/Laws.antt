@@ -6,7 +6,7 @@ use Rattle.dcp_pft.specs.Limits.{most_packet}
 use Rattle.dcp_pft.specs.Carrying.{CarryFits}
 use Rattle.dcp_collect.specs.declared.taken.Taken.{Taken}
 use Rattle.dcp_collect.specs.State.{State, made}
-use Rattle.dcp_collect.specs.Runs.{Item, Steps, Run}
+use Rattle.dcp_collect.specs.Runs.{Item, CollectorSteps, Run}
 use Rattle.drm_links.specs.Told.{Known}
 use Rattle.drm_links.specs.Source.{Input}
 use Rattle.drm_links.specs.Sink.{Output, Outputs}
@@ -15,14 +15,14 @@ use Rattle.drm_schedule.specs.Valid.{IsSchedule}
 use Rattle.drm_timeline.specs.Numbers.{frame_count, packet_size}
 use Rattle.drm_server.specs.Datagrams.{AreOfFrames}
 use Rattle.drm_server.specs.Capture.{IsCapture, IsFrontOfCapture}
-use Rattle.law_delivery.specs.Sent.{Arrival, pairs_in, IsFollowed, IsInTime}
+use Rattle.law_delivery.specs.Sent.{Arrival, pairs_in, IsDeliveryOf, IsInTime}
 use Rattle.capture_reader.specs.Capture.{IsCaptureOf, End}
 use Rattle.cmd_faults.specs.declared.fault.Fault.{Fault}
 use Rattle.cmd_faults.specs.declared.fault.Fault.TheVariants as faults
 use Rattle.cmd_convert.specs.Converting.{Part, ConvertsAll, IsTooLarge, text_of, lines_of}
 use Rattle.recv_reading.specs.Packets.{ComesAt, HasEnough, Terms}
 use Rattle.recv_reading.specs.State.{is_full}
-use Rattle.cmd_convert.specs.Run.{IsConversion, IsBroken, Ends}
+use Rattle.cmd_convert.specs.Run.{IsConversion, IsBroken, ConvertEnds}
 use Rattle.recv_reading.specs.First.{first_of}
 
 -- the schedule with this carry in place of its own
@@ -33,7 +33,7 @@ under carry plan = record plan { carry = carry }
 pub record AllInTime (plan : Plan) (window reach : ℕ) (first : Option ℕ) (arrivals : List Arrival) (datagrams : List (List ℕ)) : Type 0 where
   pub schedule : IsSchedule plan
   pub some : 1 ≤ window
-  pub followed : IsFollowed plan reach first (pos 0) arrivals datagrams
+  pub followed : IsDeliveryOf plan reach first (pos 0) arrivals datagrams
   pub in_time : (q : ℕ) → q < frame_count plan → IsInTime plan window (pos 0) (pairs_in arrivals) q
 
 -- the number of the schedule's frames is told, or no number is
@@ -75,8 +75,8 @@ abbrev pub FirstIsKnown : Type 0
 FirstIsKnown =
     (plan : Plan) (window reach : ℕ) (first : Option ℕ) (arrivals : List Arrival) (datagrams later : List (List ℕ))
     (answers : List Taken) (given : List Item) (mid : State)
-    → IsSchedule plan → IsFollowed plan reach first (pos 0) arrivals (datagrams ++ later)
-    → Steps (made window reach first) datagrams answers given mid → 1 ≤ length given → KnowsFirst plan mid
+    → IsSchedule plan → IsDeliveryOf plan reach first (pos 0) arrivals (datagrams ++ later)
+    → CollectorSteps (made window reach first) datagrams answers given mid → 1 ≤ length given → KnowsFirst plan mid
 
 -- And so does each collector that took the whole of a delivery in which each frame is in time.
 abbrev pub FirstOfAll : Type 0
@@ -95,7 +95,7 @@ abbrev pub NoneIsTooLarge : Type 0
 NoneIsTooLarge =
     (plan : Plan) (carry : Carry) (terms : Terms) (arrivals : List Arrival) (packets later : List (List ℕ)) (items : List Item)
     (item : Item) (last : State) (number : ℕ)
-    → IsSchedule plan → FitsCarry carry plan → 1 ≤ terms.window → IsFollowed plan terms.reach terms.first (pos 0) arrivals (packets ++ later)
+    → IsSchedule plan → FitsCarry carry plan → 1 ≤ terms.window → IsDeliveryOf plan terms.reach terms.first (pos 0) arrivals (packets ++ later)
     → ComesAt terms packets items item last → IsTooLarge carry item number → ⊥
 
 -- What a conversion makes of the packets of such a delivery is the schedule's capture under the new carry, whether it reads them
@@ -155,4 +155,4 @@ CapturesAreConverted =
     (plan : Plan) (carry : Carry) (terms : Terms) (ending : Result Bool Fault) (told : Bool) (before after : Known Input)
     (out out' err err' : Known Output) (input rest : Input)
     → CarryFits carry → FitsCarry carry plan → before.told ≡ Some input → after.told ≡ Some rest → HasSchedule plan terms input.left → MayBeTold plan terms.told
-    → Ends terms carry ending told before after out out' err err' → EndsWell plan carry ending out out' err err'
+    → ConvertEnds terms carry ending told before after out out' err err' → EndsWell plan carry ending out out' err err'

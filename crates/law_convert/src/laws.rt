@@ -2,11 +2,11 @@
 
 ghost use Rattle.law_convert.specs.Laws.{Converting, ConvertingEarly, FirstIsKnown, FirstOfAll, NoneIsTooLarge, ConversionsAreCaptures, BrokenConversions, HaltedConversions, CapturesAreConverted};
 
+use capture_reader::read_one_way;
 use law_capture::packets_in_front;
 use law_collect::{
     collecting, giving_ends, in_time, one_reading, one_run, refusing, steps_count, steps_part,
 };
-use capture_reader::read_one_way;
 use law_delivery::all_frames_are_given_at_once;
 
 /// Where each frame of a schedule is in time, what a collector gives becomes the schedule's capture under the other carry.
@@ -30,7 +30,7 @@ pub fn conversions_are_captures()
 /// A collector counts from the sequence number of the schedule's first packet.
 pub fn the_first_number_is_known()
     ensures given { FirstIsKnown }
-    ensures all { FirstOfAll }
+    ensures first_of_all { FirstOfAll }
 {
     one_reading();
     refusing();

@@ -4,7 +4,7 @@ use Rattle.std.specs.List.{AllByRecursion}
 use Rattle.drm_data.specs.Packet.{Packet}
 use Rattle.drm_data.specs.Units.{most_unit, next_continuity}
 use Rattle.drm_data.specs.Joining.{Event, Came, Begun}
-use Rattle.law_data.specs.Readings.{IsAPacket, bytes_of, continuity_of, IsNotLast, AreChained, IsOpen, EndsUnit, Cuts}
+use Rattle.law_data.specs.Readings.{IsAPacket, bytes_of, continuity_of, IsNotLast, AreChained, IsOpen, EndsUnit, EventCutsUnit}
 use Rattle.law_data.proofs.Cases.{GoesOn, Case, Alone, Begins, Goes, Finishes, Breaks, Strays}
 use Rattle.law_data.proofs.Pushes.{all_push, all_front, bytes_of-push, continuity_of-push, chained_one, chained_more, chained_cases, GoesWith, ends_in_none, ends_more, ends_past, ended_more, ended_past, ended_break}
 
@@ -238,7 +238,7 @@ given_ends id before p b c gives cut mine few k (Strays was first is given told)
 
 -- the open unit that the event cuts
 abbrev pub CutsOne : ℕ → List Event → Event → Type 0
-CutsOne id before e = (ps : List Packet) × IsOpen id before ps × Cuts id ps e
+CutsOne id before e = (ps : List Packet) × IsOpen id before ps × EventCutsUnit id ps e
 
 cut_by_first : (id : ℕ) (before : List Event) (p : Packet) (b : Option Begun) → p.id ≡ id → Knows id before b → p.first ≡ true → is_some b ≡ true → CutsOne id before (Came p)
 cut_by_first id before p b mine k first is =

@@ -13,8 +13,8 @@ use Rattle.drm_bits.proofs.Checks.{check-start, check-more, crc16_low}
 use Rattle.drm_data.specs.declared.fault.DataFault.TheVariants.{Length, Crc, Useful}
 use Rattle.drm_data.specs.Packet.{Packet, front, data_field}
 use Rattle.drm_data.specs.Faults.{checked_bytes, check_value, says_padded, said_count, HasCheck}
-use Rattle.drm_data.specs.Joining.{Event, Came, Broken, Reads}
-use Rattle.drm_data.specs.Writing.{IsWritten, Fits}
+use Rattle.drm_data.specs.Joining.{Event, Came, Broken, ReadsDataPacket}
+use Rattle.drm_data.specs.Writing.{IsWritten, FitsDataPacket}
 use Rattle.drm_data.proofs.Joinings.{one_event}
 use Rattle.drm_data.proofs.Spellings.{packet_at, found_at}
 use Rattle.law_data.specs.Laws.{WrittenIsRead}
@@ -59,14 +59,14 @@ field_size d useful few =
           omega (arith, ap length is, full, few)
     ]
 
-pub some_written : (d : ℕ) (p : Packet) → Fits d p → (bytes : List ℕ) × IsWritten d p bytes
+pub some_written : (d : ℕ) (p : Packet) → FitsDataPacket d p → (bytes : List ℕ) × IsWritten d p bytes
 some_written d p fits =
     let rest : List ℕ = replicate (d - 1 - length p.useful) 0 in
     let (check, is) = some_check (front d p rest) in
     (front d p rest ++ to_be_bytes w16 check, (check, record { id = fits.id; continuity = fits.continuity; size = field_size d p.useful fits.useful; spelled = refl; checked = is }))
 
 -- bytes are a packet, or are refused
-checked_event : (d : ℕ) (bytes : List ℕ) → 1 ≤ d → IsBytes bytes → HasCheck d bytes → (event : Event) × Reads d bytes event
+checked_event : (d : ℕ) (bytes : List ℕ) → 1 ≤ d → IsBytes bytes → HasCheck d bytes → (event : Event) × ReadsDataPacket d bytes event
 checked_event d bytes some fits is =
     elim (cases_Bool (says_padded bytes)) [
       | inl padded ↦
@@ -77,7 +77,7 @@ checked_event d bytes some fits is =
       | inr whole ↦ (Came (packet_at bytes), found_at d bytes some fits is (λ h. absurd (let clash : true ≡ false = sym h ∙ whole in cc)))
     ]
 
-pub some_event : (d : ℕ) (bytes : List ℕ) → 1 ≤ d → IsBytes bytes → (event : Event) × Reads d bytes event
+pub some_event : (d : ℕ) (bytes : List ℕ) → 1 ≤ d → IsBytes bytes → (event : Event) × ReadsDataPacket d bytes event
 some_event d bytes some fits =
     elim (cases_eq (length bytes) (d + 3)) [
       | inl long ↦
@@ -91,5 +91,5 @@ some_event d bytes some fits =
 
 pub written_is_read : WrittenIsRead
 written_is_read d p bytes event (check, written) =
-    let reads : Reads d bytes (Came p) = (replicate (d - 1 - length p.useful) 0, check, written) in
-    (λ other. one_event d bytes event (Came p) other reads, λ is. subst (Reads d bytes) (sym is) reads)
+    let reads : ReadsDataPacket d bytes (Came p) = (replicate (d - 1 - length p.useful) 0, check, written) in
+    (λ other. one_event d bytes event (Came p) other reads, λ is. subst (ReadsDataPacket d bytes) (sym is) reads)

@@ -6,9 +6,9 @@ use Rattle.std.proofs.lemmas.Bool.{cases_eq, ne_eqb}
 use Rattle.std.proofs.lemmas.List.{nil_from_length}
 use Rattle.drm_data.specs.Packet.{Packet}
 use Rattle.drm_data.specs.Units.{most_unit}
-use Rattle.drm_data.specs.Joining.{Event, Came, Broken, Gap, Reads, Begun, State, Silent, made, begun_after, answer_after, cut_answer, answer, after}
+use Rattle.drm_data.specs.Joining.{Event, Came, Broken, Gap, ReadsDataPacket, Begun, State, Silent, made, begun_after, answer_after, cut_answer, answer, after}
 use Rattle.drm_data.proofs.Spellings.{useful_fit}
-use Rattle.law_data.specs.Readings.{AreEvents, of_id, AreChained, IsOpen, Ends, AreUnits}
+use Rattle.law_data.specs.Readings.{AreEvents, of_id, AreChained, IsOpen, EventEndsUnit, AreUnits}
 use Rattle.law_data.specs.Runs.{answers, after_all, unit_in, tells_cut, with_unit, units_in}
 use Rattle.law_data.specs.Laws.{AnswersRight, JoinsUnits, AnswersEach, KnowsOpen}
 use Rattle.law_data.proofs.Cases.{case_of}
@@ -20,7 +20,7 @@ IsSmall (Came p) = length p.useful ≤ most_unit
 IsSmall (Broken fault) = Unit {0}
 IsSmall Gap = Unit {0}
 
-small_read : (d : ℕ) (bytes : List ℕ) (e : Event) → d < 256 → Reads d bytes e → IsSmall e
+small_read : (d : ℕ) (bytes : List ℕ) (e : Event) → d < 256 → ReadsDataPacket d bytes e → IsSmall e
 small_read d bytes (Came p) few is = omega (arith, few, useful_fit d p.useful is.0 is.2.size)
 small_read d bytes (Broken fault) few is = tt
 small_read d bytes Gap few is = tt
@@ -127,13 +127,13 @@ units_given : (id : ℕ) (before events : List Event) (s : State) (units : List 
     → units ≡ units_in (answers s events)
 units_given id before [] s units same few k h = h
 units_given id before (e ∷ events) s units same few k (inl (unit, more, ends, is, rest)) =
-    let P : ℕ → Type 0 = λ n. Ends n before e unit in
+    let P : ℕ → Type 0 = λ n. EventEndsUnit n before e unit in
     let gives : unit_in (answer s e) ≡ Some unit = ((right before s e few.0 k).unit unit).1 (subst P (sym same) ends) in
     let tail = units_given id (before ++ e ∷ []) events (after s e) more (after_id s e ∙ same) few.1
     (moved s.id (after s e).id (before ++ e ∷ []) (after s e).begun (sym (after_id s e)) (knows_more before s e few.0 k)) rest in
     is ∙ (ap (λ l. unit ∷ l) tail ∙ ap (λ o. with_unit o (units_in (answers (after s e) events))) (sym gives))
 units_given id before (e ∷ events) s units same few k (inr (none, rest)) =
-    let P : ℕ → (List ℕ) → Type 0 = λ n unit. Ends n before e unit in
+    let P : ℕ → (List ℕ) → Type 0 = λ n unit. EventEndsUnit n before e unit in
     let gives : unit_in (answer s e) ≡ None =
     elim (some_or_none (unit_in (answer s e))) [
       | inl is ↦ is
@@ -156,12 +156,12 @@ given_units id before (e ∷ events) s same few k =
           let P : List (List ℕ) → Type 0 = λ l. AreUnits id (before ++ e ∷ []) events l in
           inr (
             (λ unit h.
-                let Q : ℕ → Type 0 = λ n. Ends n before e unit in
+                let Q : ℕ → Type 0 = λ n. EventEndsUnit n before e unit in
                 clash_some (unit_in (answer s e)) unit is (((right before s e few.0 k).unit unit).1 (subst Q (sym same) h))),
             subst P units_are rest,
           )
       | inr w ↦
-          let Q : ℕ → Type 0 = λ n. Ends n before e w.0 in
+          let Q : ℕ → Type 0 = λ n. EventEndsUnit n before e w.0 in
           inl (
             w.0,
             units_in (answers (after s e) events),

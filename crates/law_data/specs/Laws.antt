@@ -6,22 +6,22 @@ use Rattle.drm_bits.specs.Bits.{IsBytes}
 use Rattle.drm_data.specs.Packet.{Packet}
 use Rattle.drm_data.specs.Units.{packets}
 use Rattle.drm_data.specs.Writing.{IsWritten}
-use Rattle.drm_data.specs.Joining.{Event, Came, Reads, State, made, answer}
-use Rattle.law_data.specs.Readings.{AreEvents, IsOpen, Ends, AreUnits, Cuts}
+use Rattle.drm_data.specs.Joining.{Event, Came, ReadsDataPacket, State, made, answer}
+use Rattle.law_data.specs.Readings.{AreEvents, IsOpen, EventEndsUnit, AreUnits, EventCutsUnit}
 use Rattle.law_data.specs.Runs.{answers, after_all, unit_in, tells_cut, units_in, cuts_in, begun_count}
 use Rattle.law_data.specs.Losses.{IsUnit, kept_of, whole_units, cut_count}
 
 -- bytes are one event
 abbrev pub OneEvent : Type 0
-OneEvent = (d : ℕ) (bytes : List ℕ) (first second : Event) → Reads d bytes first → Reads d bytes second → first ≡ second
+OneEvent = (d : ℕ) (bytes : List ℕ) (first second : Event) → ReadsDataPacket d bytes first → ReadsDataPacket d bytes second → first ≡ second
 
 -- Bytes are a packet, or are refused.
 abbrev pub SomeEvent : Type 0
-SomeEvent = (d : ℕ) (bytes : List ℕ) → 1 ≤ d → IsBytes bytes → (event : Event) × Reads d bytes event
+SomeEvent = (d : ℕ) (bytes : List ℕ) → 1 ≤ d → IsBytes bytes → (event : Event) × ReadsDataPacket d bytes event
 
 -- What is written of a packet is read as that packet, and as nothing else.
 abbrev pub WrittenIsRead : Type 0
-WrittenIsRead = (d : ℕ) (p : Packet) (bytes : List ℕ) (event : Event) → IsWritten d p bytes → Reads d bytes event ↔ (event ≡ Came p)
+WrittenIsRead = (d : ℕ) (p : Packet) (bytes : List ℕ) (event : Event) → IsWritten d p bytes → ReadsDataPacket d bytes event ↔ (event ≡ Came p)
 
 -- Of every reading a joiner gives the units that are in it, and no others.
 abbrev pub JoinsUnits : Type 0
@@ -33,8 +33,8 @@ JoinsUnits =
 -- In every reading, at each event: a joiner gives a unit exactly where the event ends one, and tells a cut exactly where a unit was
 -- open and the event cuts it.
 pub record AnswersRight (id : ℕ) (before : List Event) (s : State) (e : Event) : Type 0 where
-  pub unit : (unit : List ℕ) → (unit_in (answer s e) ≡ Some unit) ↔ Ends id before e unit
-  pub cut : (tells_cut (answer s e) ≡ true) ↔ ((ps : List Packet) × IsOpen id before ps × Cuts id ps e)
+  pub unit : (unit : List ℕ) → (unit_in (answer s e) ≡ Some unit) ↔ EventEndsUnit id before e unit
+  pub cut : (tells_cut (answer s e) ≡ true) ↔ ((ps : List Packet) × IsOpen id before ps × EventCutsUnit id ps e)
 
 abbrev pub AnswersEach : Type 0
 AnswersEach =

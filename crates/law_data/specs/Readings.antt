@@ -3,13 +3,13 @@ use Rattle.std.specs.Prelude.{ℕ, ◌≡◌, ◌≢◌, ◌+◌, ◌<◌, ◌�
 use Rattle.std.specs.List.{AllByRecursion}
 use Rattle.drm_data.specs.Packet.{Packet}
 use Rattle.drm_data.specs.Units.{most_unit, next_continuity}
-use Rattle.drm_data.specs.Joining.{Event, Came, Broken, Gap, Reads}
+use Rattle.drm_data.specs.Joining.{Event, Came, Broken, Gap, ReadsDataPacket}
 
 -- A reading is a list of packets, as bytes, and gaps. These are its events, with data fields of d bytes.
 abbrev pub AreEvents : ℕ → List (Option (List ℕ)) → List Event → Type 0
 AreEvents d [] events = events ≡ []
 AreEvents d (x ∷ reading) [] = ⊥
-AreEvents d (Some bytes ∷ reading) (e ∷ events) = Reads d bytes e × AreEvents d reading events
+AreEvents d (Some bytes ∷ reading) (e ∷ events) = ReadsDataPacket d bytes e × AreEvents d reading events
 AreEvents d (None ∷ reading) (e ∷ events) = (e ≡ Gap) × AreEvents d reading events
 
 abbrev pub IsAPacket : Event → Type 0
@@ -83,23 +83,23 @@ pub record EndsUnit (id : ℕ) (events : List Event) (p : Packet) (unit : List �
   pub unit_is : unit ≡ bytes_of (before ++ p ∷ [])
 
 -- behind these events the event ends this unit
-abbrev pub Ends : ℕ → List Event → Event → List ℕ → Type 0
-Ends id events (Came p) unit = EndsUnit id events p unit
-Ends id events (Broken fault) unit = ⊥
-Ends id events Gap unit = ⊥
+abbrev pub EventEndsUnit : ℕ → List Event → Event → List ℕ → Type 0
+EventEndsUnit id events (Came p) unit = EndsUnit id events p unit
+EventEndsUnit id events (Broken fault) unit = ⊥
+EventEndsUnit id events Gap unit = ⊥
 
 -- the units that end in these events behind those before, in order: at each event the one that it ends, if there is one
 abbrev pub AreUnits : ℕ → List Event → List Event → List (List ℕ) → Type 0
 AreUnits id before [] units = units ≡ []
 AreUnits id before (e ∷ events) units =
-    ((unit : List ℕ) × (more : List (List ℕ)) × Ends id before e unit × (units ≡ unit ∷ more) × AreUnits id (before ++ e ∷ []) events more)
-    ⊎ (((unit : List ℕ) → Ends id before e unit → ⊥) × AreUnits id (before ++ e ∷ []) events units)
+    ((unit : List ℕ) × (more : List (List ℕ)) × EventEndsUnit id before e unit × (units ≡ unit ∷ more) × AreUnits id (before ++ e ∷ []) events more)
+    ⊎ (((unit : List ℕ) → EventEndsUnit id before e unit → ⊥) × AreUnits id (before ++ e ∷ []) events units)
 
 -- The event cuts the unit of which these packets have come: it is a gap or is refused, or it is a packet of the id that has first,
 -- or another continuity than is due, or brings too many bytes.
-abbrev pub Cuts : ℕ → List Packet → Event → Type 0
-Cuts id ps (Came p) =
+abbrev pub EventCutsUnit : ℕ → List Packet → Event → Type 0
+EventCutsUnit id ps (Came p) =
     (p.id ≡ id)
     × ((p.first ≡ true) ⊎ ((p.continuity ≢ next_continuity (continuity_of ps)) ⊎ (most_unit < length (bytes_of ps) + length p.useful)))
-Cuts id ps (Broken fault) = Unit {0}
-Cuts id ps Gap = Unit {0}
+EventCutsUnit id ps (Broken fault) = Unit {0}
+EventCutsUnit id ps Gap = Unit {0}

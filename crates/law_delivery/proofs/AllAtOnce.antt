@@ -8,7 +8,7 @@ use Rattle.dcp_pft.specs.Loss.{is_recoverable}
 use Rattle.dcp_collect.specs.declared.taken.Taken.{Taken}
 use Rattle.dcp_collect.specs.Fragments.{suffice, of_packet}
 use Rattle.dcp_collect.specs.State.{State, made, ready, ready_by, reached, after_item, after_finish}
-use Rattle.dcp_collect.specs.Runs.{Item, Packet, IsItem, Gives, Steps, Run}
+use Rattle.dcp_collect.specs.Runs.{Item, Packet, IsItem, CollectorGives, CollectorSteps, Run}
 use Rattle.law_collect.specs.Delivery.{number, is_number, is_at_least, packet_at, got, item_by, item}
 use Rattle.law_collect.specs.Laws.{IsHeard, Collecting, GivingEnds}
 use Rattle.law_collect.proofs.Runs.{gives_given}
@@ -31,18 +31,18 @@ use Rattle.law_delivery.proofs.Strays.{others_of, with_strays, stands_new}
 
 -- ---- after the last datagram nothing is ready, and there is no end
 
-steps_idle : (c d : State) (ds : List (List ℕ)) (answers : List Taken) (given : List Item) → Steps c ds answers given d → ready c ≡ false → ready d ≡ false
+steps_idle : (c d : State) (ds : List (List ℕ)) (answers : List Taken) (given : List Item) → CollectorSteps c ds answers given d → ready c ≡ false → ready d ≡ false
 steps_idle c d [] [] given steps idle = ap ready steps.1 ∙ idle
 steps_idle c d [] (a ∷ answers) given steps idle = absurd steps
 steps_idle c d (datagram ∷ ds) [] given steps idle = absurd steps
 steps_idle c d (datagram ∷ ds) (a ∷ answers) given (now, later, kept, mid, takes, gives, steps, are) idle =
     steps_idle mid d ds answers later steps (gives_given now kept mid gives).1
 
-gives_end : (given : List Item) (c d : State) → Gives c given d → d.end ≡ c.end
+gives_end : (given : List Item) (c d : State) → CollectorGives c given d → d.end ≡ c.end
 gives_end [] c d gives = ap (λ (s : State). s.end) gives.1
 gives_end (first ∷ given) c d gives = gives_end given (after_item c) d gives.2
 
-steps_end : (c d : State) (ds : List (List ℕ)) (answers : List Taken) (given : List Item) → Steps c ds answers given d → d.end ≡ c.end
+steps_end : (c d : State) (ds : List (List ℕ)) (answers : List Taken) (given : List Item) → CollectorSteps c ds answers given d → d.end ≡ c.end
 steps_end c d [] [] given steps = ap (λ (s : State). s.end) steps.1
 steps_end c d [] (a ∷ answers) given steps = absurd steps
 steps_end c d (datagram ∷ ds) [] given steps = absurd steps
@@ -143,11 +143,11 @@ module _ (collecting : Collecting) (giving_ends : GivingEnds) (plan : Plan) (win
       let at : slice_get rest 0 ≡ Some (of m) = sym (at_seam n run.given rest few) ∙ ap (λ l. slice_get l m) law ∙ at_number of n m few in
       let (more, begins) = first_is rest (of m) at in
       let (packet, there) = item_there plan window pairs packets is are m (in_time m few) in
-      let next : IsItem (after_finish mid (Some n)) (of m) = (subst (λ l. Gives (after_finish mid (Some n)) l after) begins gives).1 in
+      let next : IsItem (after_finish mid (Some n)) (of m) = (subst (λ l. CollectorGives (after_finish mid (Some n)) l after) begins gives).1 in
       let made_next : IsItem (after_finish mid (Some n)) (Packet m packet) = subst (IsItem (after_finish mid (Some n))) there next in
       not_sufficient mid (steps_end (made window reach first) mid ds run.answers run.given run.steps) (steps_idle (made window reach first) mid ds run.answers run.given run.steps refl) made_next.1
 
-  pub pairs_all : (answers : List Taken) × (given : List Item) × (mid : State) × Steps (made window reach first) ds answers given mid × (frame_count plan ≤ length given)
+  pub pairs_all : (answers : List Taken) × (given : List Item) × (mid : State) × CollectorSteps (made window reach first) ds answers given mid × (frame_count plan ≤ length given)
   pairs_all = (
     run.answers,
     run.given,

@@ -13,7 +13,7 @@ use Rattle.law_collect.specs.Delivery.{number, is_number, is_at_least, got, newe
 use Rattle.law_collect.proofs.Got.{reached_is}
 use Rattle.drm_timeline.specs.Numbers.{frame_count}
 use Rattle.std.specs.List.{AllZip}
-use Rattle.law_delivery.specs.Sent.{Arrival, OfSchedule, Stray, IsArrival, pairs_in, IsFollowed, IsInTime}
+use Rattle.law_delivery.specs.Sent.{Arrival, OfSchedule, Stray, IsArrival, pairs_in, IsDeliveryOf, IsInTime}
 use Rattle.law_delivery.specs.Laws.{AllFrames}
 use Rattle.law_delivery.proofs.InTime.{given_in_time}
 use Rattle.law_delivery.proofs.Needed.{some_got}
@@ -62,7 +62,7 @@ ends_there (Some m) n some last none = let low : n - 1 ≤ m = leb-true (n - 1) 
 
 -- whether the number of items is told or not, they are as many as the schedule's frames
 all_many : (plan : Plan) (window reach : ℕ) (told : Option ℕ) (arrivals : List Arrival) (datagrams : List (List ℕ)) (first : Option ℕ)
-    → IsSchedule plan → (told ≡ None) ⊎ (told ≡ Some (frame_count plan)) → IsFollowed plan reach first (pos 0) arrivals datagrams
+    → IsSchedule plan → (told ≡ None) ⊎ (told ≡ Some (frame_count plan)) → IsDeliveryOf plan reach first (pos 0) arrivals datagrams
     → ((q : ℕ) → q < frame_count plan → IsInTime plan window (pos 0) (pairs_in arrivals) q) → end_of told (newest_of (pos 0) None (pairs_in arrivals)) ≡ frame_count plan
 all_many plan window reach told arrivals datagrams first is (inr known) followed in_time = ap (λ (o : Option ℕ). end_of o (newest_of (pos 0) None (pairs_in arrivals))) known
 all_many plan window reach told arrivals datagrams first is (inl unknown) followed in_time =

@@ -21,7 +21,7 @@ use Rattle.drm_reconfiguration.specs.Tracker.{TrackerState, new_tracker}
 use Rattle.drm_timeline.specs.Numbers.{frame_count}
 use Rattle.drm_server.specs.Frames.{IsPacketAt}
 use Rattle.mod_feed.specs.Items.{Item, Missing, IsItemOf}
-use Rattle.mod_feed.specs.Feeding.{FeedStep, Feeds, FeedTellsTheSwitches, after_step}
+use Rattle.mod_feed.specs.Feeding.{FeedStep, FeedAnswers, FeedTellsTheSwitches, after_step}
 use Rattle.mod_feed.proofs.ItemLemmas.{item_is_one}
 use Rattle.law_delivery.specs.Sent.{shape_at, frame_at}
 use Rattle.law_delivery.specs.Given.{IsServedWhere, IsItemBy, IsItemAt, AreGiven}
@@ -33,7 +33,7 @@ use Rattle.law_delivery.proofs.Suiting.{served}
 use Rattle.law_delivery.proofs.Packets.{IsChosen, ArePackets, some_packets, all_sent, delivered, has, filler, filler_af, filler_is, at_number}
 
 -- the item of a step is that of what was given
-pub fed_at : (feed after : TrackerState) (given : List Collected) (steps : List FeedStep) → Feeds feed given steps after
+pub fed_at : (feed after : TrackerState) (given : List Collected) (steps : List FeedStep) → FeedAnswers feed given steps after
     → (q : ℕ) (step : FeedStep) → slice_get steps q ≡ Some step → (from : Collected) × (slice_get given q ≡ Some from) × IsItemOf from step.item
 fed_at feed after [] [] feeds q step at = absurd (let e : None ≡ Some step = at in cc)
 fed_at feed after [] (first ∷ steps) feeds q step at = absurd feeds
@@ -43,7 +43,7 @@ fed_at feed after (from ∷ given) (first ∷ steps) feeds zero step at =
     (from, refl, subst (λ (s : FeedStep). IsItemOf from s.item) same feeds.0.item)
 fed_at feed after (from ∷ given) (first ∷ steps) feeds (suc q) step at = fed_at (after_step feed first) after given steps feeds.1 q step at
 
-pub fed_many : (feed after : TrackerState) (given : List Collected) (steps : List FeedStep) → Feeds feed given steps after → length steps ≡ length given
+pub fed_many : (feed after : TrackerState) (given : List Collected) (steps : List FeedStep) → FeedAnswers feed given steps after → length steps ≡ length given
 fed_many feed after [] [] feeds = refl
 fed_many feed after [] (first ∷ steps) feeds = absurd feeds
 fed_many feed after (from ∷ given) [] feeds = absurd feeds
@@ -155,7 +155,7 @@ one_from a b same = cc
 -- the steps of a feed over the items of a delivery
 pub given_of_items : (plan : Plan) (window : ℕ) (base : ℤ) (told : Option ℕ) (pairs : List (ℕ × ℕ)) (packets : List (List ℕ)) (steps : List FeedStep) (after : TrackerState)
     → FeedTellsTheSwitches → IsSchedule plan → ArePackets plan pairs packets
-    → Feeds new_tracker (items plan.carry packets window base told pairs) steps after → AreGiven plan window base told pairs steps
+    → FeedAnswers new_tracker (items plan.carry packets window base told pairs) steps after → AreGiven plan window base told pairs steps
 given_of_items plan window base told pairs packets steps after switches is are feeds =
     let of : ℕ → Collected = item plan.carry packets window base pairs in
     let n : ℕ = end_of told (newest_of base None pairs) in
@@ -185,5 +185,5 @@ delivering collecting switches plan window reach first told base pairs datagrams
       within_span = followed.within_span;
     } in
     let law = collecting carry plan.seq window reach packets first told base pairs datagrams answers collected some heard run in
-    let fed : Feeds new_tracker (items carry packets window base told pairs) steps after = subst (λ (l : List Collected). Feeds new_tracker l steps after) law.0 feeds in
+    let fed : FeedAnswers new_tracker (items carry packets window base told pairs) steps after = subst (λ (l : List Collected). FeedAnswers new_tracker l steps after) law.0 feeds in
     (given_of_items plan window base told pairs packets steps after switches is are fed, law.1)

@@ -10,7 +10,7 @@ use Rattle.drm_reconfiguration.specs.Tracker.{new_tracker}
 use Rattle.dcp_collect.specs.declared.taken.Taken.{Taken}
 use Rattle.dcp_collect.specs.Reading.{Incoming, Read, Brings, IsRead}
 use Rattle.dcp_collect.specs.State.{State, made, answer, after_take, after_finish}
-use Rattle.dcp_collect.specs.Runs.{Item as Collected, Takes, Steps, Run}
+use Rattle.dcp_collect.specs.Runs.{Item as Collected, CollectorTakes, CollectorSteps, Run}
 use Rattle.dcp_pft.specs.declared.carry.Carry.{Carry}
 use Rattle.law_collect.specs.Laws.{IsRight, OneReading, StepsJoin, IsFit, GivingEnds}
 use Rattle.law_collect.proofs.Fit.{fit_after, fit_given}
@@ -28,13 +28,13 @@ pub record IsBrought (datagram : List ℕ) : Type 0 where
   pub bytes : IsBytes incoming.payload
 
 module _ (one_reading : OneReading) where
-  fit_taken : (c d : State) (datagram : List ℕ) (a : Taken) → IsBrought datagram → Takes c datagram a d → IsFit c → IsFit d
+  fit_taken : (c d : State) (datagram : List ℕ) (a : Taken) → IsBrought datagram → CollectorTakes c datagram a d → IsFit c → IsFit d
   fit_taken c d datagram a brought takes fit =
       let same : takes.read ≡ Brings brought.incoming = one_reading datagram (Brings brought.incoming) takes.read brought.is_read takes.is_read in
       subst IsFit (sym (takes.after_is ∙ ap (after_take c) same)) (fit_after c brought.incoming fit brought.bytes)
 
   fit_steps : (c d : State) (datagrams : List (List ℕ)) (answers : List Taken) (given : List Collected) → AllByRecursion IsBrought datagrams
-      → Steps c datagrams answers given d → IsFit c → IsFit d
+      → CollectorSteps c datagrams answers given d → IsFit c → IsFit d
   fit_steps c d [] [] given brought steps fit = subst IsFit (sym steps.1) fit
   fit_steps c d [] (a ∷ answers) given brought steps fit = absurd steps
   fit_steps c d (datagram ∷ datagrams) [] given brought steps fit = absurd steps
@@ -46,7 +46,7 @@ pub record GoesOn (c : State) (datagrams : List (List ℕ)) : Type 0 where
   pub answers : List Taken
   pub given : List Collected
   pub after : State
-  pub steps : Steps c datagrams answers given after
+  pub steps : CollectorSteps c datagrams answers given after
   pub fit : IsFit after
 
 module _ (giving_ends : GivingEnds) where
@@ -55,7 +55,7 @@ module _ (giving_ends : GivingEnds) where
   goes_on c (datagram ∷ datagrams) brought fit =
       let read : Read = Brings brought.0.incoming in
       let kept : State = after_take c read in
-      let takes : Takes c datagram (answer c read) kept = record { read = read; is_read = brought.0.is_read; taken_is = refl; after_is = refl } in
+      let takes : CollectorTakes c datagram (answer c read) kept = record { read = read; is_read = brought.0.is_read; taken_is = refl; after_is = refl } in
       let fit_kept : IsFit kept = fit_after c brought.0.incoming fit brought.0.bytes in
       let now = giving_ends kept fit_kept.0 fit_kept.1 in
       let more = goes_on now.1 datagrams brought.1 (fit_given now.0 kept now.1 now.2 fit_kept) in
@@ -107,7 +107,7 @@ all_bytes carry sequence0 packets bytes (pair ∷ pairs) (datagram ∷ datagrams
 
 -- some run over the whole delivery gives what was given early
 whole_run : StepsJoin → GivingEnds → (window reach n : ℕ) (first : Option ℕ) (datagrams later : List (List ℕ)) (answers : List Taken) (collected : List Collected) (mid : State)
-    → Steps (made window reach first) datagrams answers collected mid → n ≤ length collected → AllByRecursion IsBrought later → IsFit mid
+    → CollectorSteps (made window reach first) datagrams answers collected mid → n ≤ length collected → AllByRecursion IsBrought later → IsFit mid
     → (more : List Taken) × Run window reach first (Some n) (datagrams ++ later) (answers ++ more) (take n collected)
 whole_run steps_join giving_ends window reach n first datagrams later answers collected mid before enough brought fit =
     let more = goes_on giving_ends mid later brought fit in
@@ -139,7 +139,7 @@ all_brought_of plan pairs datagrams is sent =
 
 module _ (delivering : DeliveringPairs) (one_reading : OneReading) (steps_join : StepsJoin) (giving_ends : GivingEnds) where
   run_on : (plan : Plan) (window reach n : ℕ) (first : Option ℕ) (base : ℤ) (pairs : List (ℕ × ℕ)) (datagrams later : List (List ℕ)) (answers : List Taken) (collected : List Collected) (mid : State)
-      → IsSchedule plan → 1 ≤ window → IsPaired plan reach first base pairs (datagrams ++ later) → Steps (made window reach first) datagrams answers collected mid → n ≤ length collected
+      → IsSchedule plan → 1 ≤ window → IsPaired plan reach first base pairs (datagrams ++ later) → CollectorSteps (made window reach first) datagrams answers collected mid → n ≤ length collected
       → (more : List Taken) × Run window reach first (Some n) (datagrams ++ later) (answers ++ more) (take n collected)
   run_on plan window reach n first base pairs datagrams later answers collected mid is some followed before enough =
       let brought : AllByRecursion IsBrought (datagrams ++ later) = all_brought_of plan pairs (datagrams ++ later) is followed.sent in

@@ -12,7 +12,7 @@ use Rattle.dcp_collect.specs.declared.taken.Taken.{Taken}
 use Rattle.dcp_collect.specs.declared.taken.Taken.TheVariants.{Refused}
 use Rattle.dcp_collect.specs.Reading.{Unread, Brings}
 use Rattle.dcp_collect.specs.State.{State, nearest, is_above, is_far, number_of, answer, answer_within, ready}
-use Rattle.dcp_collect.specs.Runs.{Item as Collected, Takes, Gives}
+use Rattle.dcp_collect.specs.Runs.{Item as Collected, CollectorTakes, CollectorGives}
 use Rattle.law_collect.specs.Delivery.{number, newer_number, IsWithinSpan, IsBase}
 use Rattle.law_collect.specs.Laws.{HasCause}
 use Rattle.law_collect.proofs.Brought.{brought}
@@ -64,7 +64,7 @@ module _ (sequence0 window reach : ℕ) (base : ℤ) (newest : Option ℕ) (rest
   far_answer : answer c (Brings far.incoming) ≡ Refused Far
   far_answer = ap (λ b. if b then Refused Far else answer_within c (number_of c far.incoming) far.incoming.head) far_there
 
-  pub far_takes : Takes c datagram (Refused Far) c
+  pub far_takes : CollectorTakes c datagram (Refused Far) c
   far_takes = record {
     read = Brings far.incoming;
     is_read = far.is_read;
@@ -90,7 +90,7 @@ module _ (plan : Plan) (is : IsSchedule plan) (window reach : ℕ) (base : ℤ) 
   -- behind a datagram of the schedule
   pub stands_pair : (pair : ℕ × ℕ) (kept mid : State) (a : Taken) (now : List Collected)
       → Stands plan window reach base newest (OfSchedule pair ∷ arrivals) later (datagram ∷ datagrams) c → IsSent plan pair datagram
-      → Takes c datagram a kept → Gives kept now mid → Stands plan window reach base (newer_number newest (number base pair)) arrivals later datagrams mid
+      → CollectorTakes c datagram a kept → CollectorGives kept now mid → Stands plan window reach base (newer_number newest (number base pair)) arrivals later datagrams mid
   stands_pair pair kept mid a now s sent takes gives =
       let (packets, brings) = brings_of plan pair datagram is sent in
       let within = sent.within in
@@ -120,7 +120,7 @@ module _ (plan : Plan) (is : IsSchedule plan) (window reach : ℕ) (base : ℤ) 
       (far.incoming, far.is_read, far_there plan.seq window reach base newest (pairs_in arrivals ++ later) c datagram s.follows far)
 
   -- and is refused for it
-  pub stray_takes : (cause : Field) → Stands plan window reach base newest (Stray cause ∷ arrivals) later (datagram ∷ datagrams) c → IsStray cause datagram → Takes c datagram (Refused cause) c
+  pub stray_takes : (cause : Field) → Stands plan window reach base newest (Stray cause ∷ arrivals) later (datagram ∷ datagrams) c → IsStray cause datagram → CollectorTakes c datagram (Refused cause) c
   stray_takes Sync s stray = record { read = Unread Sync; is_read = stray; taken_is = refl; after_is = refl }
   stray_takes (Af fault) s stray = record { read = Unread (Af fault); is_read = stray; taken_is = refl; after_is = refl }
   stray_takes (Pft fault) s stray = record { read = Unread (Pft fault); is_read = stray; taken_is = refl; after_is = refl }

@@ -6,10 +6,10 @@ use Rattle.drm_schedule.specs.Valid.{IsSchedule}
 use Rattle.drm_reconfiguration.specs.Tracker.{TrackerState, new_tracker}
 use Rattle.dcp_collect.specs.declared.taken.Taken.{Taken}
 use Rattle.dcp_collect.specs.State.{State, made}
-use Rattle.dcp_collect.specs.Runs.{Item as Collected, Steps, Run}
+use Rattle.dcp_collect.specs.Runs.{Item as Collected, CollectorSteps, Run}
 use Rattle.law_collect.specs.Delivery.{IsWithinSpan, IsBase}
 use Rattle.law_collect.specs.Laws.{IsRight}
-use Rattle.mod_feed.specs.Feeding.{FeedStep, Feeds}
+use Rattle.mod_feed.specs.Feeding.{FeedStep, FeedAnswers}
 use Rattle.law_delivery.specs.Sent.{AreSent}
 use Rattle.law_delivery.specs.Given.{AreGiven}
 
@@ -24,7 +24,7 @@ DeliveringPairs =
     (plan : Plan) (window reach : ℕ) (first told : Option ℕ) (base : ℤ) (pairs : List (ℕ × ℕ)) (datagrams : List (List ℕ))
     (answers : List Taken) (collected : List Collected) (steps : List FeedStep) (after : TrackerState)
     → IsSchedule plan → 1 ≤ window → IsPaired plan reach first base pairs datagrams
-    → Run window reach first told datagrams answers collected → Feeds new_tracker collected steps after
+    → Run window reach first told datagrams answers collected → FeedAnswers new_tracker collected steps after
     → AreGiven plan window base told pairs steps × AllByRecursion IsRight answers
 
 abbrev pub PairsEarly : Type 0
@@ -32,8 +32,8 @@ PairsEarly =
     (plan : Plan) (window reach n : ℕ) (first : Option ℕ) (base : ℤ) (pairs : List (ℕ × ℕ)) (datagrams later : List (List ℕ))
     (answers : List Taken) (collected : List Collected) (mid : State) (steps : List FeedStep) (after : TrackerState)
     → IsSchedule plan → 1 ≤ window → IsPaired plan reach first base pairs (datagrams ++ later)
-    → Steps (made window reach first) datagrams answers collected mid → n ≤ length collected
-    → Feeds new_tracker (take n collected) steps after
+    → CollectorSteps (made window reach first) datagrams answers collected mid → n ≤ length collected
+    → FeedAnswers new_tracker (take n collected) steps after
     → AreGiven plan window base (Some n) pairs steps
 
 abbrev pub PairsRight : Type 0
@@ -41,4 +41,4 @@ PairsRight =
     (plan : Plan) (window reach : ℕ) (first : Option ℕ) (base : ℤ) (pairs : List (ℕ × ℕ)) (datagrams later : List (List ℕ))
     (answers : List Taken) (collected : List Collected) (mid : State)
     → IsSchedule plan → 1 ≤ window → IsPaired plan reach first base pairs (datagrams ++ later)
-    → Steps (made window reach first) datagrams answers collected mid → AllByRecursion IsRight answers
+    → CollectorSteps (made window reach first) datagrams answers collected mid → AllByRecursion IsRight answers

@@ -7,14 +7,14 @@ use Rattle.drm_schedule.specs.declared.plan.Plan.{Plan}
 use Rattle.dcp_collect.specs.declared.taken.Taken.{Taken}
 use Rattle.dcp_collect.specs.declared.taken.Taken.TheVariants.{Refused}
 use Rattle.dcp_collect.specs.State.{State, made, ready}
-use Rattle.dcp_collect.specs.Runs.{Item as Collected, Takes, Gives, Steps}
+use Rattle.dcp_collect.specs.Runs.{Item as Collected, CollectorTakes, CollectorGives, CollectorSteps}
 use Rattle.drm_schedule.specs.Valid.{IsSchedule}
 use Rattle.law_collect.specs.Delivery.{number, newer_number, IsWithinSpan, IsBase}
 use Rattle.law_collect.specs.Laws.{IsRight, Refusing}
 use Rattle.law_collect.proofs.Following.{follows_new}
 use Rattle.law_delivery.proofs.Following.{Stands, low_of, stands_pair, stands_stray, stray_cause, stray_takes, far_front}
-use Rattle.law_delivery.specs.Sent.{Arrival, OfSchedule, Stray, IsArrival, AreSent, pairs_in, IsFollowed}
-use Rattle.law_delivery.specs.Laws.{Suits, Delivering, DeliveringEarly, StraysRefused}
+use Rattle.law_delivery.specs.Sent.{Arrival, OfSchedule, Stray, IsArrival, AreSent, pairs_in, IsDeliveryOf}
+use Rattle.law_delivery.specs.Laws.{AnswerSuits, Delivering, DeliveringEarly, StraysRefused}
 use Rattle.law_delivery.proofs.Paired.{IsPaired, DeliveringPairs, PairsEarly, PairsRight}
 
 -- ---- the arrivals in two parts
@@ -52,18 +52,18 @@ record Without (plan : Plan) (c after : State) (arrivals : List Arrival) (answer
   others : List (List ℕ)
   replies : List Taken
   sent : AreSent plan (pairs_in arrivals) others
-  steps : Steps c others replies items after
-  suit : AllByRecursion IsRight replies → AllZip Suits arrivals answers
+  steps : CollectorSteps c others replies items after
+  suit : AllByRecursion IsRight replies → AllZip AnswerSuits arrivals answers
 
 -- where nothing was ready, a stray changes nothing
-nothing_given : (c kept mid : State) (now : List Collected) → ready c ≡ false → kept ≡ c → Gives kept now mid → (now ≡ []) × (mid ≡ c)
+nothing_given : (c kept mid : State) (now : List Collected) → ready c ≡ false → kept ≡ c → CollectorGives kept now mid → (now ≡ []) × (mid ≡ c)
 nothing_given c kept mid [] idle same gives = (refl, gives.1 ∙ same)
 nothing_given c kept mid (item ∷ now) idle same gives =
     absurd (let clash : false ≡ true = sym idle ∙ ap ready (sym same) ∙ gives.0 in cc)
 
 module _ (refusing : Refusing) (plan : Plan) (is : IsSchedule plan) (window reach : ℕ) (base : ℤ) where
   without : (c after : State) (newest : Option ℕ) (arrivals : List Arrival) (later : List (ℕ × ℕ)) (ds : List (List ℕ)) (answers : List Taken) (items : List Collected)
-      → AllZip (IsArrival plan) arrivals ds → Stands plan window reach base newest arrivals later ds c → Steps c ds answers items after → Without plan c after arrivals answers items
+      → AllZip (IsArrival plan) arrivals ds → Stands plan window reach base newest arrivals later ds c → CollectorSteps c ds answers items after → Without plan c after arrivals answers items
   without c after newest [] later [] [] items all s steps = record { others = []; replies = []; sent = tt; steps = steps; suit = λ right. tt }
   without c after newest [] later [] (a ∷ answers) items all s steps = absurd steps
   without c after newest [] later (d ∷ ds) answers items all s steps = absurd all
@@ -84,12 +84,12 @@ module _ (refusing : Refusing) (plan : Plan) (is : IsSchedule plan) (window reac
       let told : a ≡ Refused cause = refused.0.0 (stray_cause plan is window reach base newest c arrivals later d ds cause s all.0) in
       let none = nothing_given c kept mid now s.idle (refused.1 told) gives in
       let stands = stands_stray plan is window reach base newest c arrivals later d ds cause s in
-      let rest = without c after newest arrivals later ds answers more all.1 stands (subst (λ m. Steps m ds answers more after) none.1 steps) in
+      let rest = without c after newest arrivals later ds answers more all.1 stands (subst (λ m. CollectorSteps m ds answers more after) none.1 steps) in
       record {
         others = rest.others;
         replies = rest.replies;
         sent = rest.sent;
-        steps = subst (λ l. Steps c rest.others rest.replies l after) (sym (are ∙ ap (λ l. l ++ more) none.0)) rest.steps;
+        steps = subst (λ l. CollectorSteps c rest.others rest.replies l after) (sym (are ∙ ap (λ l. l ++ more) none.0)) rest.steps;
         suit = λ right. (told, rest.suit right);
       }
 
@@ -98,7 +98,7 @@ module _ (refusing : Refusing) (plan : Plan) (is : IsSchedule plan) (window reac
 module _ (plan : Plan) (is : IsSchedule plan) (window reach : ℕ) (base : ℤ) where
   pub with_strays : (c after : State) (newest : Option ℕ) (arrivals : List Arrival) (later : List (ℕ × ℕ)) (ds : List (List ℕ)) (replies : List Taken) (items : List Collected)
       → (all : AllZip (IsArrival plan) arrivals ds) → Stands plan window reach base newest arrivals later ds c
-      → Steps c (others_of plan arrivals ds all).0 replies items after → (answers : List Taken) × Steps c ds answers items after
+      → CollectorSteps c (others_of plan arrivals ds all).0 replies items after → (answers : List Taken) × CollectorSteps c ds answers items after
   unfolding others_of
   with_strays c after newest [] later [] replies items all s steps = (replies, steps)
   with_strays c after newest [] later (d ∷ ds) replies items all s steps = absurd all
@@ -110,13 +110,13 @@ module _ (plan : Plan) (is : IsSchedule plan) (window reach : ℕ) (base : ℤ) 
       (a ∷ rest.0, (now, more, kept, mid, takes, gives, rest.1, are))
   with_strays c after newest (Stray cause ∷ arrivals) later (d ∷ ds) replies items all s steps =
       let rest = with_strays c after newest arrivals later ds replies items all.1 (stands_stray plan is window reach base newest c arrivals later d ds cause s) steps in
-      let takes : Takes c d (Refused cause) c = stray_takes plan is window reach base newest c arrivals later d ds cause s all.0 in
+      let takes : CollectorTakes c d (Refused cause) c = stray_takes plan is window reach base newest c arrivals later d ds cause s all.0 in
       (Refused cause ∷ rest.0, ([], items, c, c, takes, (s.idle, refl), rest.1, refl))
 
 -- ---- the laws
 
 -- a new receiver stands before what it follows
-pub stands_new : (plan : Plan) (window reach : ℕ) (first : Option ℕ) (base : ℤ) (arrivals : List Arrival) (datagrams : List (List ℕ)) → IsFollowed plan reach first base arrivals datagrams
+pub stands_new : (plan : Plan) (window reach : ℕ) (first : Option ℕ) (base : ℤ) (arrivals : List Arrival) (datagrams : List (List ℕ)) → IsDeliveryOf plan reach first base arrivals datagrams
     → Stands plan window reach base None arrivals [] datagrams (made window reach first)
 stands_new plan window reach first base arrivals datagrams followed =
     let all : pairs_in arrivals ++ [] ≡ pairs_in arrivals = append-nil (pairs_in arrivals) in
@@ -144,7 +144,7 @@ record FrontWithout (plan : Plan) (reach : ℕ) (first : Option ℕ) (base : ℤ
   paired : IsPaired plan reach first base (pairs_in arrivals) (front.others ++ more)
 
 front_without : Refusing → (plan : Plan) → IsSchedule plan → (window reach : ℕ) (first : Option ℕ) (base : ℤ) (arrivals : List Arrival) (ds later : List (List ℕ)) (answers : List Taken) (items : List Collected) (mid : State)
-    → IsFollowed plan reach first base arrivals (ds ++ later) → Steps (made window reach first) ds answers items mid
+    → IsDeliveryOf plan reach first base arrivals (ds ++ later) → CollectorSteps (made window reach first) ds answers items mid
     → FrontWithout plan reach first base arrivals (length ds) (made window reach first) mid answers items
 front_without refusing plan is window reach first base arrivals ds later answers items mid followed steps =
     let n : ℕ = length ds in

@@ -9,17 +9,17 @@ use Rattle.drm_timeline.specs.Starts.{later_starts}
 use Rattle.dcp_collect.specs.declared.taken.Taken.{Taken}
 use Rattle.dcp_collect.specs.declared.taken.Taken.TheVariants.{Refused}
 use Rattle.dcp_collect.specs.State.{State, made}
-use Rattle.dcp_collect.specs.Runs.{Item as Collected, Steps, Run}
+use Rattle.dcp_collect.specs.Runs.{Item as Collected, CollectorSteps, Run}
 use Rattle.law_collect.specs.Laws.{IsRight}
-use Rattle.mod_feed.specs.Feeding.{FeedStep, Feeds, told_before}
+use Rattle.mod_feed.specs.Feeding.{FeedStep, FeedAnswers, told_before}
 use Rattle.drm_timeline.specs.Numbers.{frame_count}
-use Rattle.law_delivery.specs.Sent.{Arrival, OfSchedule, Stray, pairs_in, IsFollowed, IsInTime}
+use Rattle.law_delivery.specs.Sent.{Arrival, OfSchedule, Stray, pairs_in, IsDeliveryOf, IsInTime}
 use Rattle.law_delivery.specs.Given.{IsServed, AreGiven, IsStart, AreAllServed, AreAllFrames}
 
 -- the answer suits what arrived: a stray is refused for its cause, and nothing else is refused or inconsistent
-abbrev pub Suits : Arrival → Taken → Type 0
-Suits (OfSchedule pair) answer = IsRight answer
-Suits (Stray cause) answer = answer ≡ Refused cause
+abbrev pub AnswerSuits : Arrival → Taken → Type 0
+AnswerSuits (OfSchedule pair) answer = IsRight answer
+AnswerSuits (Stray cause) answer = answer ≡ Refused cause
 
 -- Whatever came of a valid schedule's datagrams, in whatever order, and with whatever strays: what a collector and a feed
 -- give of them is what the delivery calls for, and the strays alone are refused.
@@ -27,9 +27,9 @@ abbrev pub Delivering : Type 0
 Delivering =
     (plan : Plan) (window reach : ℕ) (first told : Option ℕ) (base : ℤ) (arrivals : List Arrival) (datagrams : List (List ℕ))
     (answers : List Taken) (collected : List Collected) (steps : List FeedStep) (after : TrackerState)
-    → IsSchedule plan → 1 ≤ window → IsFollowed plan reach first base arrivals datagrams
-    → Run window reach first told datagrams answers collected → Feeds new_tracker collected steps after
-    → AreGiven plan window base told (pairs_in arrivals) steps × AllZip Suits arrivals answers
+    → IsSchedule plan → 1 ≤ window → IsDeliveryOf plan reach first base arrivals datagrams
+    → Run window reach first told datagrams answers collected → FeedAnswers new_tracker collected steps after
+    → AreGiven plan window base told (pairs_in arrivals) steps × AllZip AnswerSuits arrivals answers
 
 -- The same where a reading ends as soon as the told number of items was given: they are those of the whole delivery,
 -- whatever of it is still to come.
@@ -37,9 +37,9 @@ abbrev pub DeliveringEarly : Type 0
 DeliveringEarly =
     (plan : Plan) (window reach n : ℕ) (first : Option ℕ) (base : ℤ) (arrivals : List Arrival) (datagrams later : List (List ℕ))
     (answers : List Taken) (collected : List Collected) (mid : State) (steps : List FeedStep) (after : TrackerState)
-    → IsSchedule plan → 1 ≤ window → IsFollowed plan reach first base arrivals (datagrams ++ later)
-    → Steps (made window reach first) datagrams answers collected mid → n ≤ length collected
-    → Feeds new_tracker (take n collected) steps after
+    → IsSchedule plan → 1 ≤ window → IsDeliveryOf plan reach first base arrivals (datagrams ++ later)
+    → CollectorSteps (made window reach first) datagrams answers collected mid → n ≤ length collected
+    → FeedAnswers new_tracker (take n collected) steps after
     → AreGiven plan window base (Some n) (pairs_in arrivals) steps
 
 -- The strays of such a delivery alone are refused, whatever of it is still to come.
@@ -47,8 +47,8 @@ abbrev pub StraysRefused : Type 0
 StraysRefused =
     (plan : Plan) (window reach : ℕ) (first : Option ℕ) (base : ℤ) (arrivals : List Arrival) (datagrams later : List (List ℕ))
     (answers : List Taken) (collected : List Collected) (mid : State)
-    → IsSchedule plan → 1 ≤ window → IsFollowed plan reach first base arrivals (datagrams ++ later)
-    → Steps (made window reach first) datagrams answers collected mid → AllZip Suits (take (length datagrams) arrivals) answers
+    → IsSchedule plan → 1 ≤ window → IsDeliveryOf plan reach first base arrivals (datagrams ++ later)
+    → CollectorSteps (made window reach first) datagrams answers collected mid → AllZip AnswerSuits (take (length datagrams) arrivals) answers
 
 -- A frame whose packet lost no more datagrams than it was cut for, and whose others came within the window, is given.
 abbrev pub GivenInTime : Type 0
@@ -79,7 +79,7 @@ AllSwitches =
 abbrev pub AllFrames : Type 0
 AllFrames =
     (plan : Plan) (window reach : ℕ) (told : Option ℕ) (arrivals : List Arrival) (datagrams : List (List ℕ)) (first : Option ℕ) (steps : List FeedStep)
-    → IsSchedule plan → (told ≡ None) ⊎ (told ≡ Some (frame_count plan)) → IsFollowed plan reach first (pos 0) arrivals datagrams
+    → IsSchedule plan → (told ≡ None) ⊎ (told ≡ Some (frame_count plan)) → IsDeliveryOf plan reach first (pos 0) arrivals datagrams
     → ((q : ℕ) → q < frame_count plan → IsInTime plan window (pos 0) (pairs_in arrivals) q)
     → AreGiven plan window (pos 0) told (pairs_in arrivals) steps
     → (length steps ≡ frame_count plan) × AreAllServed plan (pos 0) steps
@@ -88,7 +88,7 @@ AllFrames =
 abbrev pub AllAtOnce : Type 0
 AllAtOnce =
     (plan : Plan) (window reach : ℕ) (first : Option ℕ) (arrivals : List Arrival) (datagrams : List (List ℕ))
-    → IsSchedule plan → IsFollowed plan reach first (pos 0) arrivals datagrams
+    → IsSchedule plan → IsDeliveryOf plan reach first (pos 0) arrivals datagrams
     → ((q : ℕ) → q < frame_count plan → IsInTime plan window (pos 0) (pairs_in arrivals) q)
     → (answers : List Taken) × (collected : List Collected) × (mid : State)
-    × Steps (made window reach first) datagrams answers collected mid × (frame_count plan ≤ length collected)
+    × CollectorSteps (made window reach first) datagrams answers collected mid × (frame_count plan ≤ length collected)

@@ -69,7 +69,7 @@ AreFar reach sequence0 base newest arrivals datagrams = Unit {0}
 -- A delivery that a receiver can follow, with any strays in it: it counts frames from the base, which has the first sequence
 -- number that it was told, or is the frame of the first pair; and no number is 32,768 or more from the newest one before it, or
 -- above that one by more than the receiver's reach.
-pub record IsFollowed (plan : Plan) (reach : ℕ) (first : Option ℕ) (base : ℤ) (arrivals : List Arrival) (datagrams : List (List ℕ)) : Type 0 where
+pub record IsDeliveryOf (plan : Plan) (reach : ℕ) (first : Option ℕ) (base : ℤ) (arrivals : List Arrival) (datagrams : List (List ℕ)) : Type 0 where
   pub arrive : AllZip (IsArrival plan) arrivals datagrams
   pub based : IsBase plan.seq first (pairs_in arrivals) base
   pub within_span : IsWithinSpan reach base None (pairs_in arrivals)

@@ -9,7 +9,7 @@ use Rattle.drm_schedule.specs.declared.plan.Plan.{Plan}
 use Rattle.drm_schedule.specs.Valid.{IsSchedule}
 use Rattle.mod_feed.specs.Items.{Item}
 use Rattle.law_delivery.specs.Laws.{Delivering}
-use Rattle.law_delivery.specs.Sent.{Arrival, OfSchedule, Stray, AreSent, IsSent, IsArrival, IsFollowed, pairs_in, shape_at, frame_of_number}
+use Rattle.law_delivery.specs.Sent.{Arrival, OfSchedule, Stray, AreSent, IsSent, IsArrival, IsDeliveryOf, pairs_in, shape_at, frame_of_number}
 use Rattle.law_delivery.specs.Given.{IsServed, IsServedWhere, IsItemBy, IsAFrame}
 use Rattle.law_delivery.proofs.Numbering.{frame_is}
 use Rattle.law_frame_lines.specs.Laws.{ServedLines}
@@ -73,7 +73,7 @@ module _ (lines : ServedLines) where
   module _ (delivering : Delivering) (passes : PassesSchedules) where
     gives_served : (plan : Plan) (later : List (List ℕ)) (again : List Arrival) → IsSchedule plan → AllZip (IsArrival plan) again later → GivesServed plan later again
     gives_served plan later again schedule arrive window reach first told base answers collected steps after some (based, within, far) run feeds q step at frame =
-        let followed : IsFollowed plan reach first base again later = record { arrive = arrive; based = based; within_span = within; far = far } in
+        let followed : IsDeliveryOf plan reach first base again later = record { arrive = arrive; based = based; within_span = within; far = far } in
         let (given, suits) = delivering plan window reach first told base again later answers collected steps after schedule some followed run feeds in
         let (t, place, is) = served_by plan base q (got window base (pairs_in again) q) step.item (frame_of_number plan base q) refl (given.items q step at) frame in
         (t, place, is, lines plan t q step.item is)

@@ -6,7 +6,7 @@ use Rattle.std.proofs.lemmas.Int.{ints}
 use Rattle.dcp_pft.specs.declared.carry.Carry.{Carry}
 use Rattle.dcp_collect.specs.declared.taken.Taken.{Taken}
 use Rattle.dcp_collect.specs.State.{State, made}
-use Rattle.dcp_collect.specs.Runs.{Item, Steps}
+use Rattle.dcp_collect.specs.Runs.{Item, CollectorSteps}
 use Rattle.law_collect.specs.Delivery.{sequence_at, IsBase}
 use Rattle.law_collect.specs.Laws.{OneReading}
 use Rattle.law_collect.proofs.Sent.{BringsPair}
@@ -27,7 +27,7 @@ known_as sequence0 base mid f is at = subst (λ (n : ℕ). IsAtBase sequence0 ba
 
 -- It has that of the base, where anything of the delivery came, or it was told one.
 pub first_known : OneReading → (carry : Carry) (sequence0 window reach : ℕ) (packets : List (List ℕ)) (first : Option ℕ) (base : ℤ) (pairs : List (ℕ × ℕ)) (datagrams : List (List ℕ)) (answers : List Taken) (given : List Item)
-    (mid : State) → AllZip (BringsPair carry sequence0 packets) pairs datagrams → IsBase sequence0 first pairs base → Steps (made window reach first) datagrams answers given mid
+    (mid : State) → AllZip (BringsPair carry sequence0 packets) pairs datagrams → IsBase sequence0 first pairs base → CollectorSteps (made window reach first) datagrams answers given mid
     → (pairs ≡ []) ⊎ IsAtBase sequence0 base (first_of mid)
 first_known one_reading carry sequence0 window reach packets (Some f) base pairs datagrams answers given mid brings based steps =
     inr (known_as sequence0 base mid f (first_steps (made window reach (Some f)) mid datagrams answers given f steps refl) based)

@@ -9,7 +9,7 @@ use Rattle.dcp_af.proofs.Answered.{no_fault}
 use Rattle.dcp_pft.specs.declared.carry.Carry.{Carry}
 use Rattle.dcp_pft.specs.Limits.{most_packet}
 use Rattle.dcp_pft.specs.Loss.{size, is_recoverable}
-use Rattle.dcp_pft.specs.Carrying.{shape_under, datagram_count, Carries}
+use Rattle.dcp_pft.specs.Carrying.{shape_under, datagram_count, CarriesPacket}
 use Rattle.dcp_collect.specs.Runs.{Item, Packet, Lost}
 use Rattle.dcp_collect.specs.Numbers.{end_of}
 use Rattle.law_collect.specs.Delivery.{IsPacketWith, sequence_at, AreSent, IsDatagramAt, packet_at, got, newest_of, item_by, item}
@@ -20,7 +20,7 @@ use Rattle.dcp_sender.specs.Packets.{IsAny, sequence_of}
 use Rattle.recv_reading.specs.First.{first_of}
 use Rattle.law_delivery.proofs.Needed.{needed_of}
 use Rattle.dcp_sender.specs.OverLinks.{is_large}
-use Rattle.drm_gate.specs.Passing.{Fate, Sent, Bad, Large, Missing, Becomes, BecomeAll, datagrams_of, sent_of}
+use Rattle.drm_gate.specs.Passing.{Fate, Sent, Bad, Large, Missing, OutcomeOf, BecomeAll, datagrams_of, sent_of}
 use Rattle.law_gate.specs.Laws.{pairs_at, place_of, pairs_of, AreWithin, PassesDeliveries}
 use Rattle.law_gate.proofs.Listed.{each_at, gather}
 use Rattle.law_gate.proofs.FirstNumber.{IsAtBase, first_known, sequence_same}
@@ -28,7 +28,7 @@ use Rattle.law_gate.proofs.FirstNumber.{IsAtBase, first_known, sequence_same}
 -- ---- one item
 
 -- Of a packet that was lost nothing is sent.
-pub lost_sends : (P : ℕ × ℕ → List ℕ → Type 0) (carry : Carry) (first q had total : ℕ) (fate : Fate) → Becomes carry first (Lost q had total) fate → AllZip P [] (datagrams_of fate)
+pub lost_sends : (P : ℕ × ℕ → List ℕ → Type 0) (carry : Carry) (first q had total : ℕ) (fate : Fate) → OutcomeOf carry first (Lost q had total) fate → AllZip P [] (datagrams_of fate)
 lost_sends P carry first q had total (Sent datagrams) become = absurd become
 lost_sends P carry first q had total Bad become = absurd become
 lost_sends P carry first q had total Large become = absurd become
@@ -37,11 +37,11 @@ lost_sends P carry first q had total Missing become = tt
 -- A packet that is an AF packet, and within the limit, is sent: each of its datagrams in its place.
 pub packet_sends : (P : ℕ × ℕ → List ℕ → Type 0) (carry : Carry) (first q p n sequence : ℕ) (packet : List ℕ) (fate : Fate) → IsAny packet → length packet ≤ most_packet carry → sequence_of first q ≡ sequence
     → datagram_count carry (length packet) ≡ n
-    → ((datagrams : List (List ℕ)) (i : ℕ) → i < n → Carries carry sequence packet i (slice_index_or datagrams i []) → P (p, i) (slice_index_or datagrams i []))
-    → Becomes carry first (Packet q packet) fate → AllZip P (pairs_at p n) (datagrams_of fate)
+    → ((datagrams : List (List ℕ)) (i : ℕ) → i < n → CarriesPacket carry sequence packet i (slice_index_or datagrams i []) → P (p, i) (slice_index_or datagrams i []))
+    → OutcomeOf carry first (Packet q packet) fate → AllZip P (pairs_at p n) (datagrams_of fate)
 packet_sends P carry first q p n sequence packet (Sent datagrams) any small same count each (is_any, within, are) =
     each_at P p n datagrams (are.many ∙ count)
-    (λ i below. each datagrams i below (subst (λ (k : ℕ). Carries carry k packet i (slice_index_or datagrams i [])) same (are.each i [] (omega (arith, below, are.many, count)))))
+    (λ i below. each datagrams i below (subst (λ (k : ℕ). CarriesPacket carry k packet i (slice_index_or datagrams i [])) same (are.each i [] (omega (arith, below, are.many, count)))))
 packet_sends P carry first q p n sequence packet Bad any small same count each (fault, is) = absurd (no_fault any.0 fault packet any.1 is)
 packet_sends P carry first q p n sequence packet Large any small same count each (is_any, large) =
     let more : most_packet carry < length packet = (let l : is_large carry (length packet) ≡ true = large in grind (arith, nat_tests)) in
@@ -69,7 +69,7 @@ module _ (old new : Carry) (sequence0 window : ℕ) (packets : List (List ℕ)) 
       ]
 
   by_kept : (q p : ℕ) (packet : List ℕ) (had total : ℕ) (fate : Fate) → slice_get packets p ≡ Some packet → (base +ℤ pos q) ≡ pos p → (b : Bool) → is_recoverable (shape_under old (length packet)) (got window base pairs q) ≡ b
-      → Becomes new first (cond b (Packet q packet) (Lost q had total)) fate → AllZip Sends (pairs_of new base (cond b (Packet q packet) (Lost q had total))) (datagrams_of fate)
+      → OutcomeOf new first (cond b (Packet q packet) (Lost q had total)) fate → AllZip Sends (pairs_of new base (cond b (Packet q packet) (Lost q had total))) (datagrams_of fate)
   by_kept q p packet had total fate there at true enough become =
       let is = sent.each p packet there in
       let all : AllZip Sends (pairs_at p (datagram_count new (length packet))) (datagrams_of fate) =
@@ -78,7 +78,7 @@ module _ (old new : Carry) (sequence0 window : ℕ) (packets : List (List ℕ)) 
       subst (λ (z : ℤ). AllZip Sends (pairs_at (place_of z) (datagram_count new (length packet))) (datagrams_of fate)) (sym at) all
   by_kept q p packet had total fate there at false enough become = lost_sends Sends new first q had total fate become
 
-  by_place : (q : ℕ) (fate : Fate) (z : ℤ) (o : Option (List ℕ)) → (base +ℤ pos q) ≡ z → packet_at packets z ≡ o → Becomes new first (item_by old o q (got window base pairs q)) fate
+  by_place : (q : ℕ) (fate : Fate) (z : ℤ) (o : Option (List ℕ)) → (base +ℤ pos q) ≡ z → packet_at packets z ≡ o → OutcomeOf new first (item_by old o q (got window base pairs q)) fate
       → AllZip Sends (pairs_of new base (item_by old o q (got window base pairs q))) (datagrams_of fate)
   by_place q fate z None at there become = lost_sends Sends new first q 0 0 fate become
   by_place q fate (pos p) (Some packet) at there become =
@@ -87,7 +87,7 @@ module _ (old new : Carry) (sequence0 window : ℕ) (packets : List (List ℕ)) 
       by_kept q p packet had (if had == 0 then 0 else shape.count) fate there at (is_recoverable shape (got window base pairs q)) refl become
   by_place q fate (negsuc n) (Some packet) at there become = absurd (let none : None ≡ Some packet = there in cc)
 
-  pub each_sends : (q : ℕ) (fate : Fate) → Becomes new first (item old packets window base pairs q) fate → AllZip Sends (pairs_of new base (item old packets window base pairs q)) (datagrams_of fate)
+  pub each_sends : (q : ℕ) (fate : Fate) → OutcomeOf new first (item old packets window base pairs q) fate → AllZip Sends (pairs_of new base (item old packets window base pairs q)) (datagrams_of fate)
   each_sends q fate become = by_place q fate (base +ℤ pos q) (packet_at packets (base +ℤ pos q)) refl refl become
 
 -- ---- the law

@@ -10,7 +10,7 @@ use Rattle.dcp_pft.specs.Loss.{size, is_recoverable}
 use Rattle.dcp_pft.specs.Carrying.{shape_under, datagram_count}
 use Rattle.dcp_pft.proofs.Carried.{limit_is}
 use Rattle.dcp_collect.specs.State.{State, made, after_finish}
-use Rattle.dcp_collect.specs.Runs.{Item, Packet, Lost, Gives, up_to}
+use Rattle.dcp_collect.specs.Runs.{Item, Packet, Lost, CollectorGives, up_to}
 use Rattle.dcp_collect.specs.Numbers.{end_of}
 use Rattle.dcp_collect.proofs.Sets.{recoverable_same}
 use Rattle.law_collect.specs.Delivery.{packet_at, got, newest_of, item_by, item, items}
@@ -32,7 +32,7 @@ use Rattle.law_delivery.proofs.Packets.{IsChosen, ArePackets, delivered, filler,
 use Rattle.law_convert.specs.Laws.{under}
 use Rattle.law_convert.proofs.Hearing.{Hears, hears}
 use Rattle.law_convert.proofs.OtherCarry.{packet_under}
-use Rattle.drm_gate.specs.Passing.{Fate, Becomes, BecomeAll, datagrams_of}
+use Rattle.drm_gate.specs.Passing.{Fate, OutcomeOf, BecomeAll, datagrams_of}
 use Rattle.law_gate.specs.Laws.{pairs_where, pairs_by, PassesSchedules}
 use Rattle.law_gate.proofs.Listed.{gather}
 use Rattle.law_gate.proofs.FirstNumber.{IsAtBase, first_known, sequence_same}
@@ -63,7 +63,7 @@ module _ (plan : Plan) (carry : Carry) (schedule : IsSchedule plan) (other : IsS
       ]
 
   frame_where : (t : ℕ) (packet : List ℕ) (had total : ℕ) → t < frame_count plan → IsPacketAt plan t packet → (base +ℤ pos q) ≡ pos t → (b : Bool) → is_recoverable (shape_at plan t) kept ≡ b
-      → Becomes carry first (cond b (Packet q packet) (Lost q had total)) fate → AllZip Sends (pairs_where b plan carry t) (datagrams_of fate)
+      → OutcomeOf carry first (cond b (Packet q packet) (Lost q had total)) fate → AllZip Sends (pairs_where b plan carry t) (datagrams_of fate)
   frame_where t packet had total below is at true enough become =
       let here : IsPacketAt (under carry plan) t packet = packet_under carry plan t packet is in
       let size : length packet ≡ packet_size plan t = packet_long plan t packet schedule below is in
@@ -75,21 +75,21 @@ module _ (plan : Plan) (carry : Carry) (schedule : IsSchedule plan) (other : IsS
       (λ datagrams i within carries. record { within = below; is = record { packet = packet; is_packet = here; within = omega (arith, within, count); is = carries } }) become
   frame_where t packet had total below is at false enough become = lost_sends Sends carry first q had total fate become
 
-  of_frame : (t : ℕ) (packet : List ℕ) → t < frame_count plan → IsPacketAt plan t packet → (base +ℤ pos q) ≡ pos t → Becomes carry first (item_by plan.carry (Some packet) q kept) fate
+  of_frame : (t : ℕ) (packet : List ℕ) → t < frame_count plan → IsPacketAt plan t packet → (base +ℤ pos q) ≡ pos t → OutcomeOf carry first (item_by plan.carry (Some packet) q kept) fate
       → AllZip Sends (pairs_by plan carry (Some t) kept) (datagrams_of fate)
   of_frame t packet below is at become =
       let same : shape_under plan.carry (length packet) ≡ shape_at plan t = ap (shape_under plan.carry) (packet_long plan t packet schedule below is) in
       let had : ℕ = size (shape_at plan t).count kept in
       frame_where t packet had (if had == 0 then 0 else (shape_at plan t).count) below is at (is_recoverable (shape_at plan t) kept) refl
-      (subst (λ (s : Shape). Becomes carry first (item_in s packet q kept) fate) same become)
+      (subst (λ (s : Shape). OutcomeOf carry first (item_in s packet q kept) fate) same become)
 
   -- ---- of a packet of which nothing came
 
-  lost_where : (packet : List ℕ) (had total : ℕ) (b : Bool) → b ≡ false → Becomes carry first (cond b (Packet q packet) (Lost q had total)) fate → AllZip Sends [] (datagrams_of fate)
+  lost_where : (packet : List ℕ) (had total : ℕ) (b : Bool) → b ≡ false → OutcomeOf carry first (cond b (Packet q packet) (Lost q had total)) fate → AllZip Sends [] (datagrams_of fate)
   lost_where packet had total true none become = absurd (true≢false none)
   lost_where packet had total false none become = lost_sends Sends carry first q had total fate become
 
-  of_none : (t : ℕ) (packet : List ℕ) → packet ≡ filler plan t → ((i : ℕ) → kept i ≡ false) → Becomes carry first (item_by plan.carry (Some packet) q kept) fate
+  of_none : (t : ℕ) (packet : List ℕ) → packet ≡ filler plan t → ((i : ℕ) → kept i ≡ false) → OutcomeOf carry first (item_by plan.carry (Some packet) q kept) fate
       → AllZip Sends (pairs_by plan carry (Some t) kept) (datagrams_of fate)
   of_none t packet same none become =
       let long : length packet ≡ 12 = ap length same ∙ af_long (filler_af plan t) (filler plan t) (filler_is plan t) in
@@ -102,27 +102,27 @@ module _ (plan : Plan) (carry : Carry) (schedule : IsSchedule plan) (other : IsS
 
   -- ---- of any place
 
-  of_chosen : (t : ℕ) (packet : List ℕ) → t < frame_count plan → IsChosen plan pairs t packet → (base +ℤ pos q) ≡ pos t → Becomes carry first (item_by plan.carry (Some packet) q kept) fate
+  of_chosen : (t : ℕ) (packet : List ℕ) → t < frame_count plan → IsChosen plan pairs t packet → (base +ℤ pos q) ≡ pos t → OutcomeOf carry first (item_by plan.carry (Some packet) q kept) fate
       → AllZip Sends (pairs_by plan carry (Some t) kept) (datagrams_of fate)
   of_chosen t packet below (inl chosen) at become = of_frame t packet below chosen at become
   of_chosen t packet below (inr (nothing, same)) at become = of_none t packet same (λ i. none_got window base pairs q i t at nothing) become
 
-  of_place : (z : ℤ) → (base +ℤ pos q) ≡ z → Becomes carry first (item_by plan.carry (packet_at packets z) q kept) fate → AllZip Sends (pairs_by plan carry (frame_at plan z) kept) (datagrams_of fate)
+  of_place : (z : ℤ) → (base +ℤ pos q) ≡ z → OutcomeOf carry first (item_by plan.carry (packet_at packets z) q kept) fate → AllZip Sends (pairs_by plan carry (frame_at plan z) kept) (datagrams_of fate)
   of_place (negsuc n) at become = lost_sends Sends carry first q 0 0 fate become
   of_place (pos t) at become =
       elim (cases_lt t (frame_count plan)) [
         | inl below ↦
             let (packet, there, chosen) = are.each t below in
             subst (λ (o : Option ℕ). AllZip Sends (pairs_by plan carry o kept) (datagrams_of fate)) (sym (frame_within plan (pos t) t refl below))
-            (of_chosen t packet below chosen at (subst (λ (o : Option (List ℕ)). Becomes carry first (item_by plan.carry o q kept) fate) there become))
+            (of_chosen t packet below chosen at (subst (λ (o : Option (List ℕ)). OutcomeOf carry first (item_by plan.carry o q kept) fate) there become))
         | inr beyond ↦
             let none : slice_get packets t ≡ None = slice_get_past packets t (omega (arith, beyond, are.all)) in
             let no_frame : frame_at plan (pos t) ≡ None = ap (λ (b : Bool). cond b (Some t) None) (le-ltb t (frame_count plan) beyond) in
             subst (λ (o : Option ℕ). AllZip Sends (pairs_by plan carry o kept) (datagrams_of fate)) (sym no_frame)
-            (lost_sends Sends carry first q 0 0 fate (subst (λ (o : Option (List ℕ)). Becomes carry first (item_by plan.carry o q kept) fate) none become))
+            (lost_sends Sends carry first q 0 0 fate (subst (λ (o : Option (List ℕ)). OutcomeOf carry first (item_by plan.carry o q kept) fate) none become))
       ]
 
-  pub each_sends : Becomes carry first (item plan.carry packets window base pairs q) fate → AllZip Sends (pairs_by plan carry (frame_at plan (base +ℤ pos q)) kept) (datagrams_of fate)
+  pub each_sends : OutcomeOf carry first (item plan.carry packets window base pairs q) fate → AllZip Sends (pairs_by plan carry (frame_at plan (base +ℤ pos q)) kept) (datagrams_of fate)
   each_sends become = of_place (base +ℤ pos q) refl become
 
 -- ---- the law
@@ -133,7 +133,7 @@ passes_schedules collecting giving_ends one_reading one_run plan carry rules bas
     let run = passed.onward.run in
     let h : Hears plan rules.window rules.reach rules.first base pairs datagrams = hears collecting giving_ends plan rules.window rules.reach rules.first base arrivals datagrams passed.schedule passed.some passed.followed in
     let same = one_run (made rules.window rules.reach rules.first) run.mid h.mid datagrams passed.onward.taken h.answers run.during h.given run.steps h.steps in
-    let gives : Gives (after_finish h.mid rules.frames) run.rest run.after = subst (λ (s : State). Gives (after_finish s rules.frames) run.rest run.after) (sym same.2) run.gives in
+    let gives : CollectorGives (after_finish h.mid rules.frames) run.rest run.after = subst (λ (s : State). CollectorGives (after_finish s rules.frames) run.rest run.after) (sym same.2) run.gives in
     let are : passed.onward.items ≡ items plan.carry h.packets rules.window base rules.frames pairs =
     run.are ∙ (ap (λ (l : List Item). up_to rules.frames (l ++ run.rest)) (sym same.1) ∙ h.law rules.frames run.rest run.after gives) in
     let first : ℕ = first_of run.mid in

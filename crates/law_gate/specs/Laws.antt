@@ -15,9 +15,9 @@ use Rattle.drm_schedule.specs.declared.plan.Plan.{Plan}
 use Rattle.drm_schedule.specs.Valid.{IsSchedule}
 use Rattle.drm_reconfiguration.specs.Tracker.{TrackerState, new_tracker}
 use Rattle.drm_timeline.specs.Numbers.{packet_size}
-use Rattle.mod_feed.specs.Feeding.{FeedStep, Feeds}
+use Rattle.mod_feed.specs.Feeding.{FeedStep, FeedAnswers}
 use Rattle.law_delivery.specs.Sent as schedules
-use Rattle.law_delivery.specs.Sent.{Arrival, IsStray, IsArrival, AreFar, pairs_in, IsFollowed, shape_at, frame_of_number}
+use Rattle.law_delivery.specs.Sent.{Arrival, IsStray, IsArrival, AreFar, pairs_in, IsDeliveryOf, shape_at, frame_of_number}
 use Rattle.law_delivery.specs.Given.{IsServed, IsAFrame}
 use Rattle.report_text.specs.Report.{item_line}
 use Rattle.law_frame_lines.specs.Line.{IsFrameLine}
@@ -80,7 +80,7 @@ pub record IsPassedOn (plan : Plan) (carry : Carry) (rules : ReceiveOptions) (ba
   pub schedule : IsSchedule plan
   pub other : IsSchedule (under carry plan)
   pub some : 1 ≤ rules.window
-  pub followed : IsFollowed plan rules.reach rules.first base arrivals datagrams
+  pub followed : IsDeliveryOf plan rules.reach rules.first base arrivals datagrams
   pub onward : IsOnward rules carry datagrams fates
 
 -- It is a delivery of the schedule under that carry.
@@ -118,7 +118,7 @@ AreServed plan base steps =
 abbrev pub GivesServed : Plan → List (List ℕ) → List Arrival → Type 0
 GivesServed plan later again =
     (window reach : ℕ) (first told : Option ℕ) (base : ℤ) (answers : List Taken) (collected : List Item) (steps : List FeedStep) (after : TrackerState)
-    → 1 ≤ window → HaveBase plan reach first base again later → Run window reach first told later answers collected → Feeds new_tracker collected steps after → AreServed plan base steps
+    → 1 ≤ window → HaveBase plan reach first base again later → Run window reach first told later answers collected → FeedAnswers new_tracker collected steps after → AreServed plan base steps
 
 -- Over one gateway: what comes of what it sends is a delivery of the schedule, and where a receiver follows that, each frame that it
 -- gives is the server's.

@@ -3,8 +3,8 @@
 ghost use Rattle.law_gate.specs.Laws.{PassesDeliveries, PassesSchedules, ComesAgain, ServedBehindOne, ServedBehindTwo};
 
 use law_collect::{collecting, giving_ends, one_reading, one_run};
-use law_frame_lines::served_frames_are_printed;
 use law_delivery::modulators_give;
+use law_frame_lines::served_frames_are_printed;
 
 /// What becomes of a delivery of packets is a delivery of them under the new carry: all datagrams of exactly those that are given.
 pub fn deliveries_are_passed_on()

@@ -6,9 +6,9 @@ use Rattle.drm_schedule.specs.Valid.{IsSchedule}
 use Rattle.drm_timeline.specs.Numbers.{frame_count}
 use Rattle.dcp_collect.specs.declared.taken.Taken.{Taken}
 use Rattle.dcp_collect.specs.State.{State, made}
-use Rattle.dcp_collect.specs.Runs.{Item, Steps}
+use Rattle.dcp_collect.specs.Runs.{Item, CollectorSteps}
 use Rattle.mod_feed.specs.Feeding.{FeedStep}
-use Rattle.law_delivery.specs.Sent.{Arrival, IsArrival, AreFar, pairs_in, IsFollowed, IsInTime}
+use Rattle.law_delivery.specs.Sent.{Arrival, IsArrival, AreFar, pairs_in, IsDeliveryOf, IsInTime}
 use Rattle.law_delivery.specs.Given.{AreGiven, AreAllServed}
 use Rattle.recv_report.specs.Headline.{GivesInTime, PrintsFrames, TellsSwitches, strays}
 use Rattle.report_text.specs.Reports.{report, is_clean}
@@ -22,7 +22,7 @@ use Rattle.drm_paths.specs.Closing.{of_path}
 
 -- A new collector that takes these datagrams, and gives all that is ready after each, has given so many items.
 abbrev pub HasGiven : Settings → List (List ℕ) → ℕ → Type 0
-HasGiven by came many = (taken : List Taken) × (items : List Item) × (mid : State) × Steps (made by.window by.reach by.first) came taken items mid × (length items ≡ many)
+HasGiven by came many = (taken : List Taken) × (items : List Item) × (mid : State) × CollectorSteps (made by.window by.reach by.first) came taken items mid × (length items ≡ many)
 
 -- The text is the report of what a delivery of a schedule calls for: of what was refused it names the strays, and last it says
 -- whether the told number of frames was given before all paths had ended.
@@ -41,7 +41,7 @@ pub record ReportsDelivery (plan : Plan) (by : Settings) (base : ℤ) (arrivals 
 abbrev pub ReportsDeliveries : Type 0
 ReportsDeliveries =
     (plan : Plan) (by : Settings) (base : ℤ) (arrivals : List Arrival) (came : List (List ℕ)) (text : List ℕ) (clean : Bool)
-    → IsSchedule plan → AreInRange by → IsFollowed plan by.reach by.first base arrivals came → IsReportOf by came text clean
+    → IsSchedule plan → AreInRange by → IsDeliveryOf plan by.reach by.first base arrivals came → IsReportOf by came text clean
     → ReportsDelivery plan by base arrivals came text clean
 
 -- It is the report of all frames of the schedule, each the server's, and nothing is missing.
@@ -57,7 +57,7 @@ abbrev pub ReportsAll : Type 0
 ReportsAll =
     (plan : Plan) (by : Settings) (arrivals : List Arrival) (came : List (List ℕ)) (text : List ℕ) (clean : Bool)
     → IsSchedule plan → AreInRange by → (by.frames ≡ None) ⊎ (by.frames ≡ Some (frame_count plan))
-    → IsFollowed plan by.reach by.first (pos 0) arrivals came
+    → IsDeliveryOf plan by.reach by.first (pos 0) arrivals came
     → ((q : ℕ) → q < frame_count plan → IsInTime plan by.window (pos 0) (pairs_in arrivals) q)
     → IsReportOf by came text clean → ReportsAllFrames plan by arrivals came text clean
 
@@ -82,4 +82,4 @@ abbrev pub FollowedInAnyOrder : Type 0
 FollowedInAnyOrder =
     (plan : Plan) (reach : ℕ) (arrivals : List Arrival) (came : List (List ℕ)) → frame_count plan ≤ 32768 → frame_count plan ≤ reach + 1
     → AllZip (IsArrival plan) arrivals came → AreFar reach plan.seq (pos 0) None arrivals came
-    → IsFollowed plan reach (Some plan.seq) (pos 0) arrivals came
+    → IsDeliveryOf plan reach (Some plan.seq) (pos 0) arrivals came

@@ -27,7 +27,7 @@ use Rattle.drm_plan.specs.Projection.{Drafted}
 use Rattle.drm_plan.specs.Text.{lines_give, draft_of, IsText}
 use Rattle.drm_plan.proofs.FileLemmas.{with_file_fits}
 use Rattle.drm_plan.proofs.TextLemmas.{right_text}
-use Rattle.law_plan.specs.Whole.{files_in, with_all, Makes}
+use Rattle.law_plan.specs.Whole.{files_in, with_all, TextMakes}
 use Rattle.law_plan.proofs.AttachLaw.{at_seam}
 use Rattle.law_plan.proofs.FillLaw.{filled_with, plan_fills, plan_count, plan_with}
 use Rattle.law_plan.proofs.GivenLaw.{IsGiven, lines_given}
@@ -109,7 +109,7 @@ all_filled draft whole files given alike are =
     ∙ ap (λ (bs : List (List ℕ)). with_plan draft (filled_with (config_files 0 draft.plan.configs) bs draft.plan)) (sym are)
     ∙ ap (with_plan draft) (plan_fills draft.plan whole alike)
 
-pub made : (text : List ℕ) (files : List (List ℕ)) (schedule : Plan) → Makes text files schedule → IsText schedule text × IsSchedule schedule × (files ≡ files_in schedule)
+pub made : (text : List ℕ) (files : List (List ℕ)) (schedule : Plan) → TextMakes text files schedule → IsText schedule text × IsSchedule schedule × (files ≡ files_in schedule)
 made text files schedule makes =
     let draft = makes.draft in
     let given = given_by text draft makes.gives in
@@ -124,7 +124,7 @@ made text files schedule makes =
       sym w.are ∙ ap files_in whole,
     )
 
-pub makes : (text : List ℕ) (files : List (List ℕ)) (schedule : Plan) → IsText schedule text × IsSchedule schedule × (files ≡ files_in schedule) → Makes text files schedule
+pub makes : (text : List ℕ) (files : List (List ℕ)) (schedule : Plan) → IsText schedule text × IsSchedule schedule × (files ≡ files_in schedule) → TextMakes text files schedule
 makes text files schedule is =
     let draft = is.0.draft in
     let given = given_by text draft is.0.gives in

@@ -29,7 +29,7 @@ with_all k [] draft = draft
 with_all k (bytes ∷ files) draft = with_all (k + 1) files (attached draft k bytes)
 
 -- The text gives a draft, which these files, one for each line that names one and in their order, make this valid schedule.
-pub record Makes (text : List ℕ) (files : List (List ℕ)) (schedule : Plan) : Type 0 where
+pub record TextMakes (text : List ℕ) (files : List (List ℕ)) (schedule : Plan) : Type 0 where
   pub draft : Drafted
   pub gives : draft_of text ≡ Ok draft
   pub one_each : length files ≡ length draft.files
@@ -39,7 +39,7 @@ pub record Makes (text : List ℕ) (files : List (List ℕ)) (schedule : Plan) :
 abbrev pub TextsMakeSchedules : Type 0
 TextsMakeSchedules =
     (text : List ℕ) (files : List (List ℕ)) (schedule : Plan)
-    → Makes text files schedule ↔ IsText schedule text × IsSchedule schedule × (files ≡ files_in schedule)
+    → TextMakes text files schedule ↔ IsText schedule text × IsSchedule schedule × (files ≡ files_in schedule)
 
 -- The canonical text of a valid schedule is a text of it, where it isn't too long.
 abbrev pub CanonicalTextsAreTexts : Type 0

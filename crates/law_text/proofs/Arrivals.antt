@@ -7,12 +7,12 @@ use Rattle.std.proofs.lemmas.List.{take_at, drop_at, get_or_append_left, same_fr
 use Rattle.drm_text.specs.Segment.{Segment, most_body, round_up, IsSegment}
 use Rattle.drm_text.specs.Message.{start, most_message}
 use Rattle.drm_text.specs.Reading.{body_length}
-use Rattle.drm_text.specs.Joining.{Begun, State, Gathered, Starts, Grows, Fills, made, is_start, is_complete, gather, gather_on, segment_after, same_flag, joined, bytes_with, going_on, whole, ReadsIn, begun_by, after, whole_with, Gives}
+use Rattle.drm_text.specs.Joining.{Begun, State, Gathered, Starts, Grows, Fills, made, is_start, is_complete, gather, gather_on, segment_after, same_flag, joined, bytes_with, going_on, whole, ReadsIn, begun_by, after, whole_with, GivesMessage}
 use Rattle.drm_text.proofs.Spellings.{placed}
 use Rattle.drm_text.proofs.Joinings.{one_read}
 use Rattle.drm_text.proofs.Starts.{IsPlain, text_plain, later_piece}
 use Rattle.law_text.specs.Readings.{Reading, IsEntry, came, bytes_of, CameWhole, GoesOn, AreBegun, EndsMessage}
-use Rattle.law_text.specs.Runs.{Runs, with_message, messages_in}
+use Rattle.law_text.specs.Runs.{JoinerRuns, with_message, messages_in}
 use Rattle.law_text.proofs.Steps.{is_the_start}
 
 abbrev pub IsFour : List ℕ → Type 0
@@ -32,10 +32,10 @@ pub record Split (s : State) (xs ys : Reading) (texts : List (Option (List ℕ))
   pub later : List (Option (List ℕ))
   pub mid : State
   pub all : texts ≡ told ++ later
-  pub first : Runs s xs told mid
-  pub second : Runs mid ys later left
+  pub first : JoinerRuns s xs told mid
+  pub second : JoinerRuns mid ys later left
 
-pub runs_split : (s : State) (xs ys : List (Option (List ℕ))) (texts : List (Option (List ℕ))) (left : State) → Runs s (xs ++ ys) texts left → Split s xs ys texts left
+pub runs_split : (s : State) (xs ys : List (Option (List ℕ))) (texts : List (Option (List ℕ))) (left : State) → JoinerRuns s (xs ++ ys) texts left → Split s xs ys texts left
 runs_split s [] ys texts left h = record { told = []; later = texts; mid = s; all = refl; first = (refl, refl); second = h }
 runs_split s (None ∷ xs) ys [] left h = absurd h
 runs_split s (None ∷ xs) ys (text ∷ texts) left h =
@@ -52,7 +52,7 @@ pub record Filled (o : Option (List ℕ)) (s : Segment) (texts : List (Option (L
   pub text : Option (List ℕ)
   pub texts_are : texts ≡ told ++ text ∷ []
   pub quiet : messages_in told ≡ []
-  pub gives : Gives (whole s o) text
+  pub gives : GivesMessage (whole s o) text
   pub left_is : left ≡ record { begun = going_on s o; segment = None }
 
 -- these bytes of a segment came, and these pieces are to come
@@ -91,7 +91,7 @@ size_with s bytes arrived piece pieces h =
 
 -- the last piece of it
 fill : (b : Option Begun) (s : Segment) (bytes arrived piece : List ℕ) (text : Option (List ℕ)) (texts : List (Option (List ℕ))) (left : State) → Arriving s bytes arrived (piece ∷ [])
-    → Runs (in_segment b arrived) (Some piece ∷ []) (text ∷ texts) left → Filled (bytes_with b s) s (text ∷ texts) left
+    → JoinerRuns (in_segment b arrived) (Some piece ∷ []) (text ∷ texts) left → Filled (bytes_with b s) s (text ∷ texts) left
 fill b s bytes arrived piece text texts left h (read, reads, gives, rest) =
     let all : bytes ≡ arrived ++ piece = h.all ∙ ap (λ l. arrived ++ l) (append-nil piece) in
     let test : is_complete (arrived ++ piece) ≡ true =
@@ -102,7 +102,7 @@ fill b s bytes arrived piece text texts left h (read, reads, gives, rest) =
     let P : Gathered → Type 0 = λ g. ReadsIn g read in
     let Q : List ℕ → Type 0 = λ l. IsSegment s l in
     let is : read ≡ Some s = one_read (arrived ++ piece) read (Some s) (subst P fills reads) (subst Q all h.segment) in
-    let R : Option Segment → Type 0 = λ r. Gives (whole_with b r) text in
+    let R : Option Segment → Type 0 = λ r. GivesMessage (whole_with b r) text in
     record {
       told = [];
       text = text;
@@ -128,8 +128,8 @@ grow s bytes arrived piece next pieces h =
     )
 
 -- a piece that isn't the last one of a segment gives nothing
-pub nothing_given : (b : Option Begun) (read : Option Segment) (text : Option (List ℕ)) → read ≡ None → Gives (whole_with b read) text → text ≡ None
-nothing_given b read text none gives = let P : Option Segment → Type 0 = λ r. Gives (whole_with b r) text in subst P none gives
+pub nothing_given : (b : Option Begun) (read : Option Segment) (text : Option (List ℕ)) → read ≡ None → GivesMessage (whole_with b read) text → text ≡ None
+nothing_given b read text none gives = let P : Option Segment → Type 0 = λ r. GivesMessage (whole_with b r) text in subst P none gives
 
 pub filled_on : {o : Option (List ℕ)} {s : Segment} {texts : List (Option (List ℕ))} {left : State} (text : Option (List ℕ)) → Filled o s texts left → text ≡ None → Filled o s (text ∷ texts) left
 filled_on text r none = record {
@@ -142,13 +142,13 @@ filled_on text r none = record {
 }
 
 pub filling : (b : Option Begun) (s : Segment) (bytes arrived : List ℕ) (pieces : List (List ℕ)) (texts : List (Option (List ℕ))) (left : State) → Arriving s bytes arrived pieces
-    → Runs (in_segment b arrived) (came pieces) texts left → Filled (bytes_with b s) s texts left
+    → JoinerRuns (in_segment b arrived) (came pieces) texts left → Filled (bytes_with b s) s texts left
 filling b s bytes arrived [] texts left h run = absurd (omega (arith, h.more, ap length h.all, length-append arrived []))
 filling b s bytes arrived (piece ∷ pieces) [] left h run = absurd run
 filling b s bytes arrived (piece ∷ []) (text ∷ texts) left h run = fill b s bytes arrived piece text texts left h run
 filling b s bytes arrived (piece ∷ next ∷ pieces) (text ∷ texts) left h (read, reads, gives, rest) =
     let more = grow s bytes arrived piece next pieces h in
-    let P : Gathered → Type 0 = λ g. Runs (record { begun = begun_by b g read; segment = segment_after g }) (came (next ∷ pieces)) texts left in
+    let P : Gathered → Type 0 = λ g. JoinerRuns (record { begun = begun_by b g read; segment = segment_after g }) (came (next ∷ pieces)) texts left in
     let Q : Gathered → Type 0 = λ g. ReadsIn g read in
     let r = filling b s bytes (arrived ++ piece) (next ∷ pieces) texts left more.1 (subst P more.0 rest) in
     filled_on text r (nothing_given b read text (subst Q more.0 reads) gives)
@@ -158,14 +158,14 @@ abbrev pub still_begun : State → Option Begun
 still_begun v = if is_some v.segment then None else v.begun
 
 -- a segment that came whole
-pub whole_segment : (v : State) (s : Segment) (here : Reading) (texts : List (Option (List ℕ))) (left : State) → CameWhole s here → AllByRecursion IsEntry here → AllByRecursion IsPlain s.body → Runs v here texts left
+pub whole_segment : (v : State) (s : Segment) (here : Reading) (texts : List (Option (List ℕ))) (left : State) → CameWhole s here → AllByRecursion IsEntry here → AllByRecursion IsPlain s.body → JoinerRuns v here texts left
     → Filled (bytes_with (still_begun v) s) s texts left
 whole_segment v s here texts left came_whole entries plain run =
-    let P : Reading → Type 0 = λ l. Runs v l texts left in
+    let P : Reading → Type 0 = λ l. JoinerRuns v l texts left in
     let Q : Reading → Type 0 = λ l. AllByRecursion IsEntry l in
     from_start texts (subst Q came_whole.all entries) (subst P came_whole.all run)
   where
-    from_start : (texts : List (Option (List ℕ))) → AllByRecursion IsEntry (Some start ∷ came came_whole.pieces) → Runs v (Some start ∷ came came_whole.pieces) texts left → Filled (bytes_with (still_begun v) s) s texts left
+    from_start : (texts : List (Option (List ℕ))) → AllByRecursion IsEntry (Some start ∷ came came_whole.pieces) → JoinerRuns v (Some start ∷ came came_whole.pieces) texts left → Filled (bytes_with (still_begun v) s) s texts left
     from_start [] entries run = absurd run
     from_start (text ∷ texts) entries (read, reads, gives, rest) =
         let r = filling (still_begun v) s (bytes_of came_whole.pieces) [] came_whole.pieces texts left
@@ -206,7 +206,7 @@ record Gave (text : List ℕ) (s : Segment) (texts : List (Option (List ℕ))) (
   pub told : List (Option (List ℕ))
   pub given : Option (List ℕ)
   pub texts_are : texts ≡ told ++ given ∷ []
-  pub gives : Gives (whole s (Some text)) given
+  pub gives : GivesMessage (whole s (Some text)) given
   pub left_is : left ≡ record { begun = going_on s (Some text); segment = None }
 
 gave_behind : (s : Segment) (text : List ℕ) (o : Option (List ℕ)) (told later texts : List (Option (List ℕ))) (left : State) → texts ≡ told ++ later → o ≡ Some text → Filled o s later left → Gave text s texts left
@@ -214,15 +214,15 @@ gave_behind s text o told later texts left all is r = record {
   told = told ++ r.told;
   given = r.text;
   texts_are = all ∙ (ap (λ l. told ++ l) r.texts_are ∙ sym (append_assoc told r.told (r.text ∷ [])));
-  gives = let P : Option (List ℕ) → Type 0 = λ x. Gives (whole s x) r.text in subst P is r.gives;
+  gives = let P : Option (List ℕ) → Type 0 = λ x. GivesMessage (whole s x) r.text in subst P is r.gives;
   left_is = r.left_is ∙ ap (λ x. record { begun = going_on s x; segment = None }) is;
 }
 
 -- the segments of a message, up to one that came whole
 arrived : (toggle : Bool) (n : ℕ) (s : Segment) (text : List ℕ) (reading : Reading) (v : State) (texts : List (Option (List ℕ))) (left : State) → GoesOn (AreBegun toggle n) toggle n s text reading
-    → AllByRecursion IsEntry reading → AllByRecursion IsPlain text → length text ≤ most_message → Runs v reading texts left → Gave text s texts left
+    → AllByRecursion IsEntry reading → AllByRecursion IsPlain text → length text ≤ most_message → JoinerRuns v reading texts left → Gave text s texts left
 arrived toggle zero s text reading v texts left g entries plain few run =
-    let P : Reading → Type 0 = λ l. Runs v l texts left in
+    let P : Reading → Type 0 = λ l. JoinerRuns v l texts left in
     let Q : Reading → Type 0 = λ l. AllByRecursion IsEntry l in
     let R : List ℕ → Type 0 = λ l. AllByRecursion IsPlain l in
     let split = runs_split v g.ahead g.here texts left (subst P g.all run) in
@@ -231,7 +231,7 @@ arrived toggle zero s text reading v texts left g entries plain few run =
     let with_it : bytes_with (still_begun split.mid) s ≡ Some text = begins_with (still_begun split.mid) s g.first_is g.number_is ∙ ap Some body in
     gave_behind s text _ split.told split.later texts left split.all with_it r
 arrived toggle (suc n) s text reading v texts left g entries plain few run =
-    let P : Reading → Type 0 = λ l. Runs v l texts left in
+    let P : Reading → Type 0 = λ l. JoinerRuns v l texts left in
     let Q : Reading → Type 0 = λ l. AllByRecursion IsEntry l in
     let R : List ℕ → Type 0 = λ l. AllByRecursion IsPlain l in
     let split = runs_split v g.ahead g.here texts left (subst P g.all run) in
@@ -250,22 +250,22 @@ arrived toggle (suc n) s text reading v texts left g entries plain few run =
     ∙ (joins_with u s later (g.toggle_is ∙ sym g.begun.1.toggle_is) (omega (arith, g.number_is, g.begun.1.number_is)) (omega (arith, size, few)) ∙ ap Some (sym g.text_is)) in
     gave_behind s text _ split.told split.later texts left split.all with_it r
 
-pub given_text : (s : Segment) (message : List ℕ) (text : Option (List ℕ)) → s.last ≡ true → Gives (whole s (Some message)) text → IsUtf8 message → text ≡ Some message
+pub given_text : (s : Segment) (message : List ℕ) (text : Option (List ℕ)) → s.last ≡ true → GivesMessage (whole s (Some message)) text → IsUtf8 message → text ≡ Some message
 given_text s message None last gives utf8 =
-    let P : Option (List ℕ) → Type 0 = λ x. Gives x None in
+    let P : Option (List ℕ) → Type 0 = λ x. GivesMessage x None in
     let g = subst P (ap (λ t. if t then Some message else None) last) gives in
     let is : false ≡ true = g.0.1 utf8 in
     absurd cc
 given_text s message (Some given) last gives utf8 =
-    let P : Option (List ℕ) → Type 0 = λ x. Gives x (Some given) in
+    let P : Option (List ℕ) → Type 0 = λ x. GivesMessage x (Some given) in
     let g = subst P (ap (λ t. if t then Some message else None) last) gives in
     ap Some g.1
 
 -- a message that ends there is given
 pub ends_given : (v : State) (reading : Reading) (message : List ℕ) (told : List (Option (List ℕ))) (text : Option (List ℕ)) (left : State) → AllByRecursion IsEntry reading → EndsMessage reading message
-    → Runs v reading (told ++ text ∷ []) left → text ≡ Some message
+    → JoinerRuns v reading (told ++ text ∷ []) left → text ≡ Some message
 ends_given v reading message told text left entries e run =
-    let P : Reading → Type 0 = λ l. Runs v l (told ++ text ∷ []) left in
+    let P : Reading → Type 0 = λ l. JoinerRuns v l (told ++ text ∷ []) left in
     let Q : Reading → Type 0 = λ l. AllByRecursion IsEntry l in
     let split = runs_split v e.front e.pieces (told ++ text ∷ []) left (subst P e.all run) in
     let r = arrived e.toggle e.number e.segment message e.pieces split.mid split.later left e.goes (all_parts IsEntry e.front e.pieces (subst Q e.all entries)).1 (text_plain message e.utf8) e.few split.second in

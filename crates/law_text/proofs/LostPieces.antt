@@ -5,11 +5,11 @@ use Rattle.std.proofs.lemmas.Bool.{cases_Bool, ne_eqb, le-leb, lt-leb}
 use Rattle.std.proofs.lemmas.List.{take_all, take-take, drop-take, length-take, length-take-le, take-append-drop}
 use Rattle.drm_text.specs.Segment.{Segment, most_body}
 use Rattle.drm_text.specs.Message.{start, most_message, segment_at}
-use Rattle.drm_text.specs.Joining.{Begun, State, Gathered, Starts, Strays, made, is_start, gather, gather_on, segment_after, joined, bytes_with, going_on, whole, ReadsIn, begun_by, Gives}
+use Rattle.drm_text.specs.Joining.{Begun, State, Gathered, Starts, Strays, made, is_start, gather, gather_on, segment_after, joined, bytes_with, going_on, whole, ReadsIn, begun_by, GivesMessage}
 use Rattle.drm_text.proofs.Spellings.{placed}
 use Rattle.drm_text.proofs.Starts.{IsPlain, text_plain, all_take, all_drop}
 use Rattle.law_text.specs.Readings.{Reading, came, bytes_of}
-use Rattle.law_text.specs.Runs.{Runs, with_message, messages_in}
+use Rattle.law_text.specs.Runs.{JoinerRuns, with_message, messages_in}
 use Rattle.law_text.specs.Losses.{IsMessage, ArePiecesFrom, Sending, IsSending, kept_of, all_kept, reading_of, whole_messages}
 use Rattle.law_text.specs.Laws.{GivesWhatIsWhole}
 use Rattle.law_text.proofs.Arrivals.{Arriving, Filled, runs_split, in_segment, not_start, grow, nothing_given, filled_on, filling, begins_with, joins_with, goes_on, given_text}
@@ -39,7 +39,7 @@ laters s bytes arrived (piece ∷ next ∷ pieces) h =
     (not_start s bytes arrived piece (next ∷ pieces) h, laters s bytes (arrived ++ piece) (next ∷ pieces) (grow s bytes arrived piece next pieces h).1)
 
 -- with no start before them they are nothing
-strays : (kept : List Bool) (pieces : List (List ℕ)) (texts : List (Option (List ℕ))) (left : State) → AllByRecursion IsLater pieces → Runs made (kept_of kept pieces) texts left → Quiet texts left
+strays : (kept : List Bool) (pieces : List (List ℕ)) (texts : List (Option (List ℕ))) (left : State) → AllByRecursion IsLater pieces → JoinerRuns made (kept_of kept pieces) texts left → Quiet texts left
 strays [] pieces texts left h run = record { none = ap messages_in run.0; left_is = run.1 }
 strays (k ∷ kept) [] texts left h run = record { none = ap messages_in run.0; left_is = run.1 }
 strays (false ∷ kept) (piece ∷ pieces) [] left h run = absurd run
@@ -48,12 +48,12 @@ strays (true ∷ kept) (piece ∷ pieces) [] left h run = absurd run
 strays (true ∷ kept) (piece ∷ pieces) (text ∷ texts) left h (read, reads, gives, rest) =
     let is : gather None piece ≡ Strays = ap (λ t. if t then Starts false else gather_on None piece) h.0 in
     let P : Gathered → Type 0 = λ g. ReadsIn g read in
-    let Q : Gathered → Type 0 = λ g. Runs (record { begun = begun_by None g read; segment = segment_after g }) (kept_of kept pieces) texts left in
+    let Q : Gathered → Type 0 = λ g. JoinerRuns (record { begun = begun_by None g read; segment = segment_after g }) (kept_of kept pieces) texts left in
     quiet_more text texts (nothing_given None read text (subst P is reads) gives) (strays kept pieces texts left h.1 (subst Q is rest))
 
 -- a segment that loses a piece behind its start
 lossy : (b : Option Begun) (s : Segment) (bytes arrived : List ℕ) (pieces : List (List ℕ)) (kept : List Bool) (texts : List (Option (List ℕ))) (left : State) → Arriving s bytes arrived pieces
-    → length kept ≡ length pieces → all_kept kept ≡ false → Runs (in_segment b arrived) (kept_of kept pieces) texts left → Quiet texts left
+    → length kept ≡ length pieces → all_kept kept ≡ false → JoinerRuns (in_segment b arrived) (kept_of kept pieces) texts left → Quiet texts left
 lossy b s bytes arrived pieces [] texts left h size lost run = absurd cc
 lossy b s bytes arrived [] (k ∷ kept) texts left h size lost run = absurd (omega (arith, size))
 lossy b s bytes arrived (piece ∷ pieces) (false ∷ kept) [] left h size lost run = absurd run
@@ -65,7 +65,7 @@ lossy b s bytes arrived (piece ∷ []) (true ∷ k ∷ kept) (text ∷ texts) le
 lossy b s bytes arrived (piece ∷ next ∷ pieces) (true ∷ kept) (text ∷ texts) left h size lost (read, reads, gives, rest) =
     let more = grow s bytes arrived piece next pieces h in
     let P : Gathered → Type 0 = λ g. ReadsIn g read in
-    let Q : Gathered → Type 0 = λ g. Runs (record { begun = begun_by b g read; segment = segment_after g }) (kept_of kept (next ∷ pieces)) texts left in
+    let Q : Gathered → Type 0 = λ g. JoinerRuns (record { begun = begun_by b g read; segment = segment_after g }) (kept_of kept (next ∷ pieces)) texts left in
     quiet_more text texts (nothing_given b read text (subst P more.0 reads) gives)
     (lossy b s bytes (arrived ++ piece) (next ∷ pieces) kept texts left more.1 (omega (arith, size)) lost (subst Q more.0 rest))
 
@@ -85,14 +85,14 @@ OneSegment b s kept texts left =
     ((all_kept kept ≡ true) × Filled (bytes_with b s) s texts left) ⊎ ((all_kept kept ≡ false) × Quiet texts left)
 
 one_segment : (b : Option Begun) (s : Segment) (rest : List (List ℕ)) (kept : List Bool) (texts : List (Option (List ℕ))) (left : State) → Arriving s (bytes_of rest) [] rest → length kept ≡ suc (length rest)
-    → Runs (between b) (kept_of kept (start ∷ rest)) texts left → OneSegment b s kept texts left
+    → JoinerRuns (between b) (kept_of kept (start ∷ rest)) texts left → OneSegment b s kept texts left
 one_segment b s rest [] texts left h size run = absurd (omega (arith, size))
 one_segment b s rest (false ∷ kept) [] left h size run = absurd run
 one_segment b s rest (false ∷ kept) (text ∷ texts) left h size run =
     inr (refl, quiet_more text texts run.0 (strays kept rest texts left (laters s (bytes_of rest) [] rest h) run.1))
 one_segment b s rest (true ∷ kept) [] left h size run = absurd run
 one_segment b s rest (true ∷ kept) (text ∷ texts) left h size (read, reads, gives, tail) =
-    let P : Reading → Type 0 = λ l. Runs (in_segment b []) l texts left in
+    let P : Reading → Type 0 = λ l. JoinerRuns (in_segment b []) l texts left in
     let none : text ≡ None = nothing_given b read text reads gives in
     elim (cases_Bool (all_kept kept)) [
       | inl all ↦ inl (all, filled_on text (filling b s (bytes_of rest) [] rest texts left h (subst P (kept_whole kept rest (omega (arith, size)) all) tail)) none)
@@ -130,14 +130,14 @@ record Taken (toggle : Bool) (message : List ℕ) (j : ℕ) (b : Option Begun) (
   pub mid : State
   pub all : texts ≡ told ++ later
   pub segment : OneSegment b (segment_at toggle message j) first told mid
-  pub behind : Runs mid (kept_of second parts.more) later left
+  pub behind : JoinerRuns mid (kept_of second parts.more) later left
 
 taken : (toggle : Bool) (message : List ℕ) (j : ℕ) (b : Option Begun) (kept : List Bool) (pieces : List (List ℕ)) (texts : List (Option (List ℕ))) (left : State) → j * 16 < length message
-    → AllByRecursion IsPlain message → ArePiecesFrom toggle message (j * 6) pieces → length kept ≡ length pieces → Runs (between b) (kept_of kept pieces) texts left → Taken toggle message j b kept pieces texts left
+    → AllByRecursion IsPlain message → ArePiecesFrom toggle message (j * 6) pieces → length kept ≡ length pieces → JoinerRuns (between b) (kept_of kept pieces) texts left → Taken toggle message j b kept pieces texts left
 taken toggle message j b kept pieces texts left within plain are size run =
     let parts = parts_of toggle message j (j * 6) pieces within refl are in
     let m = masks kept (start ∷ parts.rest) parts.more (size ∙ ap length parts.all) in
-    let P : Reading → Type 0 = λ l. Runs (between b) l texts left in
+    let P : Reading → Type 0 = λ l. JoinerRuns (between b) l texts left in
     let split = runs_split (between b) (kept_of m.first (start ∷ parts.rest)) (kept_of m.second parts.more) texts left (subst P (ap (kept_of kept) parts.all ∙ m.all) run) in
     record {
       parts = parts;
@@ -169,8 +169,8 @@ quiet_join texts told later mid left all q r = record {
   left_is = r.left_is;
 }
 
-no_gift : (text : Option (List ℕ)) (o : Option (List ℕ)) → o ≡ None → Gives o text → text ≡ None
-no_gift text o none gives = let P : Option (List ℕ) → Type 0 = λ x. Gives x text in subst P none gives
+no_gift : (text : Option (List ℕ)) (o : Option (List ℕ)) → o ≡ None → GivesMessage o text → text ≡ None
+no_gift text o none gives = let P : Option (List ℕ) → Type 0 = λ x. GivesMessage x text in subst P none gives
 
 never_whole : (last : Bool) (o : Option (List ℕ)) → o ≡ None → (if last then o else None) ≡ None
 never_whole true o is = is
@@ -192,9 +192,9 @@ unbegun_either s kept texts left later (inl f) = unbegun s texts left later f.1
 unbegun_either s kept texts left later (inr q) = q.1
 
 -- no pieces are left
-none_left : (kept : List Bool) (pieces : List (List ℕ)) (texts : List (Option (List ℕ))) (mid left : State) → pieces ≡ [] → mid ≡ made → Runs mid (kept_of kept pieces) texts left → Quiet texts left
+none_left : (kept : List Bool) (pieces : List (List ℕ)) (texts : List (Option (List ℕ))) (mid left : State) → pieces ≡ [] → mid ≡ made → JoinerRuns mid (kept_of kept pieces) texts left → Quiet texts left
 none_left kept pieces texts mid left none is run =
-    let P : State → Type 0 = λ v. Runs v (kept_of kept pieces) texts left in
+    let P : State → Type 0 = λ v. JoinerRuns v (kept_of kept pieces) texts left in
     let Q : List (List ℕ) → Type 0 = λ l. AllByRecursion IsLater l in
     strays kept pieces texts left (subst Q (sym none) tt) (subst P is run)
 
@@ -208,7 +208,7 @@ left_more message j d h = record { more = omega (arith, h.more); enough = omega 
 
 -- where no message was begun, later segments give nothing
 dead : (toggle : Bool) (message : List ℕ) (j d : ℕ) (kept : List Bool) (pieces : List (List ℕ)) (texts : List (Option (List ℕ))) (left : State) → 1 ≤ j → Left message j d
-    → AllByRecursion IsPlain message → ArePiecesFrom toggle message (j * 6) pieces → length kept ≡ length pieces → Runs made (kept_of kept pieces) texts left → Quiet texts left
+    → AllByRecursion IsPlain message → ArePiecesFrom toggle message (j * 6) pieces → length kept ≡ length pieces → JoinerRuns made (kept_of kept pieces) texts left → Quiet texts left
 dead toggle message j zero kept pieces texts left some h plain are size run =
     let t = taken toggle message j None kept pieces texts left (omega (arith, h.more)) plain are size run in
     let q = unbegun_either (segment_at toggle message j) t.first t.told t.mid (ne_eqb j 0 (λ is. absurd (omega (arith, is, some)))) t.segment in
@@ -216,7 +216,7 @@ dead toggle message j zero kept pieces texts left some h plain are size run =
 dead toggle message j (suc d) kept pieces texts left some h plain are size run =
     let t = taken toggle message j None kept pieces texts left (omega (arith, h.more)) plain are size run in
     let q = unbegun_either (segment_at toggle message j) t.first t.told t.mid (ne_eqb j 0 (λ is. absurd (omega (arith, is, some)))) t.segment in
-    let P : State → Type 0 = λ v. Runs v (kept_of t.second t.parts.more) t.later left in
+    let P : State → Type 0 = λ v. JoinerRuns v (kept_of t.second t.parts.more) t.later left in
     quiet_join texts t.told t.later t.mid left t.all q
     (dead toggle message (j + 1) d t.second t.parts.more t.later left (omega arith) (left_more message j d h) plain (t.parts.going (omega (arith, h.more))) t.size (subst P q.left_is t.behind))
 
@@ -225,7 +225,7 @@ dead_behind : (toggle : Bool) (message : List ℕ) (j d : ℕ) {b : Option Begun
     → AllByRecursion IsPlain message → (t : Taken toggle message j b kept pieces texts left) → t.mid ≡ made → Quiet t.later left
 dead_behind toggle message j zero {left = left} h plain t is = none_left t.second t.parts.more t.later t.mid left (t.parts.last (omega (arith, h.enough))) is t.behind
 dead_behind toggle message j (suc d) {left = left} h plain t is =
-    let P : State → Type 0 = λ v. Runs v (kept_of t.second t.parts.more) t.later left in
+    let P : State → Type 0 = λ v. JoinerRuns v (kept_of t.second t.parts.more) t.later left in
     dead toggle message (j + 1) d t.second t.parts.more t.later left (omega arith) (left_more message j d h) plain (t.parts.going (omega (arith, h.more))) t.size (subst P is t.behind)
 
 -- the message where it is whole
@@ -259,7 +259,7 @@ whole_here toggle message j {b = b} {left = left} h is t with_it first f =
     let s : Segment = segment_at toggle message j in
     let last : s.last ≡ true = le-leb (length message) (j * 16 + 16) (omega (arith, h.enough)) in
     let o : bytes_with b s ≡ Some message = with_it ∙ ap Some (take_all (j * 16 + 16) message (omega (arith, h.enough))) in
-    let P : Option (List ℕ) → Type 0 = λ x. Gives (whole s x) f.text in
+    let P : Option (List ℕ) → Type 0 = λ x. GivesMessage (whole s x) f.text in
     let text : f.text ≡ Some message = given_text s message f.text last (subst P o f.gives) is.utf8 in
     let next : Begun = record { toggle = s.toggle; number = s.number + 1; bytes = message } in
     let mid : t.mid ≡ made =
@@ -319,7 +319,7 @@ went toggle message j o told mid more is f =
 -- with a message begun whose next segments come
 alive : (toggle : Bool) (message : List ℕ) (j d : ℕ) (b : Option Begun) (kept : List Bool) (pieces : List (List ℕ)) (texts : List (Option (List ℕ))) (left : State) → Left message j d → IsMessage message
     → bytes_with b (segment_at toggle message j) ≡ Some (take (j * 16 + 16) message) → ArePiecesFrom toggle message (j * 6) pieces → length kept ≡ length pieces
-    → Runs (between b) (kept_of kept pieces) texts left → Done (all_kept kept) message texts left
+    → JoinerRuns (between b) (kept_of kept pieces) texts left → Done (all_kept kept) message texts left
 alive toggle message j zero b kept pieces texts left h is with_it are size run =
     let plain = text_plain message is.utf8 in
     let t = taken toggle message j b kept pieces texts left (omega (arith, h.more)) plain are size run in
@@ -333,7 +333,7 @@ alive toggle message j (suc d) b kept pieces texts left h is with_it are size ru
     elim t.segment [
       | inl f ↦
           let w = went toggle message j (bytes_with b (segment_at toggle message j)) t.told t.mid (omega (arith, h.more)) with_it f.1 in
-          let P : State → Type 0 = λ v. Runs v (kept_of t.second t.parts.more) t.later left in
+          let P : State → Type 0 = λ v. JoinerRuns v (kept_of t.second t.parts.more) t.later left in
           let r = alive toggle message (j + 1) d (Some (next_of toggle message j)) t.second t.parts.more t.later left (left_more message j d h) is (next_with toggle message j is.few)
           (t.parts.going (omega (arith, h.more))) t.size (subst P w.mid_is t.behind) in
           done_as (t.whole ∙ ap (λ x. x && all_kept t.second) f.0)
@@ -345,7 +345,7 @@ alive toggle message j (suc d) b kept pieces texts left h is with_it are size ru
     ]
 
 -- the pieces of one message
-one_message : (m : Sending) (texts : List (Option (List ℕ))) (left : State) → IsSending m → Runs made (kept_of m.kept m.pieces) texts left → Done (all_kept m.kept) m.message texts left
+one_message : (m : Sending) (texts : List (Option (List ℕ))) (left : State) → IsSending m → JoinerRuns made (kept_of m.kept m.pieces) texts left → Done (all_kept m.kept) m.message texts left
 one_message m texts left is run =
     let d : ℕ = (length m.message - 1) / 16 in
     let s : Segment = segment_at m.toggle m.message 0 in
@@ -361,7 +361,7 @@ gives_what_is_whole [] texts left each run = (ap messages_in run.0, run.1)
 gives_what_is_whole (m ∷ sent) texts left each run =
     let split = runs_split made (kept_of m.kept m.pieces) (reading_of sent) texts left run in
     let first = one_message m split.told split.mid each.0 split.first in
-    let P : State → Type 0 = λ v. Runs v (reading_of sent) split.later left in
+    let P : State → Type 0 = λ v. JoinerRuns v (reading_of sent) split.later left in
     let rest = gives_what_is_whole sent split.later left each.1 (subst P first.left_is split.second) in (
       ap messages_in split.all
           ∙ (messages-append split.told split.later ∙ (ap₂ (λ x y. x ++ y) first.messages rest.0 ∙ joined_if (all_kept m.kept) m.message (whole_messages sent))),

@@ -3,7 +3,7 @@ use Rattle.std.proofs.Common.{◌≡◌, ℕ, suc, ◌+◌, ◌≤◌, ◌==◌,
 use Rattle.std.proofs.lemmas.Bool.{cases_Bool, ne_eqb, and_parts, eqb-true, leb-true}
 use Rattle.drm_text.specs.Segment.{Segment, most_body, IsSegment}
 use Rattle.drm_text.specs.Message.{start, most_message}
-use Rattle.drm_text.specs.Joining.{Begun, State, Gathered, Starts, Strays, Grows, Fills, made, is_start, is_complete, gather, gather_on, segment_after, same_flag, joined, bytes_with, going_on, ReadsIn, begun_by, whole_with, Gives}
+use Rattle.drm_text.specs.Joining.{Begun, State, Gathered, Starts, Strays, Grows, Fills, made, is_start, is_complete, gather, gather_on, segment_after, same_flag, joined, bytes_with, going_on, ReadsIn, begun_by, whole_with, GivesMessage}
 use Rattle.law_text.specs.Readings.{Reading, came, bytes_of, CameWhole, GoesOn, AreBegun, EndsMessage}
 
 -- what was read ends in the segments of the message that was begun
@@ -154,7 +154,7 @@ stands_on reading behind here s b (Some text) all stands is_whole is =
 
 -- a message that is given ends there
 given_ends : (reading behind here : Reading) (s : Segment) (b : Option Begun) (o text : Option (List ℕ)) (message : List ℕ) → reading ≡ behind ++ here → IsBegunBy behind b → CameWhole s here → bytes_with b s ≡ o
-    → s.last ≡ true → Gives o text → text ≡ Some message → EndsMessage reading message
+    → s.last ≡ true → GivesMessage o text → text ≡ Some message → EndsMessage reading message
 given_ends reading behind here s b None text message all stands is_whole is last gives some = clash_some text message gives some
 given_ends reading behind here s b (Some bytes) None message all stands is_whole is last gives some = clash_some None message refl some
 given_ends reading behind here s b (Some bytes) (Some given) message all stands is_whole is last gives some =
@@ -178,14 +178,14 @@ given_ends reading behind here s b (Some bytes) (Some given) message all stands 
 -- a piece more: what holds then, and that a message that is given ends there
 pub record Stepped (reading : Reading) (b : Option Begun) (piece : List ℕ) (g : Gathered) (read : Option Segment) : Type 0 where
   pub holds : Holds (reading ++ Some piece ∷ []) (record { begun = begun_by b g read; segment = segment_after g })
-  pub ends : (text : Option (List ℕ)) (message : List ℕ) → Gives (whole_with b read) text → text ≡ Some message → EndsMessage (reading ++ Some piece ∷ []) message
+  pub ends : (text : Option (List ℕ)) (message : List ℕ) → GivesMessage (whole_with b read) text → text ≡ Some message → EndsMessage (reading ++ Some piece ∷ []) message
 
 abbrev StepsBy : Reading → Option Begun → List ℕ → Gathered → Type 0
 StepsBy reading b piece g = (read : Option Segment) → ReadsIn g read → Stepped reading b piece g read
 
-none_ends : (reading : Reading) (b : Option Begun) (read : Option Segment) → read ≡ None → (text : Option (List ℕ)) (message : List ℕ) → Gives (whole_with b read) text → text ≡ Some message → EndsMessage reading message
+none_ends : (reading : Reading) (b : Option Begun) (read : Option Segment) → read ≡ None → (text : Option (List ℕ)) (message : List ℕ) → GivesMessage (whole_with b read) text → text ≡ Some message → EndsMessage reading message
 none_ends reading b read none text message gives some =
-    let P : Option Segment → Type 0 = λ r. Gives (whole_with b r) text in
+    let P : Option Segment → Type 0 = λ r. GivesMessage (whole_with b r) text in
     clash_some text message (subst P none gives) some
 
 step_start : (reading behind : Reading) (b : Option Begun) (segment : Option (List ℕ)) (piece : List ℕ) → IsBegunBy behind b → InSegment behind reading segment → piece ≡ start
@@ -241,7 +241,7 @@ step_fills reading behind b bytes piece stands (pieces, at, are) (Some s) reads 
     record {
       holds = record { behind = reading ++ Some piece ∷ []; begun = stands_on (reading ++ Some piece ∷ []) behind here s b (bytes_with b s) all stands whole_here refl; segment = refl };
       ends = λ text message gives some.
-          let Q : Option (List ℕ) → Type 0 = λ w. Gives w text in
+          let Q : Option (List ℕ) → Type 0 = λ w. GivesMessage w text in
           elim (cases_Bool s.last) [
             | inl last ↦
                 given_ends (reading ++ Some piece ∷ []) behind here s b (bytes_with b s) text message all stands whole_here refl last

@@ -5,7 +5,7 @@ use Rattle.std.specs.List.{AllByRecursion}
 use Rattle.drm_text.specs.Joining.{State, made, after}
 use Rattle.drm_text.specs.Taking.{text_of}
 use Rattle.law_text.specs.Readings.{Reading, IsEntry, EndsMessage, AreMessages}
-use Rattle.law_text.specs.Runs.{Runs, with_message, messages_in}
+use Rattle.law_text.specs.Runs.{JoinerRuns, with_message, messages_in}
 use Rattle.law_text.specs.Laws.{RunsByCalls, JoinsMessages, AnswersEach}
 use Rattle.law_text.proofs.Steps.{Holds, clash_some, step, step_gap}
 use Rattle.law_text.proofs.Arrivals.{all_parts, ends_given}
@@ -14,10 +14,10 @@ all_push : (xs : Reading) (x : Option (List ℕ)) → AllByRecursion IsEntry xs 
 all_push [] x h k = (k, tt)
 all_push (y ∷ xs) x h k = (h.0, all_push xs x h.1 k)
 
-pub runs_join : (s : State) (xs ys : List (Option (List ℕ))) (told later : List (Option (List ℕ))) (mid left : State) → Runs s xs told mid → Runs mid ys later left → Runs s (xs ++ ys) (told ++ later) left
+pub runs_join : (s : State) (xs ys : List (Option (List ℕ))) (told later : List (Option (List ℕ))) (mid left : State) → JoinerRuns s xs told mid → JoinerRuns mid ys later left → JoinerRuns s (xs ++ ys) (told ++ later) left
 runs_join s [] ys told later mid left h k =
-    let P : List (Option (List ℕ)) → Type 0 = λ l. Runs s ys (l ++ later) left in
-    let Q : State → Type 0 = λ v. Runs v ys later left in
+    let P : List (Option (List ℕ)) → Type 0 = λ l. JoinerRuns s ys (l ++ later) left in
+    let Q : State → Type 0 = λ v. JoinerRuns v ys later left in
     subst P (sym h.0) (subst Q h.1 k)
 runs_join s (None ∷ xs) ys [] later mid left h k = absurd h
 runs_join s (None ∷ xs) ys (text ∷ told) later mid left h k = (h.0, runs_join made xs ys told later mid left h.1 k)
@@ -33,13 +33,13 @@ runs_by_calls reading texts s run = record {
 }
 
 -- a run is one step and the run behind it
-one_by_one : (s : State) (x : Option (List ℕ)) (reading : Reading) (text : Option (List ℕ)) (texts : List (Option (List ℕ))) (left : State) → Runs s (x ∷ reading) (text ∷ texts) left
-    → (mid : State) × Runs s (x ∷ []) (text ∷ []) mid × Runs mid reading texts left
+one_by_one : (s : State) (x : Option (List ℕ)) (reading : Reading) (text : Option (List ℕ)) (texts : List (Option (List ℕ))) (left : State) → JoinerRuns s (x ∷ reading) (text ∷ texts) left
+    → (mid : State) × JoinerRuns s (x ∷ []) (text ∷ []) mid × JoinerRuns mid reading texts left
 one_by_one s None reading text texts left h = (made, (h.0, (refl, refl)), h.1)
 one_by_one s (Some piece) reading text texts left (read, reads, gives, rest) =
     (after s piece read, (read, reads, gives, (refl, refl)), rest)
 
-nothing_told : {A : Type 0} (s : State) (x : Option (List ℕ)) (reading : Reading) (left : State) → Runs s (x ∷ reading) [] left → A
+nothing_told : {A : Type 0} (s : State) (x : Option (List ℕ)) (reading : Reading) (left : State) → JoinerRuns s (x ∷ reading) [] left → A
 nothing_told s None reading left h = absurd h
 nothing_told s (Some piece) reading left h = absurd h
 
@@ -48,7 +48,7 @@ record Stepped (before : Reading) (x text : Option (List ℕ)) (left : State) : 
   pub holds : Holds (before ++ x ∷ []) left
   pub ends : (message : List ℕ) → text ≡ Some message → EndsMessage (before ++ x ∷ []) message
 
-stepped : (before : Reading) (s : State) (x text : Option (List ℕ)) (left : State) → IsEntry x → Holds before s → Runs s (x ∷ []) (text ∷ []) left → Stepped before x text left
+stepped : (before : Reading) (s : State) (x text : Option (List ℕ)) (left : State) → IsEntry x → Holds before s → JoinerRuns s (x ∷ []) (text ∷ []) left → Stepped before x text left
 stepped before s None text left is h run = record {
   holds = let P : State → Type 0 = λ v. Holds (before ++ None ∷ []) v in subst P (sym run.1.1) (step_gap before);
   ends = λ message some. clash_some text message run.0 some;
@@ -63,12 +63,12 @@ stepped before s (Some piece) text left is h (read, reads, gives, ended) =
 -- the run up to a place, and what holds there
 record Reached (before : Reading) (s : State) : Type 0 where
   pub told : List (Option (List ℕ))
-  pub run : Runs made before told s
+  pub run : JoinerRuns made before told s
   pub holds : Holds before s
   pub entries : AllByRecursion IsEntry before
 
 -- what is given at the next place is right
-right : (before : Reading) (s : State) (x text : Option (List ℕ)) (left : State) → IsEntry x → Reached before s → Runs s (x ∷ []) (text ∷ []) left → (message : List ℕ)
+right : (before : Reading) (s : State) (x text : Option (List ℕ)) (left : State) → IsEntry x → Reached before s → JoinerRuns s (x ∷ []) (text ∷ []) left → (message : List ℕ)
     → (text ≡ Some message) ↔ EndsMessage (before ++ x ∷ []) message
 right before s x text left is at run message = (
   (stepped before s x text left is at.holds run).ends message,
@@ -77,7 +77,7 @@ right before s x text left is at run message = (
       (runs_join made before (x ∷ []) at.told (text ∷ []) s left at.run run)),
 )
 
-reached_more : (before : Reading) (s : State) (x text : Option (List ℕ)) (left : State) → IsEntry x → Reached before s → Runs s (x ∷ []) (text ∷ []) left → Reached (before ++ x ∷ []) left
+reached_more : (before : Reading) (s : State) (x text : Option (List ℕ)) (left : State) → IsEntry x → Reached before s → JoinerRuns s (x ∷ []) (text ∷ []) left → Reached (before ++ x ∷ []) left
 reached_more before s x text left is at run = record {
   told = at.told ++ text ∷ [];
   run = runs_join made before (x ∷ []) at.told (text ∷ []) s left at.run run;
@@ -94,7 +94,7 @@ some_or_none (Some x) = inr (x, refl)
 
 -- the messages of what is left are those that are given
 messages_given : (before reading : List (Option (List ℕ))) (s : State) (texts : List (Option (List ℕ))) (left : State) (messages : List (List ℕ)) → AllByRecursion IsEntry reading → Reached before s
-    → Runs s reading texts left → AreMessages before reading messages → messages ≡ messages_in texts
+    → JoinerRuns s reading texts left → AreMessages before reading messages → messages ≡ messages_in texts
 messages_given before [] s texts left messages entries at run h = h ∙ ap messages_in (sym run.0)
 messages_given before (x ∷ reading) s [] left messages entries at run h = nothing_told s x reading left run
 messages_given before (x ∷ reading) s (text ∷ texts) left messages entries at run (inl (message, more, ends, is, rest)) =
@@ -113,7 +113,7 @@ messages_given before (x ∷ reading) s (text ∷ texts) left messages entries a
     ∙ ap (λ o. with_message o (messages_in texts)) (sym gives)
 
 -- what is given are the messages of what is left
-given_messages : (before reading : List (Option (List ℕ))) (s : State) (texts : List (Option (List ℕ))) (left : State) → AllByRecursion IsEntry reading → Reached before s → Runs s reading texts left
+given_messages : (before reading : List (Option (List ℕ))) (s : State) (texts : List (Option (List ℕ))) (left : State) → AllByRecursion IsEntry reading → Reached before s → JoinerRuns s reading texts left
     → AreMessages before reading (messages_in texts)
 given_messages before [] s texts left entries at run = ap messages_in run.0
 given_messages before (x ∷ reading) s [] left entries at run = nothing_told s x reading left run
@@ -139,7 +139,7 @@ joins_messages reading texts messages left entries run =
     )
 
 -- a run up to a place, by how much was told
-split_at : (s : State) (xs ys told later : List (Option (List ℕ))) (left : State) → length told ≡ length xs → Runs s (xs ++ ys) (told ++ later) left → (mid : State) × Runs s xs told mid × Runs mid ys later left
+split_at : (s : State) (xs ys told later : List (Option (List ℕ))) (left : State) → length told ≡ length xs → JoinerRuns s (xs ++ ys) (told ++ later) left → (mid : State) × JoinerRuns s xs told mid × JoinerRuns mid ys later left
 split_at s [] ys [] later left same h = (s, (refl, refl), h)
 split_at s [] ys (text ∷ told) later left same h = absurd (omega (arith, same))
 split_at s (x ∷ xs) ys [] later left same h = absurd (omega (arith, same))
@@ -150,7 +150,7 @@ split_at s (Some piece ∷ xs) ys (text ∷ told) later left same (read, reads, 
     (w.0, (read, reads, gives, w.1), w.2)
 
 -- what holds after a run
-reached_all : (before reading : List (Option (List ℕ))) (s : State) (texts : List (Option (List ℕ))) (left : State) → AllByRecursion IsEntry reading → Reached before s → Runs s reading texts left
+reached_all : (before reading : List (Option (List ℕ))) (s : State) (texts : List (Option (List ℕ))) (left : State) → AllByRecursion IsEntry reading → Reached before s → JoinerRuns s reading texts left
     → Reached (before ++ reading) left
 reached_all before [] s texts left entries at run =
     let P : Reading → Type 0 = λ l. Reached l left in

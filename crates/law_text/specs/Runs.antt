@@ -1,15 +1,15 @@
 -- The whole run of a joiner of text messages: what it gives at one place of a reading after another.
 use Rattle.std.specs.Prelude.{ℕ, ◌≡◌, List, [], ◌∷◌, Option, Some, None}
 use Rattle.drm_text.specs.Segment.{Segment}
-use Rattle.drm_text.specs.Joining.{State, made, gather, ReadsIn, after, whole_with, Gives}
+use Rattle.drm_text.specs.Joining.{State, made, gather, ReadsIn, after, whole_with, GivesMessage}
 
 -- From this state on, this is given at each place, and this state is left: of a piece what the joiner tells, and of a gap nothing.
-abbrev pub Runs : State → List (Option (List ℕ)) → List (Option (List ℕ)) → State → Type 0
-Runs s [] texts left = (texts ≡ []) × (left ≡ s)
-Runs s (x ∷ reading) [] left = ⊥
-Runs s (None ∷ reading) (text ∷ texts) left = (text ≡ None) × Runs made reading texts left
-Runs s (Some piece ∷ reading) (text ∷ texts) left =
-    (read : Option Segment) × ReadsIn (gather s.segment piece) read × Gives (whole_with s.begun read) text × Runs (after s piece read) reading texts left
+abbrev pub JoinerRuns : State → List (Option (List ℕ)) → List (Option (List ℕ)) → State → Type 0
+JoinerRuns s [] texts left = (texts ≡ []) × (left ≡ s)
+JoinerRuns s (x ∷ reading) [] left = ⊥
+JoinerRuns s (None ∷ reading) (text ∷ texts) left = (text ≡ None) × JoinerRuns made reading texts left
+JoinerRuns s (Some piece ∷ reading) (text ∷ texts) left =
+    (read : Option Segment) × ReadsIn (gather s.segment piece) read × GivesMessage (whole_with s.begun read) text × JoinerRuns (after s piece read) reading texts left
 
 abbrev pub with_message : Option (List ℕ) → List (List ℕ) → List (List ℕ)
 with_message None messages = messages

@@ -20,7 +20,7 @@ use Rattle.drm_data.specs.Joining.{Event, Gap, State, made, closed}
 use Rattle.law_data.specs.Runs.{answers, cuts_in}
 use Rattle.mod_feed.specs.Items.{Item}
 use Rattle.cmd_unpack.specs.Streams.{What, UnitsOf, stream_of, pieces_of, entries_of, entries_at}
-use Rattle.law_unpack.specs.Frames.{Carried, came_of, packets_of, Brings, BringAll}
+use Rattle.law_unpack.specs.Frames.{Carried, came_of, packets_of, ItemBringsFrame, BringAll}
 use Rattle.law_unpack.specs.Delivered.{CarriesAt, CarryFrom, is_given, carried_from, carried_by, together, UnpacksDeliveries}
 use Rattle.law_unpack.proofs.LostFrames.{Same, same_one, same_front, none_said}
 use Rattle.law_unpack.proofs.Ends.{to_end, same_self, unpacked_by}
@@ -29,7 +29,7 @@ use Rattle.law_unpack.proofs.Places.{AreMissing, AreAt, first_at, next_at, kept_
 -- ---- a frame that is given
 
 -- it brings its packets
-brings_served : (plan : Plan) (k id d t q : ℕ) (item : Item) (ps : List Packet) → CarriesAt plan k id d t ps → IsServed plan t q item → Brings (UnitsOf k id d) d true item ps
+brings_served : (plan : Plan) (k id d t q : ℕ) (item : Item) (ps : List Packet) → CarriesAt plan k id d t ps → IsServed plan t q item → ItemBringsFrame (UnitsOf k id d) d true item ps
 brings_served plan k id d t q item ps carries served =
     let what : What = UnitsOf k id d in
     let at = carries.stream in
@@ -41,7 +41,7 @@ brings_served plan k id d t q item ps carries served =
 
 -- or is a gap in their place
 brings_where : (b : Bool) (plan : Plan) (k id d t q : ℕ) (kept : ℕ → Bool) (item : Item) (ps : List Packet)
-    → CarriesAt plan k id d t ps → IsServedWhere b plan t q kept item → Brings (UnitsOf k id d) d b item ps
+    → CarriesAt plan k id d t ps → IsServedWhere b plan t q kept item → ItemBringsFrame (UnitsOf k id d) d b item ps
 brings_where true plan k id d t q kept item ps carries is = brings_served plan k id d t q item ps carries is
 brings_where false plan k id d t q kept item ps carries is = ap (entries_at (UnitsOf k id d)) is
 
@@ -127,7 +127,7 @@ module _ (plan : Plan) (window : ℕ) (base : ℤ) (pairs : List (ℕ × ℕ)) (
       let more = aligned (t + 1) (q + 1) items frames (place_next base t q place) (omega (arith, many)) (omega (arith, all)) carry.1 (next_at plan window base pairs q item items are) in
       let b : Bool = is_recoverable (shape_at plan t) (kept_at plan window base pairs q) in
       let there : frame_of_number plan base q ≡ Some t = frame_within plan (base +ℤ pos q) t place (omega (arith, all)) in
-      let brings : Brings (UnitsOf k id d) d b item ps =
+      let brings : ItemBringsFrame (UnitsOf k id d) d b item ps =
       brings_where b plan k id d t q (kept_at plan window base pairs q) item ps carry.0 (subst (λ (o : Option ℕ). IsItemBy plan o q (kept_at plan window base pairs q) item) there (first_at plan window base pairs q item items are)) in
       record {
         shown = record { given = b; packets = ps } ∷ more.shown;

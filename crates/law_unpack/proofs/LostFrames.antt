@@ -12,7 +12,7 @@ use Rattle.law_data.proofs.LostPackets.{gives_what_is_whole}
 use Rattle.mod_feed.specs.Items.{Item}
 use Rattle.cmd_unpack.specs.Streams.{What, entries_at, reading}
 use Rattle.cmd_unpack.proofs.Joining.{events_join}
-use Rattle.law_unpack.specs.Frames.{Carried, came_of, events_of, packets_of, kept_of, ArePackets, Brings, BringAll}
+use Rattle.law_unpack.specs.Frames.{Carried, came_of, events_of, packets_of, kept_of, ArePackets, ItemBringsFrame, BringAll}
 use Rattle.law_unpack.specs.Laws.{GivesWhatFramesBring}
 use Rattle.law_unpack.proofs.Alike.{Alike, same_cuts}
 use Rattle.law_unpack.proofs.Kept.{AreMine, all_mine, alike, kept_size}
@@ -52,7 +52,7 @@ packets_events d [] ps are = ap (map Came) are
 packets_events d (bytes ∷ pieces) [] are = absurd are
 packets_events d (bytes ∷ pieces) (p ∷ ps) are = (are.0, packets_events d pieces ps are.1)
 
-frame_events : (what : What) (d : ℕ) (g : Bool) (item : Item) (ps : List Packet) → Brings what d g item ps → AreEvents d (entries_at what item) (came_of g ps)
+frame_events : (what : What) (d : ℕ) (g : Bool) (item : Item) (ps : List Packet) → ItemBringsFrame what d g item ps → AreEvents d (entries_at what item) (came_of g ps)
 frame_events what d true item ps (pieces, is, are) = subst (λ l. AreEvents d l (map Came ps)) (sym is) (packets_events d pieces ps are)
 frame_events what d false item ps is = subst (λ l. AreEvents d l (Gap ∷ [])) (sym is) (refl, refl)
 

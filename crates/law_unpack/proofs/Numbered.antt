@@ -2,12 +2,12 @@
 use Rattle.std.proofs.Common.{◌≡◌, ℕ, zero, suc, ◌+◌, List, [], ◌∷◌, ◌++◌, length, take, map, Option, None, Some, refl, sym, ap, subst, ◌∙◌, arith}
 use Rattle.dcp_collect.specs.declared.taken.Taken.{Taken}
 use Rattle.dcp_collect.specs.State.{State, after_item}
-use Rattle.dcp_collect.specs.Runs.{Item as Collected, Packet, Lost, Damaged, IsItem, Gives, Steps, Run, up_to}
+use Rattle.dcp_collect.specs.Runs.{Item as Collected, Packet, Lost, Damaged, IsItem, CollectorGives, CollectorSteps, Run, up_to}
 use Rattle.law_collect.proofs.Stays.{take_next}
 use Rattle.law_collect.proofs.Runs.{gives_count, steps_count}
 use Rattle.drm_reconfiguration.specs.Tracker.{TrackerState}
 use Rattle.mod_feed.specs.Items.{Item, number_of, seen_in}
-use Rattle.mod_feed.specs.Feeding.{FeedStep, Feeds, after_step}
+use Rattle.mod_feed.specs.Feeding.{FeedStep, FeedAnswers, after_step}
 use Rattle.mod_feed.proofs.FeedingLemmas.{number_is, stepped_calls}
 use Rattle.drm_reconfiguration.specs.Tracker.{answered, stepped}
 use Rattle.drm_reconfiguration.specs.declared.seen.Seen.{Seen}
@@ -31,11 +31,11 @@ from_told : (told : Option ℕ) (xs : List Collected) → AreFrom 0 xs → AreFr
 from_told None xs are = are
 from_told (Some m) xs are = from_take m 0 xs are
 
-gives_from : (items : List Collected) (c d : State) → Gives c items d → AreFrom c.next items
+gives_from : (items : List Collected) (c d : State) → CollectorGives c items d → AreFrom c.next items
 gives_from [] c d gives = tt
 gives_from (one ∷ items) c d gives = (number_is c one gives.1, gives_from items (after_item c) d gives.2)
 
-steps_from : (c after : State) (datagrams : List (List ℕ)) (answers : List Taken) (items : List Collected) → Steps c datagrams answers items after → AreFrom c.next items
+steps_from : (c after : State) (datagrams : List (List ℕ)) (answers : List Taken) (items : List Collected) → CollectorSteps c datagrams answers items after → AreFrom c.next items
 steps_from c after [] [] items steps = subst (λ l. AreFrom c.next l) (sym steps.0) tt
 steps_from c after [] (a ∷ answers) items steps = absurd steps
 steps_from c after (datagram ∷ datagrams) [] items steps = absurd steps
@@ -58,7 +58,7 @@ run_from window reach first told datagrams answers items run =
 pub record Fed (feed : TrackerState) (collected : List Collected) (items : List Item) : Type 0 where
   pub steps : List FeedStep
   pub after : TrackerState
-  pub feeds : Feeds feed collected steps after
+  pub feeds : FeedAnswers feed collected steps after
   pub items_are : map (λ (s : FeedStep). s.item) steps ≡ items
 
 pub fed : (feed : TrackerState) (collected : List Collected) (items : List Item) → AreFrom feed.calls collected → AreItems collected items → Fed feed collected items

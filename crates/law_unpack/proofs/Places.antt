@@ -20,7 +20,7 @@ use Rattle.dcp_collect.specs.Runs.{Item as Collected, Run}
 use Rattle.law_collect.specs.Delivery.{got, newest_of}
 use Rattle.law_delivery.specs.Given.{IsServed, IsItemBy, IsItemAt, AreGiven}
 use Rattle.law_delivery.specs.Laws.{Delivering}
-use Rattle.law_delivery.specs.Sent.{Arrival, pairs_in, frame_at, frame_of_number, shape_at, IsFollowed}
+use Rattle.law_delivery.specs.Sent.{Arrival, pairs_in, frame_at, frame_of_number, shape_at, IsDeliveryOf}
 use Rattle.mod_feed.specs.Items.{Item, Missing}
 use Rattle.mod_feed.specs.Feeding.{FeedStep}
 use Rattle.cmd_unpack.specs.Streams.{stream_of}
@@ -128,7 +128,7 @@ pub record ArePlaced (plan : Plan) (window : ℕ) (base : ℤ) (told : Option �
 
 pub placed : (plan : Plan) (window reach : ℕ) (first told : Option ℕ) (base : ℤ) (arrivals : List Arrival) (datagrams : List (List ℕ))
     (answers : List Taken) (collected : List Collected) (items : List Item) → Delivering
-    → IsSchedule plan → 1 ≤ window → IsFollowed plan reach first base arrivals datagrams → Run window reach first told datagrams answers collected
+    → IsSchedule plan → 1 ≤ window → IsDeliveryOf plan reach first base arrivals datagrams → Run window reach first told datagrams answers collected
     → AreItems collected items → ArePlaced plan window base told (pairs_in arrivals) items
 placed plan window reach first told base arrivals datagrams answers collected items delivering is some followed run are =
     let pairs : List (ℕ × ℕ) = pairs_in arrivals in

@@ -3,26 +3,26 @@ use Rattle.std.proofs.Common.{◌≡◌, ◌∙◌, ℕ, ◌+◌, List, [], ◌�
 use Rattle.std.specs.List.{AllByRecursion}
 use Rattle.drm_text.specs.Joining.{State, made, after}
 use Rattle.law_text.specs.Readings.{Reading}
-use Rattle.law_text.specs.Runs.{Runs, with_message, messages_in}
+use Rattle.law_text.specs.Runs.{JoinerRuns, with_message, messages_in}
 use Rattle.law_unpack.specs.Texts.{piece_count}
 
 -- a run over a reading that gives the messages of these texts
 pub record Gives (s : State) (reading : Reading) (texts : List (Option (List ℕ))) : Type 0 where
   pub told : List (Option (List ℕ))
   pub left : State
-  pub runs : Runs s reading told left
+  pub runs : JoinerRuns s reading told left
   pub same : messages_in texts ≡ messages_in told
 
 -- Whatever a run over the first gives, one over the second gives. They have as many pieces.
 pub record GiveTheSame (s : State) (xs ys : Reading) : Type 0 where
-  pub gives : (texts : List (Option (List ℕ))) (left : State) → Runs s xs texts left → Gives s ys texts
+  pub gives : (texts : List (Option (List ℕ))) (left : State) → JoinerRuns s xs texts left → Gives s ys texts
   pub many : piece_count xs ≡ piece_count ys
 
 abbrev pub AreGaps : Reading → Type 0
 AreGaps reading = AllByRecursion (λ x. x ≡ None) reading
 
 give_front : (front : Reading) (s : State) (xs ys : Reading) → ((t : State) → GiveTheSame t xs ys) → (texts : List (Option (List ℕ))) (left : State)
-    → Runs s (front ++ xs) texts left → Gives s (front ++ ys) texts
+    → JoinerRuns s (front ++ xs) texts left → Gives s (front ++ ys) texts
 give_front [] s xs ys h texts left run = (h s).gives texts left run
 give_front (None ∷ front) s xs ys h [] left run = absurd run
 give_front (None ∷ front) s xs ys h (text ∷ texts) left run =
@@ -48,7 +48,7 @@ same_front front s xs ys h = record {
 pub gap_off : (xs ys : Reading) → GiveTheSame made xs ys → GiveTheSame made (None ∷ xs) ys
 gap_off xs ys h = record { gives = gives; many = h.many }
   where
-    gives : (texts : List (Option (List ℕ))) (left : State) → Runs made (None ∷ xs) texts left → Gives made ys texts
+    gives : (texts : List (Option (List ℕ))) (left : State) → JoinerRuns made (None ∷ xs) texts left → Gives made ys texts
     gives [] left run = absurd run
     gives (text ∷ texts) left run =
         let more = h.gives texts left run.1 in
@@ -67,7 +67,7 @@ no_pieces [] are = refl
 no_pieces (None ∷ reading) are = no_pieces reading are.1
 no_pieces (Some piece ∷ reading) are = absurd (let none : Some piece ≡ None = are.0 in cc)
 
-quiet : (s : State) (xs : Reading) (texts : List (Option (List ℕ))) (left : State) → AreGaps xs → Runs s xs texts left → messages_in texts ≡ []
+quiet : (s : State) (xs : Reading) (texts : List (Option (List ℕ))) (left : State) → AreGaps xs → JoinerRuns s xs texts left → messages_in texts ≡ []
 quiet s [] texts left are run = ap messages_in run.0
 quiet s (None ∷ xs) [] left are run = absurd run
 quiet s (None ∷ xs) (text ∷ texts) left are run = ap (λ o. with_message o (messages_in texts)) run.0 ∙ quiet made xs texts left are.1 run.1

@@ -12,7 +12,7 @@ use Rattle.dcp_collect.specs.declared.taken.Taken.{Taken}
 use Rattle.dcp_collect.specs.Numbers.{end_of}
 use Rattle.dcp_collect.specs.Runs.{Item as Collected, Run}
 use Rattle.law_collect.specs.Delivery.{got, newest_of}
-use Rattle.law_delivery.specs.Sent.{Arrival, pairs_in, shape_at, IsFollowed}
+use Rattle.law_delivery.specs.Sent.{Arrival, pairs_in, shape_at, IsDeliveryOf}
 use Rattle.drm_data.specs.Packet.{Packet}
 use Rattle.drm_data.specs.Units.{packets}
 use Rattle.law_data.specs.Losses.{IsUnit}
@@ -79,6 +79,6 @@ UnpacksDeliveries =
     (plan : Plan) (window reach : ℕ) (first told : Option ℕ) (base : ℤ) (arrivals : List Arrival) (datagrams : List (List ℕ))
     (answers : List Taken) (collected : List Collected)
     (k id d : ℕ) (units : List (List ℕ)) (frames : List (List Packet)) (items : List Item) (text : List ℕ) (clean : Bool)
-    → IsSchedule plan → 1 ≤ window → IsFollowed plan reach first base arrivals datagrams → CarriesUnits plan k id d units frames
+    → IsSchedule plan → 1 ≤ window → IsDeliveryOf plan reach first base arrivals datagrams → CarriesUnits plan k id d units frames
     → Run window reach first told datagrams answers collected → AreItems collected items → IsWholeText (UnitsOf k id d) items text clean
     → Unpacked k id d units (carried_by plan window base told (pairs_in arrivals) frames) items text clean

@@ -53,12 +53,12 @@ ArePackets d (bytes ∷ pieces) [] = ⊥
 ArePackets d (bytes ∷ pieces) (p ∷ ps) = IsPacket d p bytes × ArePackets d pieces ps
 
 -- An item brings a frame: its stream is the packets; or it is a gap, where the frame isn't given.
-abbrev pub Brings : What → ℕ → Bool → Item → List Packet → Type 0
-Brings what d true item ps = (pieces : List (List ℕ)) × (entries_at what item ≡ map Some pieces) × ArePackets d pieces ps
-Brings what d false item ps = entries_at what item ≡ None ∷ []
+abbrev pub ItemBringsFrame : What → ℕ → Bool → Item → List Packet → Type 0
+ItemBringsFrame what d true item ps = (pieces : List (List ℕ)) × (entries_at what item ≡ map Some pieces) × ArePackets d pieces ps
+ItemBringsFrame what d false item ps = entries_at what item ≡ None ∷ []
 
 -- each item brings its frame
 abbrev pub BringAll : What → ℕ → List Item → List Carried → Type 0
 BringAll what d [] frames = frames ≡ []
 BringAll what d (item ∷ items) [] = ⊥
-BringAll what d (item ∷ items) (frame ∷ frames) = Brings what d frame.given item frame.packets × BringAll what d items frames
+BringAll what d (item ∷ items) (frame ∷ frames) = ItemBringsFrame what d frame.given item frame.packets × BringAll what d items frames

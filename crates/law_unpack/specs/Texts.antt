@@ -11,7 +11,7 @@ use Rattle.dcp_collect.specs.declared.taken.Taken.{Taken}
 use Rattle.dcp_collect.specs.Numbers.{end_of}
 use Rattle.dcp_collect.specs.Runs.{Item as Collected, Run}
 use Rattle.law_collect.specs.Delivery.{newest_of}
-use Rattle.law_delivery.specs.Sent.{Arrival, pairs_in, IsFollowed}
+use Rattle.law_delivery.specs.Sent.{Arrival, pairs_in, IsDeliveryOf}
 use Rattle.law_text.specs.Readings.{Reading, AreMessages}
 use Rattle.mod_feed.specs.Items.{Item}
 use Rattle.cmd_unpack.specs.Streams.{TextsOf, pieces_of, entries_of, bad_in, missing_in}
@@ -52,7 +52,7 @@ abbrev pub TextsOfDeliveries : Type 0
 TextsOfDeliveries =
     (plan : Plan) (window reach : ℕ) (first told : Option ℕ) (base : ℤ) (arrivals : List Arrival) (datagrams : List (List ℕ))
     (answers : List Taken) (collected : List Collected) (k : ℕ) (items : List Item) (text : List ℕ) (clean : Bool)
-    → IsSchedule plan → 1 ≤ window → IsFollowed plan reach first base arrivals datagrams → Run window reach first told datagrams answers collected
+    → IsSchedule plan → 1 ≤ window → IsDeliveryOf plan reach first base arrivals datagrams → Run window reach first told datagrams answers collected
     → AreItems collected items → IsWholeText (TextsOf k) items text clean
     → let pairs : List (ℕ × ℕ) = pairs_in arrivals in
     let end : ℕ = end_of told (newest_of base None pairs) in

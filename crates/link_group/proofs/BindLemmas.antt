@@ -1,16 +1,16 @@
 -- Links that are opened to receive over them: what went over them, and the closings where the openings end early.
 use Rattle.std.proofs.Common.{◌≡◌, ℕ, zero, suc, ◌<◌, ◌≤◌, ◌^◌, inl, inr, List, [], ◌∷◌, ◌++◌, length, take, replicate, slice_index_or, map, true, Option, None, Some, IsNone, refl, sym, ◌∙◌, ap, subst, arith}
 use Rattle.std.proofs.lemmas.List.{get_or-map, get_or_default, length-map}
-use Rattle.drm_links.specs.Told.{Known, WhileTold, CountsCall, ToldThrough, Tells}
+use Rattle.drm_links.specs.Told.{Known, IfBothKnown, CountsCall, Throughout, KnownThrough}
 use Rattle.drm_links.specs.Link.{Answer, Traffic}
 use Rattle.drm_links.specs.Hearing.{AreNext, Heard, HeardTold}
-use Rattle.drm_links.specs.Dock.{DockContents, LinkStart, Over, Opens, over_of, first_traffic, after_close, after_failure, AreDifferent, Docked, Finds, FindsNone, HasLink, after_openings}
+use Rattle.drm_links.specs.Dock.{DockContents, LinkStart, Over, DockOpens, over_of, first_traffic, after_close, after_failure, AreDifferent, Docked, OpeningFinds, FindsNone, HasLink, after_openings}
 use Rattle.drm_links.specs.declared.dock.Address.{Address}
 use Rattle.drm_links.specs.declared.dock.Opened.TheVariants as opened
 use Rattle.drm_links.proofs.ToldLemmas.{Tells-then, Tells-both}
 use Rattle.drm_links.proofs.Places.{index_of}
 use Rattle.link_group.specs.Reaching.{HasGone, HaveGone, after_closes, nothing, with_none}
-use Rattle.link_group.specs.Binding.{Hears, HearsEach, BindsFew, StopsBehind, heard}
+use Rattle.link_group.specs.Binding.{LinkHears, HearsEach, BindsFew, StopsBehind, heard}
 use Rattle.link_group.specs.declared.member.Member.{Member}
 use Rattle.link_group.proofs.OpeningLemmas.{Opened as AreOpen, docks_more, not_found_at, openings_gone}
 use Rattle.link_group.proofs.ReachLemmas.{nothing_gone}
@@ -40,7 +40,7 @@ heard_told (Some x) (Some y) start answers came is few =
 
 -- what went over a link that tells it, of which P holds
 abbrev pub WentOver : {L : Type 0} → (L → Known Traffic) → (List Answer → Type 0) → L → LinkStart → Type 0
-WentOver known P link start = (over : Over) × HasGone known link over × Hears P start over
+WentOver known P link start = (over : Over) × HasGone known link over × LinkHears P start over
 
 pub went_over : {L : Type 0} (known : L → Known Traffic) (P : List Answer → Type 0) (link link' : L) (start : LinkStart) (answers : List Answer)
     → (known link).told ≡ Some (first_traffic start) → Heard (known link) (known link') answers → length answers ≤ 2 ^ 62 → P answers → WentOver known P link' start
@@ -55,10 +55,10 @@ went_weaker known P Q link start weaker went =
 
 -- ---- what an opening finds
 
-pub found_once : (told : DockContents) (k : ℕ) (at : Address) (a b : LinkStart) → Finds told k at a → Finds told k at b → a ≡ b
+pub found_once : (told : DockContents) (k : ℕ) (at : Address) (a b : LinkStart) → OpeningFinds told k at a → OpeningFinds told k at b → a ≡ b
 found_once told k at a b first second = let is : Some a ≡ Some b = sym first.stands ∙ second.stands in cc
 
-pub is_found : (told : DockContents) (k : ℕ) (at : Address) (start : LinkStart) → Finds told k at start → FindsNone told k at → ⊥
+pub is_found : (told : DockContents) (k : ℕ) (at : Address) (start : LinkStart) → OpeningFinds told k at start → FindsNone told k at → ⊥
 is_found told k at start finds (inl fails) = finds.allowed fails
 is_found told k at start finds (inr none) = let some : IsNone (Some start) = subst (λ o. IsNone o) finds.stands none in cc
 
@@ -88,8 +88,8 @@ module _ {X L : Type 0} (link_of : X → L) (known : L → Known Traffic) (P : L
 
   abbrev Made : DockContents → ℕ → Over → Type 0
   Made told k over =
-      (start : LinkStart) × ((at : Address) → Finds told k (slice_index_or addresses k at) start)
-      × ((d : X) → HasGone known (link_of (slice_index_or after k d)) over) × Hears P start over
+      (start : LinkStart) × ((at : Address) → OpeningFinds told k (slice_index_or addresses k at) start)
+      × ((d : X) → HasGone known (link_of (slice_index_or after k d)) over) × LinkHears P start over
 
   gone : (told : DockContents) (overs : List Over) → length overs ≡ length addresses → ((k : ℕ) (e : Over) → k < length addresses → Made told k (slice_index_or overs k e))
       → HaveGone known (as_members link_of after) overs
@@ -102,12 +102,12 @@ module _ {X L : Type 0} (link_of : X → L) (known : L → Known Traffic) (P : L
   }
 
   -- Where the dock tells, each link was opened as a new one, and tells at its end what went over it.
-  pub hears_each : (a b c : Known DockContents) → Tells a b (λ x y. y ≡ after_openings addresses x)
+  pub hears_each : (a b c : Known DockContents) → KnownThrough a b (λ x y. y ≡ after_openings addresses x)
       → Docked a b Opened
       → ((k : ℕ) (d : X) (start : LinkStart) → k < length addresses → (known (link_of (slice_index_or before k d))).told ≡ Some (first_traffic start)
       → WentOver known P (link_of (slice_index_or after k d)) start)
-      → Tells b c (λ x y. (overs : List Over) → HaveGone known (as_members link_of after) overs → y ≡ after_closes overs addresses x)
-      → Tells a c (HearsEach P addresses)
+      → KnownThrough b c (λ x y. (overs : List Over) → HaveGone known (as_members link_of after) overs → y ≡ after_closes overs addresses x)
+      → KnownThrough a c (HearsEach P addresses)
   hears_each a b c opened links each closed =
       Tells-then _ _ (HearsEach P addresses) a b c (Tells-both (λ x y. y ≡ after_openings addresses x) (λ x _. Opened x) a b opened links) closed
       (λ x y z p q.
@@ -120,7 +120,7 @@ module _ {X L : Type 0} (link_of : X → L) (known : L → Known Traffic) (P : L
         over.0,
         (
           there.0,
-          (λ at. subst (λ a. Finds x k a there.0) (get_or_default addresses k none at within) there.1),
+          (λ at. subst (λ a. OpeningFinds x k a there.0) (get_or_default addresses k none at within) there.1),
           (λ e. subst (λ (m : X). HasGone known (link_of m) over.0) (get_or_default after k d e (omega (arith, within, many'))) over.1),
           over.2,
         ),
@@ -134,7 +134,7 @@ module _ {X L : Type 0} (link_of : X → L) (known : L → Known Traffic) (P : L
       })
 
 -- what held before the links were closed
-pub docked_then : (P : DockContents → Type 0) (Q : DockContents → DockContents → Type 0) (a b c : Known DockContents) → Docked a b P → Tells b c Q → Docked a c P
+pub docked_then : (P : DockContents → Type 0) (Q : DockContents → DockContents → Type 0) (a b c : Known DockContents) → Docked a b P → KnownThrough b c Q → Docked a c P
 docked_then P Q a b c first second = Tells-then (λ x _. P x) Q (λ x _. P x) a b c first second (λ x y z p q. p)
 
 -- ---- openings that end early
@@ -146,10 +146,10 @@ Missed addresses k before after =
 
 pub missed_now : (addresses : List Address) (k : ℕ) (at : Address) (within : k < length addresses) (is : at ≡ slice_index_or addresses k at)
     → {L : Type 0} (known : L → Known Traffic) (a b c : Known DockContents) → AreDifferent addresses
-    → Tells a b (AreOpen addresses k) → WhileTold b c (Opens known at opened.Failed) → CountsCall (λ (d : DockContents). d.calls) b c
-    → Tells a c (Missed addresses k)
+    → KnownThrough a b (AreOpen addresses k) → IfBothKnown b c (DockOpens known at opened.Failed) → CountsCall (λ (d : DockContents). d.calls) b c
+    → KnownThrough a c (Missed addresses k)
 missed_now addresses k at within is known a b c different before now counts =
-    docks_more (AreOpen addresses k) (Opens known at opened.Failed) (Missed addresses k) a b c before now counts
+    docks_more (AreOpen addresses k) (DockOpens known at opened.Failed) (Missed addresses k) a b c before now counts
     (λ x y z p q. not_found_at addresses k at within is known x y z different p q)
 
 -- what a dock tells once the links that these have are closed
@@ -170,13 +170,13 @@ module _ {X L : Type 0} (link_of : X → L) (known : L → Known Traffic) (addre
       let d : X = (index_of xs n within).0 in
       subst (λ (x : Member L). HasLink known told n (slice_index_or addresses n at) x.link) (sym (member_at link_of xs n d m within)) (first n at d less))
 
-  both_told : (P : DockContents → DockContents → Type 0) (a b : Known DockContents) → Docked a b (HaveFirst link_of known addresses xs k) → Tells a b P
-      → Tells a b (λ x y. HaveFirst link_of known addresses xs k x × P x y)
+  both_told : (P : DockContents → DockContents → Type 0) (a b : Known DockContents) → Docked a b (HaveFirst link_of known addresses xs k) → KnownThrough a b P
+      → KnownThrough a b (λ x y. HaveFirst link_of known addresses xs k x × P x y)
   both_told P a b first second = Tells-both (λ x _. HaveFirst link_of known addresses xs k x) P a b first second
 
   -- memory ran out behind these openings, and their links are closed
-  pub stopped_few : (a b c : Known DockContents) → k ≤ length addresses → Docked a b (HaveFirst link_of known addresses xs k) → Tells a b (AreOpen addresses k) → Tells b c (Closed link_of known addresses xs)
-      → Tells a c (StopsBehind addresses)
+  pub stopped_few : (a b c : Known DockContents) → k ≤ length addresses → Docked a b (HaveFirst link_of known addresses xs k) → KnownThrough a b (AreOpen addresses k) → KnownThrough b c (Closed link_of known addresses xs)
+      → KnownThrough a c (StopsBehind addresses)
   stopped_few a b c within first opened closed =
       Tells-then (λ x y. HaveFirst link_of known addresses xs k x × AreOpen addresses k x y) (Closed link_of known addresses xs) (StopsBehind addresses) a b c (both_told (AreOpen addresses k) a b first opened) closed
       (λ x y z p q. record {
@@ -186,8 +186,8 @@ module _ {X L : Type 0} (link_of : X → L) (known : L → Known Traffic) (addre
       })
 
   -- the next one failed
-  pub failed_few : (a b c : Known DockContents) → k < length addresses → Docked a b (HaveFirst link_of known addresses xs k) → Tells a b (Missed addresses k) → Tells b c (Closed link_of known addresses xs)
-      → Tells a c (BindsFew addresses)
+  pub failed_few : (a b c : Known DockContents) → k < length addresses → Docked a b (HaveFirst link_of known addresses xs k) → KnownThrough a b (Missed addresses k) → KnownThrough b c (Closed link_of known addresses xs)
+      → KnownThrough a c (BindsFew addresses)
   failed_few a b c within first missed closed =
       Tells-then (λ x y. HaveFirst link_of known addresses xs k x × Missed addresses k x y) (Closed link_of known addresses xs) (BindsFew addresses) a b c (both_told (Missed addresses k) a b first missed) closed
       (λ x y z p q. record {
@@ -218,9 +218,9 @@ pub all_links : {X L : Type 0} (link_of : X → L) (known : L → Known Traffic)
     → Docked a b (HaveFirst link_of known addresses xs n)
 all_links {X} link_of known addresses xs n a b = linked a.told b.told
   where
-    linked : (a b : Option DockContents) → ToldThrough a b (λ _ _. Unit {0})
-        → ((k : ℕ) (d : X) → k < n → (at : Address) → ToldThrough a b (λ told _. HasLink known told k (slice_index_or addresses k at) (link_of (slice_index_or xs k d))))
-        → ToldThrough a b (λ told _. HaveFirst link_of known addresses xs n told)
+    linked : (a b : Option DockContents) → Throughout a b (λ _ _. Unit {0})
+        → ((k : ℕ) (d : X) → k < n → (at : Address) → Throughout a b (λ told _. HasLink known told k (slice_index_or addresses k at) (link_of (slice_index_or xs k d))))
+        → Throughout a b (λ told _. HaveFirst link_of known addresses xs n told)
     linked a None any each = tt
     linked None (Some y) any each = any
     linked (Some x) (Some y) any each = λ k at d within. each k d within at

@@ -9,9 +9,9 @@ use Rattle.std.specs.Cmp.Lexicographic.{slice_cmp, nat_list_cmp_total}
 use Rattle.std.proofs.lemmas.Map.Views.{tells_apart}
 use Rattle.std.proofs.lemmas.Grind.{take_at_read}
 use Rattle.std.proofs.lemmas.List.{take_all, get_or_default, same_from_push}
-use Rattle.drm_links.specs.Told.{Known, WhileTold, CountsCall, BothTold, CountsTold, ToldThrough, Tells}
+use Rattle.drm_links.specs.Told.{Known, IfBothKnown, CountsCall, IfBoth, CountsTold, Throughout, KnownThrough}
 use Rattle.drm_links.specs.Link.{Traffic}
-use Rattle.drm_links.specs.Dock.{DockContents, Opens, after_opening, after_failure, address_key, AreDifferent, Docked, FindsNone, after_openings, FailsAfter, HasLink}
+use Rattle.drm_links.specs.Dock.{DockContents, DockOpens, after_opening, after_failure, address_key, AreDifferent, Docked, FindsNone, after_openings, FailsAfter, HasLink}
 use Rattle.drm_links.specs.declared.dock.Address.{Address}
 use Rattle.drm_links.specs.declared.dock.Opened.TheVariants as opened
 use Rattle.drm_links.proofs.ToldLemmas.{Opens-started, Tells-then, Tells-weaker, Tells-one}
@@ -38,17 +38,17 @@ apart (a ∷ others) different (suc i) (suc j) d e before within is = apart othe
 
 -- ---- what a dock tells, over several calls
 
-pub docks_more : (P S Q : DockContents → DockContents → Type 0) (a b c : Known DockContents) → Tells a b P → WhileTold b c S → CountsCall (λ (d : DockContents). d.calls) b c
-    → ((x y z : DockContents) → P x y → S y z → Q x z) → Tells a c Q
+pub docks_more : (P S Q : DockContents → DockContents → Type 0) (a b c : Known DockContents) → KnownThrough a b P → IfBothKnown b c S → CountsCall (λ (d : DockContents). d.calls) b c
+    → ((x y z : DockContents) → P x y → S y z → Q x z) → KnownThrough a c Q
 docks_more P S Q a b c first second counts both =
     Tells-then P S Q a b c first (Tells-one (λ (d : DockContents). d.calls) S b c counts second) both
 
-while_told : (P Q : DockContents → DockContents → Type 0) (a b : Option DockContents) → ToldThrough a b P → ((x y : DockContents) → P x y → Q x y) → BothTold a b Q
+while_told : (P Q : DockContents → DockContents → Type 0) (a b : Option DockContents) → Throughout a b P → ((x y : DockContents) → P x y → Q x y) → IfBoth a b Q
 while_told P Q None b first weaker = tt
 while_told P Q (Some x) None first weaker = tt
 while_told P Q (Some x) (Some y) first weaker = weaker x y first
 
-pub docks_while : (P Q : DockContents → DockContents → Type 0) (a b : Known DockContents) → Tells a b P → ((x y : DockContents) → P x y → Q x y) → WhileTold a b Q
+pub docks_while : (P Q : DockContents → DockContents → Type 0) (a b : Known DockContents) → KnownThrough a b P → ((x y : DockContents) → P x y → Q x y) → IfBothKnown a b Q
 docks_while P Q a b = while_told P Q a.told b.told
 
 pub docked_weaker : (P Q : DockContents → Type 0) (a b : Known DockContents) → Docked a b P → ((x : DockContents) → P x → Q x) → Docked a b Q
@@ -57,7 +57,7 @@ docked_weaker P Q a b first weaker = Tells-weaker (λ x _. P x) (λ x _. Q x) a 
 pub docked_both : (P Q : DockContents → Type 0) (a b : Known DockContents) → Docked a b P → Docked a b Q → Docked a b (λ told. P told × Q told)
 docked_both P Q a b = both_docked a.told b.told
   where
-    both_docked : (a b : Option DockContents) → ToldThrough a b (λ x _. P x) → ToldThrough a b (λ x _. Q x) → ToldThrough a b (λ x _. P x × Q x)
+    both_docked : (a b : Option DockContents) → Throughout a b (λ x _. P x) → Throughout a b (λ x _. Q x) → Throughout a b (λ x _. P x × Q x)
     both_docked a None p q = tt
     both_docked None (Some after) p q = p
     both_docked (Some before) (Some after) p q = (p, q)
@@ -66,7 +66,7 @@ docked_both P Q a b = both_docked a.told b.told
 pub docked_still : (P : DockContents → Type 0) (a b c : Known DockContents) → Docked a b P → CountsCall (λ (d : DockContents). d.calls) b c → Docked a c P
 docked_still P a b c = still a.told b.told c.told
   where
-    still : (a b c : Option DockContents) → ToldThrough a b (λ x _. P x) → CountsTold (λ (d : DockContents). d.calls) b c → ToldThrough a c (λ x _. P x)
+    still : (a b c : Option DockContents) → Throughout a b (λ x _. P x) → CountsTold (λ (d : DockContents). d.calls) b c → Throughout a c (λ x _. P x)
     still a b None first counts = tt
     still a None (Some z) first counts = cc
     still None (Some y) (Some z) first counts = absurd first
@@ -149,7 +149,7 @@ module _ (addresses : List Address) (k : ℕ) (at : Address) (within : k < lengt
   next x y z before now = now ∙ ap (after_opening at) before ∙ sym (openings_next addresses k at x within is)
 
   pub found : {L : Type 0} (known : L → Known Traffic) (link : L) (x y z : DockContents) → AreDifferent addresses
-      → Opened addresses k x y → Opens known at (opened.Link link) y z → (d : Address) → HasLink known x k (slice_index_or addresses k d) link
+      → Opened addresses k x y → DockOpens known at (opened.Link link) y z → (d : Address) → HasLink known x k (slice_index_or addresses k d) link
   found known link x y z different before now d =
       let are = so_far x y before in
       let started = Opens-started known at link y z now in (
@@ -163,7 +163,7 @@ module _ (addresses : List Address) (k : ℕ) (at : Address) (within : k < lengt
       )
 
   pub not_found_at : {L : Type 0} (known : L → Known Traffic) (x y z : DockContents) → AreDifferent addresses
-      → Opened addresses k x y → Opens known at opened.Failed y z
+      → Opened addresses k x y → DockOpens known at opened.Failed y z
       → ((d : Address) → FindsNone x k (slice_index_or addresses k d)) × (z ≡ after_failure (after_openings (take k addresses) x))
   not_found_at known x y z different before now =
       let are = so_far x y before in (
@@ -175,32 +175,32 @@ module _ (addresses : List Address) (k : ℕ) (at : Address) (within : k < lengt
       )
 
   pub not_found : {L : Type 0} (known : L → Known Traffic) (x y z : DockContents) → AreDifferent addresses
-      → Opened addresses k x y → Opens known at opened.Failed y z → FailsAfter addresses x z
+      → Opened addresses k x y → DockOpens known at opened.Failed y z → FailsAfter addresses x z
   not_found known x y z different before now =
       let none = not_found_at known x y z different before now in
       record { k = k; within = within; fails = none.0; told = none.1 }
 
   pub found_now : {L : Type 0} (known : L → Known Traffic) (link : L) (a b c : Known DockContents) → AreDifferent addresses
-      → Tells a b (Opened addresses k) → WhileTold b c (Opens known at (opened.Link link)) → CountsCall (λ (d : DockContents). d.calls) b c
+      → KnownThrough a b (Opened addresses k) → IfBothKnown b c (DockOpens known at (opened.Link link)) → CountsCall (λ (d : DockContents). d.calls) b c
       → (d : Address) → Docked a c (λ told. HasLink known told k (slice_index_or addresses k d) link)
   found_now known link a b c different before now counts d =
-      docks_more (Opened addresses k) (Opens known at (opened.Link link)) (λ x _. HasLink known x k (slice_index_or addresses k d) link) a b c before now counts
+      docks_more (Opened addresses k) (DockOpens known at (opened.Link link)) (λ x _. HasLink known x k (slice_index_or addresses k d) link) a b c before now counts
       (λ x y z p q. found known link x y z different p q d)
 
   pub opened_now : {L : Type 0} (known : L → Known Traffic) (link : L) (a b c : Known DockContents)
-      → Tells a b (Opened addresses k) → WhileTold b c (Opens known at (opened.Link link)) → CountsCall (λ (d : DockContents). d.calls) b c
-      → Tells a c (Opened addresses (k + 1))
+      → KnownThrough a b (Opened addresses k) → IfBothKnown b c (DockOpens known at (opened.Link link)) → CountsCall (λ (d : DockContents). d.calls) b c
+      → KnownThrough a c (Opened addresses (k + 1))
   opened_now known link a b c before now counts =
-      docks_more (Opened addresses k) (Opens known at (opened.Link link)) (Opened addresses (k + 1)) a b c before now counts
+      docks_more (Opened addresses k) (DockOpens known at (opened.Link link)) (Opened addresses (k + 1)) a b c before now counts
       (λ x y z p q. next x y z p q.2)
 
 -- all links were opened
-pub opened_all : (addresses : List Address) (k : ℕ) (a b : Known DockContents) → length addresses ≤ k → Tells a b (Opened addresses k) → Tells a b (λ before after. after ≡ after_openings addresses before)
+pub opened_all : (addresses : List Address) (k : ℕ) (a b : Known DockContents) → length addresses ≤ k → KnownThrough a b (Opened addresses k) → KnownThrough a b (λ before after. after ≡ after_openings addresses before)
 opened_all addresses k a b last opened =
     Tells-weaker (Opened addresses k) (λ before after. after ≡ after_openings addresses before) a b opened
     (λ x y is. is ∙ ap (λ l. after_openings l x) (take_all k addresses last))
 
-pub docked_any : (P : DockContents → DockContents → Type 0) (a b : Known DockContents) → Tells a b P → Docked a b (λ _. Unit {0})
+pub docked_any : (P : DockContents → DockContents → Type 0) (a b : Known DockContents) → KnownThrough a b P → Docked a b (λ _. Unit {0})
 docked_any P a b told = Tells-weaker P (λ _ _. Unit {0}) a b told (λ x y any. tt)
 
 -- nothing has gone over any link

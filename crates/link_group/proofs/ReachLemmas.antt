@@ -1,9 +1,9 @@
 -- Openings by `reach`, one after another, and the closings after one that failed.
 use Rattle.std.proofs.Common.{◌≡◌, ℕ, ◌+◌, ◌<◌, List, [], ◌∷◌, length, take, replicate, slice_index_or, Option, None, Some, refl, sym, ◌∙◌, ap, subst, arith}
 use Rattle.std.proofs.lemmas.List.{take_all, get_or-replicate, length-replicate}
-use Rattle.drm_links.specs.Told.{Known, WhileTold, CountsCall, ToldThrough, Tells}
+use Rattle.drm_links.specs.Told.{Known, IfBothKnown, CountsCall, Throughout, KnownThrough}
 use Rattle.drm_links.specs.Link.{Traffic}
-use Rattle.drm_links.specs.Dock.{DockContents, Over, over_of, Reaches, with_reach, after_opening, after_failure, first_traffic, AreDifferent, Docked, FindsNone, HasLink, after_openings}
+use Rattle.drm_links.specs.Dock.{DockContents, Over, over_of, DockReaches, with_reach, after_opening, after_failure, first_traffic, AreDifferent, Docked, FindsNone, HasLink, after_openings}
 use Rattle.drm_links.specs.declared.dock.Address.{Address}
 use Rattle.drm_links.specs.declared.dock.Opened.TheVariants as opened
 use Rattle.drm_links.proofs.ToldLemmas.{Tells-then, Tells-both, Tells-weaker}
@@ -26,7 +26,7 @@ one_more_reach k told =
 abbrev pub Reached : List Address → ℕ → DockContents → DockContents → Type 0
 Reached addresses k before after = after ≡ after_openings (take k addresses) (with_reaches k before)
 
-pub reached_all : (addresses : List Address) (k : ℕ) (a b : Known DockContents) → k ≡ length addresses → Tells a b (Reached addresses k) → Tells a b (λ before after. after ≡ after_reaches addresses before)
+pub reached_all : (addresses : List Address) (k : ℕ) (a b : Known DockContents) → k ≡ length addresses → KnownThrough a b (Reached addresses k) → KnownThrough a b (λ before after. after ≡ after_reaches addresses before)
 reached_all addresses k a b last reached =
     Tells-weaker (Reached addresses k) (λ before after. after ≡ after_reaches addresses before) a b reached
     (λ x y is. is ∙ ap (λ l. after_openings l (with_reaches k x)) (take_all k addresses (omega (arith, last))) ∙ ap (λ n. after_openings addresses (with_reaches n x)) last)
@@ -45,30 +45,30 @@ module _ (addresses : List Address) (k : ℕ) (at : Address) (within : k < lengt
       ap with_reach before ∙ (reach_through (take k addresses) (with_reaches k x) ∙ ap (after_openings (take k addresses)) (one_more_reach k x))
 
   found_link : {L : Type 0} (known : L → Known Traffic) (link : L) (x y z : DockContents) → AreDifferent addresses
-      → Reached addresses k x y → Reaches known at (opened.Link link) y z → (d : Address) → HasLink known x k (slice_index_or addresses k d) link
+      → Reached addresses k x y → DockReaches known at (opened.Link link) y z → (d : Address) → HasLink known x k (slice_index_or addresses k d) link
   found_link known link x y z different before now d =
       let there = found addresses k at within is known link (with_reaches (k + 1) x) (with_reach y) z different (counted x y before) now d in
       (there.0, record { allowed = there.1.allowed; stands = there.1.stands }, there.2)
 
   pub found_reach : {L : Type 0} (known : L → Known Traffic) (link : L) (a b c : Known DockContents) → AreDifferent addresses
-      → Tells a b (Reached addresses k) → WhileTold b c (Reaches known at (opened.Link link)) → CountsCall (λ (d : DockContents). d.calls) b c
+      → KnownThrough a b (Reached addresses k) → IfBothKnown b c (DockReaches known at (opened.Link link)) → CountsCall (λ (d : DockContents). d.calls) b c
       → (d : Address) → Docked a c (λ told. HasLink known told k (slice_index_or addresses k d) link)
   found_reach known link a b c different before now counts d =
-      docks_more (Reached addresses k) (Reaches known at (opened.Link link)) (λ x _. HasLink known x k (slice_index_or addresses k d) link) a b c before now counts
+      docks_more (Reached addresses k) (DockReaches known at (opened.Link link)) (λ x _. HasLink known x k (slice_index_or addresses k d) link) a b c before now counts
       (λ x y z p q. found_link known link x y z different p q d)
 
   pub reached_now : {L : Type 0} (known : L → Known Traffic) (link : L) (a b c : Known DockContents)
-      → Tells a b (Reached addresses k) → WhileTold b c (Reaches known at (opened.Link link)) → CountsCall (λ (d : DockContents). d.calls) b c
-      → Tells a c (Reached addresses (k + 1))
+      → KnownThrough a b (Reached addresses k) → IfBothKnown b c (DockReaches known at (opened.Link link)) → CountsCall (λ (d : DockContents). d.calls) b c
+      → KnownThrough a c (Reached addresses (k + 1))
   reached_now known link a b c before now counts =
-      docks_more (Reached addresses k) (Reaches known at (opened.Link link)) (Reached addresses (k + 1)) a b c before now counts
+      docks_more (Reached addresses k) (DockReaches known at (opened.Link link)) (Reached addresses (k + 1)) a b c before now counts
       (λ x y z p q. next addresses k at within is (with_reaches (k + 1) x) (with_reach y) z (counted x y p) q.2)
 
   pub missed_now : {L : Type 0} (known : L → Known Traffic) (a b c : Known DockContents) → AreDifferent addresses
-      → Tells a b (Reached addresses k) → WhileTold b c (Reaches known at opened.Failed) → CountsCall (λ (d : DockContents). d.calls) b c
-      → Tells a c (Missed addresses k)
+      → KnownThrough a b (Reached addresses k) → IfBothKnown b c (DockReaches known at opened.Failed) → CountsCall (λ (d : DockContents). d.calls) b c
+      → KnownThrough a c (Missed addresses k)
   missed_now known a b c different before now counts =
-      docks_more (Reached addresses k) (Reaches known at opened.Failed) (Missed addresses k) a b c before now counts
+      docks_more (Reached addresses k) (DockReaches known at opened.Failed) (Missed addresses k) a b c before now counts
       (λ x y z p q. not_found_at addresses k at within is known (with_reaches (k + 1) x) (with_reach y) z different (counted x y p) q)
 
 -- ---- several links at once
@@ -78,14 +78,14 @@ abbrev pub HaveFirst : {L : Type 0} → (L → Known Traffic) → DockContents �
 HaveFirst {L} known told addresses members n =
     (k : ℕ) (at : Address) (none : Member L) → k < n → HasLink known told k (slice_index_or addresses k at) (slice_index_or members k none).link
 
-pub first_links : {L : Type 0} (known : L → Known Traffic) (addresses : List Address) (members : List (Member L)) (n : ℕ) (P : DockContents → DockContents → Type 0) (a b : Known DockContents) → Tells a b P
+pub first_links : {L : Type 0} (known : L → Known Traffic) (addresses : List Address) (members : List (Member L)) (n : ℕ) (P : DockContents → DockContents → Type 0) (a b : Known DockContents) → KnownThrough a b P
     → ((k : ℕ) (d : Member L) → k < n → (at : Address) → Docked a b (λ told. HasLink known told k (slice_index_or addresses k at) (slice_index_or members k d).link))
     → Docked a b (λ told. HaveFirst known told addresses members n)
 first_links {L} known addresses members n P a b all = linked a.told b.told all
   where
-    linked : (a b : Option DockContents) → ToldThrough a b P
-        → ((k : ℕ) (d : Member L) → k < n → (at : Address) → ToldThrough a b (λ told _. HasLink known told k (slice_index_or addresses k at) (slice_index_or members k d).link))
-        → ToldThrough a b (λ told _. HaveFirst known told addresses members n)
+    linked : (a b : Option DockContents) → Throughout a b P
+        → ((k : ℕ) (d : Member L) → k < n → (at : Address) → Throughout a b (λ told _. HasLink known told k (slice_index_or addresses k at) (slice_index_or members k d).link))
+        → Throughout a b (λ told _. HaveFirst known told addresses members n)
     linked a None any each = tt
     linked None (Some y) any each = any
     linked (Some x) (Some y) any each = λ k at d within. each k d within at
@@ -106,9 +106,9 @@ nothing_gone {L} known told addresses members n size first = record {
 
 -- those that were opened are closed
 pub few_reached : {L : Type 0} (known : L → Known Traffic) (addresses : List Address) (members : List (Member L)) (k : ℕ) (a b c : Known DockContents) → k < length addresses → length members ≡ k
-    → Docked a b (λ told. HaveFirst known told addresses members k) → Tells a b (Missed addresses k)
-    → Tells b c (λ before after. (overs : List Over) → HaveGone known members overs → after ≡ after_closes overs addresses before)
-    → Tells a c (ReachesFew addresses)
+    → Docked a b (λ told. HaveFirst known told addresses members k) → KnownThrough a b (Missed addresses k)
+    → KnownThrough b c (λ before after. (overs : List Over) → HaveGone known members overs → after ≡ after_closes overs addresses before)
+    → KnownThrough a c (ReachesFew addresses)
 few_reached known addresses members k a b c within size links missed closed =
     Tells-then _ _ (ReachesFew addresses) a b c (Tells-both (λ x _. HaveFirst known x addresses members k) (Missed addresses k) a b links missed) closed
     (λ x y z p q. record {

@@ -7,9 +7,9 @@ use Rattle.std.specs.FinMap.{get-insert, gets}
 use Rattle.std.specs.Cmp.Lexicographic.{nat_list_cmp_total}
 use Rattle.std.proofs.lemmas.Grind.{common_steps}
 use Rattle.std.proofs.lemmas.List.{get_or_default}
-use Rattle.drm_links.specs.Told.{Known, Tells}
+use Rattle.drm_links.specs.Told.{Known, KnownThrough}
 use Rattle.drm_links.specs.Link.{Traffic}
-use Rattle.drm_links.specs.Dock.{DockContents, LinkStart, Over, address_key, first_traffic, after_close, AreDifferent, Docked, Finds}
+use Rattle.drm_links.specs.Dock.{DockContents, LinkStart, Over, address_key, first_traffic, after_close, AreDifferent, Docked, OpeningFinds}
 use Rattle.drm_links.specs.declared.dock.Address.{Address}
 use Rattle.drm_links.proofs.ToldLemmas.{Tells-then, Tells-both}
 use Rattle.drm_links.proofs.Places.{index_of}
@@ -37,16 +37,16 @@ module _ {L : Type 0} (Goes : ℕ → LinkStart → Over → Type 0) (known : L 
     (many : length members ≡ length addresses) (many' : length members' ≡ length addresses) where
   abbrev Made : DockContents → ℕ → Over → Type 0
   Made told k over =
-      (start : LinkStart) × ((at : Address) → Finds told k (slice_index_or addresses k at) start)
+      (start : LinkStart) × ((at : Address) → OpeningFinds told k (slice_index_or addresses k at) start)
       × ((d : Member L) → HasGone known (slice_index_or members' k d).link over) × Goes k start over × (over.answers ≡ [])
 
   -- Where the dock tells, each link was opened as a new one, and tells at its end what went over it.
-  pub over_each : (a b c : Known DockContents) → Tells a b (λ before after. after ≡ after_reaches addresses before)
+  pub over_each : (a b c : Known DockContents) → KnownThrough a b (λ before after. after ≡ after_reaches addresses before)
       → Docked a b (λ told. HaveLinks known told addresses members)
       → ((k : ℕ) (d : Member L) (start : LinkStart) → k < length addresses → (known (slice_index_or members k d).link).told ≡ Some (first_traffic start)
       → (over : Over) × HasGone known (slice_index_or members' k d).link over × Goes k start over × (over.answers ≡ []))
-      → Tells b c (λ before after. (overs : List Over) → HaveGone known members' overs → after ≡ after_closes overs addresses before)
-      → Tells a c (GoesOver Goes addresses)
+      → KnownThrough b c (λ before after. (overs : List Over) → HaveGone known members' overs → after ≡ after_closes overs addresses before)
+      → KnownThrough a c (GoesOver Goes addresses)
   over_each a b c opened links each closed =
       Tells-then _ _ (GoesOver Goes addresses) a b c (Tells-both (λ x y. y ≡ after_reaches addresses x) (λ x _. HaveLinks known x addresses members) a b opened links) closed
       (λ x y z p q.
@@ -59,7 +59,7 @@ module _ {L : Type 0} (Goes : ℕ → LinkStart → Over → Type 0) (known : L 
         over.0,
         (
           there.0,
-          (λ at. subst (λ a. Finds x k a there.0) (get_or_default addresses k none at within) there.1),
+          (λ at. subst (λ a. OpeningFinds x k a there.0) (get_or_default addresses k none at within) there.1),
           (λ e. subst (λ (m : Member L). HasGone known m.link over.0) (get_or_default members' k d e (omega (arith, within, many'))) over.1),
           over.2,
           over.3,

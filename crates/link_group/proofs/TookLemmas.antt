@@ -1,7 +1,7 @@
 -- More datagrams, over one of several links.
 use Rattle.std.proofs.Common.{◌≡◌, ◌≤◌, ℕ, List, [], ◌++◌, length, refl, sym, ◌∙◌, ap, arith, append_assoc, length-append}
 use Rattle.drm_links.specs.Told.{Known, HasFailed}
-use Rattle.drm_links.specs.Transmission.{Transmits, SendsAll, SendsNoMore}
+use Rattle.drm_links.specs.Transmission.{LinkTransmits, SendsAll, SendsNoMore}
 use Rattle.drm_links.proofs.ToldLemmas.{once_then}
 use Rattle.drm_links.specs.Link.{Traffic}
 use Rattle.drm_links.proofs.TransmissionLemmas.{Transmits-nothing, Transmits-then, SendsAll-then, SendsAll-no_more}
@@ -12,7 +12,7 @@ pub took_none : (start : Known Traffic) → TookAll [] start start
 took_none start = record { sent = Transmits-nothing start; same = refl }
 
 -- a link that took all before took these too
-pub took_more : (datagrams more : List (List ℕ)) (start before now : Known Traffic) → TookAll datagrams start before → Transmits before now (SendsAll more) → now.faults ≡ before.faults
+pub took_more : (datagrams more : List (List ℕ)) (start before now : Known Traffic) → TookAll datagrams start before → LinkTransmits before now (SendsAll more) → now.faults ≡ before.faults
     → TookAll (datagrams ++ more) start now
 took_more datagrams more start before now took sent same =
     record {
@@ -22,7 +22,7 @@ took_more datagrams more start before now took sent same =
 
 -- it took some of these, and then it failed
 pub took_part : (datagrams more front rest : List (List ℕ)) (start before now : Known Traffic) → TookAll datagrams start before → more ≡ front ++ rest → 1 ≤ length rest
-    → Transmits before now (SendsNoMore front) → HasFailed before now → TookSome (datagrams ++ more) start now
+    → LinkTransmits before now (SendsNoMore front) → HasFailed before now → TookSome (datagrams ++ more) start now
 took_part datagrams more front rest start before now took are some sent once = record {
   front = datagrams ++ front;
   rest = rest;

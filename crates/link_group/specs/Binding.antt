@@ -1,7 +1,7 @@
 -- Links that are opened in a dock to receive over them, and closed again.
 use Rattle.std.specs.Prelude.{ℕ, ◌≡◌, ◌<◌, ◌≤◌, List, [], ◌∷◌, length, take, replicate, slice_index_or}
 use Rattle.drm_links.specs.Link.{Answer}
-use Rattle.drm_links.specs.Dock.{DockContents, LinkStart, Over, after_failure, Finds, FindsNone, after_openings}
+use Rattle.drm_links.specs.Dock.{DockContents, LinkStart, Over, after_failure, OpeningFinds, FindsNone, after_openings}
 use Rattle.drm_links.specs.declared.dock.Address.{Address}
 use Rattle.link_group.specs.Reaching.{after_closes, nothing}
 use Rattle.drm_links.specs.Hearing.{AreNext}
@@ -11,7 +11,7 @@ abbrev pub heard : List Answer → Over
 heard answers = record { answers = answers; gone = []; rests = 0 ∷ [] }
 
 -- Nothing but answers of which P holds went over a link: the next ones of those that stood ahead of it.
-pub record Hears (P : List Answer → Type 0) (start : LinkStart) (over : Over) : Type 0 where
+pub record LinkHears (P : List Answer → Type 0) (start : LinkStart) (over : Over) : Type 0 where
   pub answers : List Answer
   pub rest : List Answer
   pub next : AreNext start.ahead answers rest
@@ -23,7 +23,7 @@ pub record HearsEach (P : List Answer → Type 0) (addresses : List Address) (be
   pub overs : List Over
   pub as_many : length overs ≡ length addresses
   pub each : (k : ℕ) (at : Address) (none : Over) → k < length addresses
-      → (start : LinkStart) × Finds before k (slice_index_or addresses k at) start × Hears P start (slice_index_or overs k none)
+      → (start : LinkStart) × OpeningFinds before k (slice_index_or addresses k at) start × LinkHears P start (slice_index_or overs k none)
   pub told : after ≡ after_closes overs addresses (after_openings addresses before)
 
 -- The openings at the first k addresses were made, and the next one failed. The links that were opened are closed: nothing went over

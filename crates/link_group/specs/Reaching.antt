@@ -5,7 +5,7 @@ use Rattle.std.specs.Ordering.{nat_cmp}
 use Rattle.std.specs.Cmp.Lexicographic.{slice_cmp}
 use Rattle.drm_links.specs.Told.{Known}
 use Rattle.drm_links.specs.Link.{Traffic}
-use Rattle.drm_links.specs.Dock.{DockContents, LinkStart, Over, over_of, address_key, after_failure, after_close, Finds, FindsNone, HasLink, after_openings}
+use Rattle.drm_links.specs.Dock.{DockContents, LinkStart, Over, over_of, address_key, after_failure, after_close, OpeningFinds, FindsNone, HasLink, after_openings}
 use Rattle.drm_links.specs.declared.dock.Address.{Address}
 use Rattle.link_group.specs.declared.member.Member.{Member}
 
@@ -76,7 +76,7 @@ pub record ReachesFew (addresses : List Address) (before after : DockContents) :
 pub record EachGoes (Goes : ℕ → LinkStart → Over → Type 0) (told : DockContents) (addresses : List Address) (overs : List Over) : Type 0 where
   pub as_many : length overs ≡ length addresses
   pub each : (k : ℕ) (at : Address) (none : Over) → k < length addresses
-      → (start : LinkStart) × Finds told k (slice_index_or addresses k at) start × Goes k start (slice_index_or overs k none)
+      → (start : LinkStart) × OpeningFinds told k (slice_index_or addresses k at) start × Goes k start (slice_index_or overs k none)
   pub received : (k : ℕ) (none : Over) → k < length addresses → (slice_index_or overs k none).answers ≡ []
 
 -- A link was opened at each address, this went over them, and they were closed.

@@ -2,12 +2,12 @@
 use Rattle.std.specs.Prelude.{ℕ, ◌≡◌, ◌≤◌, Bool, true, false, List, ◌++◌, length}
 use Rattle.drm_links.specs.Told.{Known, HasFailed}
 use Rattle.drm_links.specs.Link.{Traffic}
-use Rattle.drm_links.specs.Transmission.{Transmits, SendsAll, SendsNoMore}
+use Rattle.drm_links.specs.Transmission.{LinkTransmits, SendsAll, SendsNoMore}
 use Rattle.link_group.specs.declared.member.Member.{Member}
 
 -- It took them all, and no call of it failed.
 pub record TookAll (datagrams : List (List ℕ)) (start now : Known Traffic) : Type 0 where
-  pub sent : Transmits start now (SendsAll datagrams)
+  pub sent : LinkTransmits start now (SendsAll datagrams)
   pub same : now.faults ≡ start.faults
 
 -- It took some first ones, and not the next: that call failed, and no other was made afterwards.
@@ -16,7 +16,7 @@ pub record TookSome (datagrams : List (List ℕ)) (start now : Known Traffic) : 
   pub rest : List (List ℕ)
   pub are : datagrams ≡ front ++ rest
   pub some : 1 ≤ length rest
-  pub sent : Transmits start now (SendsNoMore front)
+  pub sent : LinkTransmits start now (SendsNoMore front)
   pub once : HasFailed start now
 
 abbrev pub TookBy : Bool → List (List ℕ) → Known Traffic → Known Traffic → Type 0

@@ -1,7 +1,7 @@
 //! Links that are opened to send over them.
 
 ghost use Rattle.std.specs.Prelude.{◌≡◌, ◌≤◌, Err, IsErr, length, vec_len, vec_capacity, IfOk, IfErr};
-ghost use Rattle.drm_links.specs.Told.{HasCause, Tells};
+ghost use Rattle.drm_links.specs.Told.{HasCause, KnownThrough};
 ghost use Rattle.drm_links.specs.Dock.{AreDifferent, Docked};
 ghost use Rattle.link_group.specs.Reaching.{HaveLinks, AreUp, ReachesFew, after_reaches};
 
@@ -32,7 +32,7 @@ impl From<NoMemory> for ReachFault {
 /// Takes the memory for links to these addresses.
 pub fn room_for<L: Link>(alloc: Global, addresses: &Addresses) -> Result<Vec<Member<L>>, NoMemory>
     ensures none { IfOk result (λ room. vec_len room ≡ 0) }
-    ensures all { IfOk result (λ room. length addresses.now ≤ vec_capacity room) }
+    ensures capacity { IfOk result (λ room. length addresses.now ≤ vec_capacity room) }
 {
     Ok(Vec::with_capacity(alloc, addresses.len())?)
 }
@@ -46,14 +46,14 @@ pub fn reach_in<D: Dock>(
 ) -> Result<Vec<Member<D::L>>, LinkFault>
     requires different { AreDifferent addresses.now }
     requires none { vec_len room ≡ 0 }
-    requires all { length addresses.now ≤ vec_capacity room }
-    ensures many { IfOk result (λ members. vec_len members ≡ length addresses.now) }
+    requires capacity { length addresses.now ≤ vec_capacity room }
+    ensures same_count { IfOk result (λ members. vec_len members ≡ length addresses.now) }
     ensures up { IfOk result (λ members. AreUp members.items) }
-    ensures opened { IfOk result (λ _. Tells (D.known dock.old) (D.known dock.new)
+    ensures opened { IfOk result (λ _. KnownThrough (D.known dock.old) (D.known dock.new)
         (λ before after. after ≡ after_reaches addresses.now before)) }
     ensures links { IfOk result (λ members. Docked (D.known dock.old) (D.known dock.new) (λ told.
         HaveLinks D.L.known told addresses.now members.items)) }
-    ensures failed { IfErr result (λ _. Tells (D.known dock.old) (D.known dock.new)
+    ensures failed { IfErr result (λ _. KnownThrough (D.known dock.old) (D.known dock.new)
         (λ before after. ReachesFew addresses.now before after)) }
     ensures cause { HasCause (D.known dock.old) (D.known dock.new) (IsErr result) }
 {
@@ -81,13 +81,13 @@ pub fn reach_each<D: Dock>(
     dock: &mut D,
 ) -> Result<Vec<Member<D::L>>, ReachFault>
     requires { AreDifferent addresses.now }
-    ensures many { IfOk result (λ members. vec_len members ≡ length addresses.now) }
+    ensures same_count { IfOk result (λ members. vec_len members ≡ length addresses.now) }
     ensures up { IfOk result (λ members. AreUp members.items) }
-    ensures opened { IfOk result (λ _. Tells (D.known dock.old) (D.known dock.new)
+    ensures opened { IfOk result (λ _. KnownThrough (D.known dock.old) (D.known dock.new)
         (λ before after. after ≡ after_reaches addresses.now before)) }
     ensures links { IfOk result (λ members. Docked (D.known dock.old) (D.known dock.new) (λ told.
         HaveLinks D.L.known told addresses.now members.items)) }
-    ensures failed { result ≡ Err ReachFault.Link → Tells (D.known dock.old) (D.known dock.new)
+    ensures failed { result ≡ Err ReachFault.Link → KnownThrough (D.known dock.old) (D.known dock.new)
         (λ before after. ReachesFew addresses.now before after) }
     ensures cause { HasCause (D.known dock.old) (D.known dock.new) (result ≡ Err ReachFault.Link) }
     ensures untouched { result ≡ Err ReachFault.NoMemory → dock.new ≡ dock.old }

@@ -9,7 +9,7 @@ use Rattle.drm_schedule.specs.declared.plan.Plan.{Plan}
 use Rattle.drm_timeline.specs.Numbers.{frame_count}
 use Rattle.drm_server.specs.Capture.{IsCapture, IsFrontOfCapture}
 use Rattle.drm_server.specs.Datagrams.{AreOfFrames}
-use Rattle.drm_server.specs.Gathering.{Gathers, WroteFrame, IsFrontOfFrame}
+use Rattle.drm_server.specs.Gathering.{GathersDatagrams, WroteFrame, IsFrontOfFrame}
 use Rattle.drm_server.proofs.DatagramLemmas.{next_frame}
 use Rattle.drm_server.proofs.CaptureLemmas.{gathers_frame, part_written}
 use Rattle.live_server.specs.Capture.{AreWritten}
@@ -21,7 +21,7 @@ module _ (plan : Plan) (first : ℕ) where
 
   pub wrote_more : (n m : ℕ) (a b c : Known Output) → WroteEach first n a b plan → WroteFrame plan (first + n) m b c → WroteEach first (n + 1) a c plan
   wrote_more n m a b c before frame =
-      let whole : Gathers [] (concat frame.0) [] b c = Outputs-weaker (λ text. text ≡ concat frame.0) (λ text. concat frame.0 ≡ text ++ []) b c frame.3 (λ text is. sym is ∙ sym (append-nil text)) in
+      let whole : GathersDatagrams [] (concat frame.0) [] b c = Outputs-weaker (λ text. text ≡ concat frame.0) (λ text. concat frame.0 ≡ text ++ []) b c frame.3 (λ text is. sym is ∙ sym (append-nil text)) in
       (before.0 ++ frame.0, next_frame plan first n before.0 frame.0 before.1 frame.1, gathers_frame before.0 frame.0 [] [] a b c before.2 whole)
 
   -- a front of the next one

@@ -9,7 +9,7 @@ use Rattle.link_group.specs.declared.member.Member.{Member}
 use Rattle.drm_schedule.specs.declared.live.Live.{Live}
 use Rattle.drm_schedule.specs.declared.plan.Plan.{Plan}
 use Rattle.drm_server.specs.Datagrams.{AreOfFrames}
-use Rattle.drm_server.specs.Gathering.{Gathers}
+use Rattle.drm_server.specs.Gathering.{GathersDatagrams}
 use Rattle.live_server.specs.Feeding.{AreTaken, HasRead, OfEach}
 use Rattle.live_server.specs.Links.{ServedEach}
 
@@ -25,4 +25,4 @@ SentEach first pace n known members members' plan = ServedEach plan first pace n
 
 -- they were written
 abbrev pub WroteEach : ℕ → ℕ → Known Output → Known Output → Plan → Type 0
-WroteEach first n out out' plan = (datagrams : List (List ℕ)) × AreOfFrames plan first n datagrams × Gathers [] (concat datagrams) [] out out'
+WroteEach first n out out' plan = (datagrams : List (List ℕ)) × AreOfFrames plan first n datagrams × GathersDatagrams [] (concat datagrams) [] out out'

@@ -7,12 +7,12 @@ ghost use Rattle.drm_timeline.specs.Numbers.{frame_count};
 ghost use Rattle.live_streams.specs.Live.{piece_at};
 ghost use Rattle.live_server.specs.Loading.{LoadsNext};
 
-use drm_bits::{NoMemory, zeros};
 use cmd_faults::Fault;
+use cmd_input::read_front;
+use drm_bits::{NoMemory, zeros};
 use drm_links::Source;
 use drm_schedule::Live;
 use drm_server::Server;
-use cmd_input::read_front;
 use live_streams::{MOST_PIECE, piece_len};
 use std::alloc::Global;
 

@@ -31,7 +31,7 @@ pub fn serve_live_links<L: Link, I: Source>(
         L.known members.old members.new }
     ensures idle { (k : ℕ) (d : Member L) → k < length members.old
         → L.idles (slice_index_or members.new k d).link ≡ L.idles (slice_index_or members.old k d).link }
-    ensures many { length members.new ≡ length members.old }
+    ensures same_count { length members.new ≡ length members.old }
     ensures fault { IfErr result (λ fault. fault ≡ Fault.Read) }
     ensures cause { HasCause (I.known input.old) (I.known input.new) (IsErr result) }
     ensures base { server.new.base ≡ server.old.base }

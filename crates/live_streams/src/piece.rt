@@ -24,7 +24,7 @@ pub fn piece_len(plan: &Schedule, live: &Live, t: u32) -> usize
 // What the live ones of these streams have together in each frame.
 fn live_len(live: &Live, streams: &[Stream]) -> usize
     requires each { All StreamInLines streams.now }
-    requires few { length streams.now ≤ 4 }
+    requires within_limit { length streams.now ≤ 4 }
     ensures len { result ≡ size_from live.now 0 streams.now }
     ensures most { result ≤ 32760 }
 {

@@ -20,7 +20,7 @@ use Rattle.mdi_items.specs.declared.view.SdcSpan.{SdcSpan}
 use Rattle.mdi_items.specs.declared.view.MdiView.{MdiView}
 use Rattle.mdi_items.specs.Names.{ptr, dlfc, fac_, robm, sdc_}
 use Rattle.mdi_items.specs.Items.{known_of}
-use Rattle.mdi_items.specs.Frame.{Frame, Says, IsAt, IsBlockSpan, bits_there, block_bits, frame_of}
+use Rattle.mdi_items.specs.Frame.{Frame, FrameSays, IsAt, IsBlockSpan, bits_there, block_bits, frame_of}
 use Rattle.mdi_items.specs.Mdi.{IsMdi, IsMdiFault}
 use Rattle.mdi_items.specs.Table.{table, IsFirstFault}
 use Rattle.mdi_items.proofs.OnceLemmas.{one_items_fault, items_or_fault}
@@ -57,7 +57,7 @@ unfolding frame_from
 frame_again f = refl
 
 -- items say one frame at most
-one_says : (payload : List ℕ) (known : List (Option Found)) (f g : Frame) → Says payload known f → Says payload known g → f ≡ g
+one_says : (payload : List ℕ) (known : List (Option Found)) (f g : Frame) → FrameSays payload known f → FrameSays payload known g → f ≡ g
 one_says payload known f g s t =
     let pointer : s.pointer ≡ t.pointer = one_value payload known ptr s.pointer t.pointer s.pointer_stands t.pointer_stands in
     let count : s.count ≡ t.count = one_value payload known dlfc s.count t.count s.count_stands t.count_stands in
@@ -77,7 +77,7 @@ one_says payload known f g s t =
 pub one_mdi : (f g : Frame) (payload : List ℕ) → IsMdi f payload → IsMdi g payload → f ≡ g
 one_mdi f g payload m n =
     let same : n.items ≡ m.items = payload_once n.items m.items payload n.are_items.stand m.are_items.stand in
-    one_says payload (known_of m.items) f g m.says (subst (λ (l : List TagItem). Says payload (known_of l) g) same n.says)
+    one_says payload (known_of m.items) f g m.says (subst (λ (l : List TagItem). FrameSays payload (known_of l) g) same n.says)
 
 pub mdi_or_fault : (frame : Frame) (f : MdiFault) (payload : List ℕ) → IsMdi frame payload → IsMdiFault payload f → ⊥
 mdi_or_fault frame f payload m (inl (others, h)) = items_or_fault m.items others [] payload f m.are_items.stand m.are_items.once h

@@ -4,14 +4,14 @@ use Rattle.dcp_tag.specs.Tag.{TagItem, head, IsPayload, IsCut}
 use Rattle.dcp_tag.proofs.TagLemmas.{one_front, spelling_size, cut_front, behind_size, cut_is_no_payload}
 use Rattle.mdi_items.specs.declared.fault.MdiFault.{MdiFault}
 use Rattle.mdi_items.specs.declared.fault.MdiFault.TheVariants.{Tag, Twice}
-use Rattle.mdi_items.specs.Items.{IsRepeat, AreOnce, Begins, IsNextFault, AreThenFault}
+use Rattle.mdi_items.specs.Items.{IsRepeat, AreOnce, BeginsWithItem, IsNextFault, AreThenFault}
 
 -- one item stands at the front, with one rest
-one_begin : (i o : TagItem) (bytes rest more : List ℕ) → Begins i bytes rest → Begins o bytes more → (i ≡ o) × (rest ≡ more)
+one_begin : (i o : TagItem) (bytes rest more : List ℕ) → BeginsWithItem i bytes rest → BeginsWithItem o bytes more → (i ≡ o) × (rest ≡ more)
 one_begin i o bytes rest more b c = one_front i o bytes b.spelling rest c.spelling more b.spelled c.spelled b.stands c.stands
 
 -- a cut item is none that stands there
-cut_no_item : (item : TagItem) (bytes rest : List ℕ) → IsCut bytes → Begins item bytes rest → ⊥
+cut_no_item : (item : TagItem) (bytes rest : List ℕ) → IsCut bytes → BeginsWithItem item bytes rest → ⊥
 cut_no_item item bytes rest cut b =
     let p = b.spelled.1 in
     let stands : bytes ≡ head item.name (length item.value) ++ (p.behind ++ rest) =
@@ -20,11 +20,11 @@ cut_no_item item bytes rest cut b =
     absurd (omega (arith, short, length-append p.behind rest, behind_size item b.spelled.0 b.spelling p))
 
 -- no item stands in padding
-padding_no_item : (item : TagItem) (bytes rest : List ℕ) → length bytes < 8 → Begins item bytes rest → ⊥
+padding_no_item : (item : TagItem) (bytes rest : List ℕ) → length bytes < 8 → BeginsWithItem item bytes rest → ⊥
 padding_no_item item bytes rest short b = absurd (omega (arith, short, ap length b.stands, length-append b.spelling rest, spelling_size item b.spelling b.spelled))
 
 -- an item that stands there for the first time is no fault
-fresh_no_fault : (before : List TagItem) (item : TagItem) (bytes rest : List ℕ) (f : MdiFault) → Begins item bytes rest → (IsRepeat before item → ⊥) → IsNextFault before bytes f → ⊥
+fresh_no_fault : (before : List TagItem) (item : TagItem) (bytes rest : List ℕ) (f : MdiFault) → BeginsWithItem item bytes rest → (IsRepeat before item → ⊥) → IsNextFault before bytes f → ⊥
 fresh_no_fault before item bytes rest (Tag cut) b fresh h = cut_no_item item bytes rest h.0 b
 fresh_no_fault before item bytes rest (Twice name) b fresh (other, more, begins, repeat, is) =
     let same = one_begin other item bytes more rest begins b in

@@ -8,7 +8,7 @@ use Rattle.dcp_tag.specs.Tag.{TagItem, bytes_for, head, IsSpelling, IsPayload}
 use Rattle.dcp_tag.proofs.TagLemmas.{length-head, behind_size, item_is}
 use Rattle.mdi_items.specs.declared.known.Found.{Found}
 use Rattle.mdi_items.specs.Names.{name_at}
-use Rattle.mdi_items.specs.Items.{size, find_from, known_of, Stands}
+use Rattle.mdi_items.specs.Items.{size, find_from, known_of, ItemStands}
 use Rattle.mdi_items.specs.Frame.{AreInside, block_bits, bytes_at}
 use Rattle.mdi_items.proofs.FindLemmas.{known_at, length-known}
 
@@ -28,7 +28,7 @@ value_stands item spelling rest payload from (padding, p) stands =
     ap (take (bytes_for (length item.value))) behind ∙ take_at p.behind rest (bytes_for (length item.value)) (behind_size item padding spelling p) in
     ap (λ (l : List ℕ). take (length item.value) (bits_of l)) bytes ∙ ap (λ (t : TagItem). t.value) (item_is item padding spelling p)
 
-stands_behind : (first : TagItem) (items : List TagItem) (name payload : List ℕ) (from : ℕ) (found : Found) → Stands items name payload (from + size first) found → Stands (first ∷ items) name payload from found
+stands_behind : (first : TagItem) (items : List TagItem) (name payload : List ℕ) (from : ℕ) (found : Found) → ItemStands items name payload (from + size first) found → ItemStands (first ∷ items) name payload from found
 stands_behind first items name payload from found s = record {
   before = first ∷ s.before;
   item = s.item;
@@ -46,13 +46,13 @@ found_or true x y found P is here there = let same : x ≡ found = cc in subst P
 found_or false x y found P is here there = there is
 
 pub find_stands : (items : List TagItem) (name payload : List ℕ) (from : ℕ) (found : Found) → from ≤ length payload → IsPayload items (drop from payload) → find_from from name items ≡ Some found
-    → Stands items name payload from found
+    → ItemStands items name payload from found
 find_stands [] name payload from found within stand is = cc
 find_stands (item ∷ items) name payload from found within (spelling, rest, stands, spelled, more) is =
     let long : length spelling ≡ size item = spelling_length item spelling spelled in
     let counted : length payload ≡ from + (size item + length rest) = omega (arith, length-drop from payload, ap length stands, length-append spelling rest, long) in
     let after : drop (from + size item) payload ≡ rest = sym (drop-drop (size item) from payload) ∙ (ap (drop (size item)) stands ∙ drop_at spelling rest (size item) long) in
-    found_or (pointwise nat_eq item.name name) (record { at = from + 8; bits = length item.value }) (find_from (from + size item) name items) found (Stands (item ∷ items) name payload from) is (λ same.
+    found_or (pointwise nat_eq item.name name) (record { at = from + 8; bits = length item.value }) (find_from (from + size item) name items) found (ItemStands (item ∷ items) name payload from) is (λ same.
     record {
       before = [];
       item = item;

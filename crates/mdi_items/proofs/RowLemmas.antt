@@ -18,7 +18,7 @@ use Rattle.mdi_items.specs.declared.fault.MdiFault.{MdiFault}
 use Rattle.mdi_items.specs.declared.fault.MdiFault.TheVariants as fault
 use Rattle.mdi_items.specs.Names.{name_at, fac_, sdci, robm, sdc_, str}
 use Rattle.mdi_items.specs.Frame.{bytes_at, block_bits}
-use Rattle.mdi_items.specs.Table.{Row, Absent, OtherLength, OtherProtocol, NoFac, Hierarchical, NoDescription, NoMode, BlockAbsent, BlockOutOfPlace, NoBlock, StreamAbsent, StreamBits, StreamOtherLength, Applies, NoneApplies, IsFirstFault, HasFac}
+use Rattle.mdi_items.specs.Table.{Row, Absent, OtherLength, OtherProtocol, NoFac, Hierarchical, NoDescription, NoMode, BlockAbsent, BlockOutOfPlace, NoBlock, StreamAbsent, StreamBits, StreamOtherLength, RowApplies, NoneApplies, IsFirstFault, HasFac}
 use Rattle.mdi_items.proofs.TableLemmas.{one_place, one_value, one_mux}
 
 pub one_fac_there : (payload : List ℕ) (known : List (Option Found)) (f g : Fac) → HasFac payload known f → HasFac payload known g → f ≡ g
@@ -36,7 +36,7 @@ one_sdci_fault bits bytes SdciFront g h k = absurd k
 one_sdci_fault bits bytes f g h k = absurd h
 
 -- a row names one fault
-one_applies : (payload : List ℕ) (known : List (Option Found)) (row : Row) (f g : MdiFault) → Applies payload known row f → Applies payload known row g → f ≡ g
+one_applies : (payload : List ℕ) (known : List (Option Found)) (row : Row) (f g : MdiFault) → RowApplies payload known row f → RowApplies payload known row g → f ≡ g
 one_applies payload known (Absent k) f g h j = h.1 ∙ sym j.1
 one_applies payload known (OtherLength k bits) f g (a, at, ne, is) (b, at', ne', is') =
     is ∙ (ap (λ (x : Found). fault.ItemLength (name_at k) x.bits) (one_place known k a b at at') ∙ sym is')

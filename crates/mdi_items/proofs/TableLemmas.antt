@@ -6,7 +6,7 @@ use Rattle.dcp_tag.specs.Tag.{TagItem}
 use Rattle.mdi_items.specs.declared.known.Found.{Found}
 use Rattle.mdi_items.specs.declared.fault.MdiFault.{MdiFault}
 use Rattle.mdi_items.specs.Items.{known_of}
-use Rattle.mdi_items.specs.Frame.{Frame, Says, IsAt, HasBytes, bytes_at}
+use Rattle.mdi_items.specs.Frame.{Frame, FrameSays, IsAt, HasBytes, bytes_at}
 use Rattle.mdi_items.specs.Mdi.{AreItems, IsMdi, IsMdiFault}
 use Rattle.mdi_items.specs.Streams.{IsRight, IsStreamFault, AreRight, IsStreamsFault}
 use Rattle.mdi_items.specs.Table.{Row, NoneApplies, IsFirstFault, LacksStream, HasOtherBits, HasOtherLength, HasDescription, ptr_rows, dlfc_rows, fac_rows, sdci_rows, robm_rows, sdc_rows, stream_rows, streams_rows, table}
@@ -97,13 +97,13 @@ after_ptr = dlfc_rows ++ after_dlfc
 pub in_table : (payload : List ℕ) (known : List (Option Found)) (f : MdiFault) → (items : List TagItem) × AreItems items payload × (known ≡ known_of items) → IsFirstFault payload known table f → IsMdiFault payload f
 in_table payload known f (items, are, is) first = inr (items, are, subst (λ (l : List (Option Found)). IsFirstFault payload l table f) is first)
 
-pub is_mdi : (payload : List ℕ) (known : List (Option Found)) (frame : Frame) → (items : List TagItem) × AreItems items payload × (known ≡ known_of items) → NoneApplies payload known table → Says payload known frame
+pub is_mdi : (payload : List ℕ) (known : List (Option Found)) (frame : Frame) → (items : List TagItem) × AreItems items payload × (known ≡ known_of items) → NoneApplies payload known table → FrameSays payload known frame
     → IsMdi frame payload
 is_mdi payload known frame (items, are, is) none says = record {
   items = items;
   are_items = are;
   faultless = subst (λ (l : List (Option Found)). NoneApplies payload l table) is none;
-  says = subst (λ (l : List (Option Found)). Says payload l frame) is says;
+  says = subst (λ (l : List (Option Found)). FrameSays payload l frame) is says;
 }
 
 pub ptr_fault : (payload : List ℕ) (known : List (Option Found)) (f : MdiFault) → IsFirstFault payload known ptr_rows f → IsFirstFault payload known table f

@@ -7,13 +7,13 @@ use Rattle.drm_bits.proofs.BitsLemmas.{length-bits_of}
 use Rattle.dcp_tag.specs.declared.items.Item.{Item}
 use Rattle.dcp_tag.specs.Tag.{TagItem, bytes_for, head, IsPayload, IsCut}
 use Rattle.dcp_tag.specs.Place.{Place, left}
-use Rattle.dcp_tag.specs.Reading.{tag_of, Gives}
+use Rattle.dcp_tag.specs.Reading.{tag_of, GivesItem}
 use Rattle.mdi_items.specs.declared.known.Found.{Found}
 use Rattle.mdi_items.specs.declared.fault.MdiFault.{MdiFault}
 use Rattle.mdi_items.specs.declared.fault.MdiFault.TheVariants as fault
 use Rattle.mdi_items.specs.Names.{name_at}
-use Rattle.mdi_items.specs.Items.{total, find_from, known_of, IsRepeat, AreOnce, Begins, AreThenFault}
-use Rattle.mdi_items.specs.Noting.{Notes, IsNoted}
+use Rattle.mdi_items.specs.Items.{total, find_from, known_of, IsRepeat, AreOnce, BeginsWithItem, AreThenFault}
+use Rattle.mdi_items.specs.Noting.{NotesItem, IsNoted}
 use Rattle.mdi_items.specs.Mdi.{AreItems}
 use Rattle.mdi_items.proofs.FindLemmas.{total-push, known-other, known-push, known_at}
 
@@ -37,10 +37,10 @@ walk_start payload place known is none =
     }
 
 -- the bits of an item that is given
-bits_are : (item : Item) (old new : Place) → Gives item old new → length (tag_of item).value ≡ item.bits
+bits_are : (item : Item) (old new : Place) → GivesItem item old new → length (tag_of item).value ≡ item.bits
 bits_are item old new g = length-take-le item.bits (bits_of item.value.now) (omega (arith, length-bits_of item.value.now, g.size))
 
-begins : (item : Item) (old new : Place) → Gives item old new → Begins (tag_of item) (left old) (left new)
+begins : (item : Item) (old new : Place) → GivesItem item old new → BeginsWithItem (tag_of item) (left old) (left new)
 begins item old new g = record {
   spelling = head item.name item.bits ++ item.value.now;
   stands = g.begins.stands ∙ sym (append_assoc (head item.name item.bits) item.value.now (left new));
@@ -51,7 +51,7 @@ not_some : (o : Option Found) → o ≡ None → IsSome o → ⊥
 not_some None is h = cc
 not_some (Some x) is h = cc
 
-not_repeat : (given : List TagItem) (t : TagItem) (found : Found) (known new : List (Option Found)) → known ≡ known_of given → Notes t.name found known new → IsRepeat given t → ⊥
+not_repeat : (given : List TagItem) (t : TagItem) (found : Found) (known new : List (Option Found)) → known ≡ known_of given → NotesItem t.name found known new → IsRepeat given t → ⊥
 not_repeat given t found known new is (inl other) repeat = other.0 repeat.0
 not_repeat given t found known new is (inr (k, lt, named, none, set)) repeat =
     let here : find_from 0 t.name given ≡ None =
@@ -59,14 +59,14 @@ not_repeat given t found known new is (inr (k, lt, named, none, set)) repeat =
     not_some _ here repeat.1
 
 known_then : (given : List TagItem) (t : TagItem) (found : Found) (known new : List (Option Found)) → known ≡ known_of given → found ≡ record { at = 0 + total given + 8; bits = length t.value }
-    → Notes t.name found known new → new ≡ known_of (given ++ t ∷ [])
+    → NotesItem t.name found known new → new ≡ known_of (given ++ t ∷ [])
 known_then given t found known new is place (inl other) = other.1 ∙ (is ∙ sym (known-other given t other.0))
 known_then given t found known new is place (inr (k, lt, named, none, now)) =
     let here : find_from 0 (name_at k) given ≡ None = sym (known_at given k lt) ∙ (ap (λ (l : List (Option Found)). get_or l k None) (sym is) ∙ none) in
     now ∙ (ap (λ (l : List (Option Found)). set l k (Some found)) is ∙ (ap (λ (x : Found). set (known_of given) k (Some x)) place ∙ sym (known-push given t k lt named here)))
 
-pub walk_step : (payload : List ℕ) (old new : Place) (known then : List (Option Found)) (item : Item) → Walked payload old known → Gives item old new
-    → Notes item.name (record { at = item.at; bits = item.bits }) known then → Walked payload new then
+pub walk_step : (payload : List ℕ) (old new : Place) (known then : List (Option Found)) (item : Item) → Walked payload old known → GivesItem item old new
+    → NotesItem item.name (record { at = item.at; bits = item.bits }) known then → Walked payload new then
 walk_step payload old new known then item w g notes =
     let t : TagItem = tag_of item in
     let bits : length t.value ≡ item.bits = bits_are item old new g in
@@ -88,7 +88,7 @@ pub walk_cut : (payload : List ℕ) (place : Place) (known : List (Option Found)
     → (items : List TagItem) × AreThenFault [] items payload (fault.Tag (record { at = at }))
 walk_cut payload place known at w cut is = w.faulty [] (fault.Tag (record { at = at })) (cut, is ∙ w.at)
 
-pub walk_twice : (payload : List ℕ) (old new : Place) (known : List (Option Found)) (item : Item) (f : MdiFault) → Walked payload old known → Gives item old new → IsNoted item.name known f
+pub walk_twice : (payload : List ℕ) (old new : Place) (known : List (Option Found)) (item : Item) (f : MdiFault) → Walked payload old known → GivesItem item old new → IsNoted item.name known f
     → (items : List TagItem) × AreThenFault [] items payload f
 walk_twice payload old new known item f w g (k, lt, named, there, is) =
     let here : get_or known k None ≡ find_from 0 item.name w.given =

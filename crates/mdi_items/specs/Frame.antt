@@ -83,7 +83,7 @@ IsBlockSpan payload known (Some span) =
     × (span ≡ record { at = found.at; bits = found.bits; info = info_of block (block_bits payload found) is })
 
 -- The frame says what the items say.
-pub record Says (payload : List ℕ) (known : List (Option Found)) (frame : Frame) : Type 0 where
+pub record FrameSays (payload : List ℕ) (known : List (Option Found)) (frame : Frame) : Type 0 where
   pub pointer : List ℕ
   pub pointer_stands : HasBytes payload known ptr pointer
   pub major : frame.major ≡ from_be_bytes w16 (slice_range pointer 4 6)

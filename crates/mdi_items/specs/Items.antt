@@ -24,7 +24,7 @@ find_from from name (item ∷ items) =
     if pointwise nat_eq item.name name then Some (record { at = from + 8; bits = length item.value }) else find_from (from + size item) name items
 
 -- One of the items has the name, and its value stands where it is found: these are its bits in the payload.
-pub record Stands (items : List TagItem) (name payload : List ℕ) (from : ℕ) (found : Found) : Type 0 where
+pub record ItemStands (items : List TagItem) (name payload : List ℕ) (from : ℕ) (found : Found) : Type 0 where
   pub before : List TagItem
   pub item : TagItem
   pub after : List TagItem
@@ -52,7 +52,7 @@ AreOnce before [] = Unit {0}
 AreOnce before (item ∷ items) = (¬ IsRepeat before item) × AreOnce (before ++ item ∷ []) items
 
 -- An item stands at the front of the bytes, and then the rest.
-pub record Begins (item : TagItem) (bytes rest : List ℕ) : Type 0 where
+pub record BeginsWithItem (item : TagItem) (bytes rest : List ℕ) : Type 0 where
   pub spelling : List ℕ
   pub stands : bytes ≡ spelling ++ rest
   pub spelled : IsSpelling item spelling
@@ -60,11 +60,11 @@ pub record Begins (item : TagItem) (bytes rest : List ℕ) : Type 0 where
 -- The next item, behind those before it, is cut, or has a known name for the second time.
 abbrev pub IsNextFault : List TagItem → List ℕ → MdiFault → Type 0
 IsNextFault before bytes (fault.Tag cut) = IsCut bytes × (cut.at ≡ total before)
-IsNextFault before bytes (fault.Twice name) = (item : TagItem) × (rest : List ℕ) × Begins item bytes rest × IsRepeat before item × (name ≡ item.name)
+IsNextFault before bytes (fault.Twice name) = (item : TagItem) × (rest : List ℕ) × BeginsWithItem item bytes rest × IsRepeat before item × (name ≡ item.name)
 IsNextFault before bytes _ = ⊥
 
 -- The items stand in the bytes one after another, behind those before them, and then there is this fault, the first one.
 abbrev pub AreThenFault : List TagItem → List TagItem → List ℕ → MdiFault → Type 0
 AreThenFault before [] bytes f = IsNextFault before bytes f
 AreThenFault before (item ∷ items) bytes f =
-    (rest : List ℕ) × Begins item bytes rest × (¬ IsRepeat before item) × AreThenFault (before ++ item ∷ []) items rest f
+    (rest : List ℕ) × BeginsWithItem item bytes rest × (¬ IsRepeat before item) × AreThenFault (before ++ item ∷ []) items rest f

@@ -3,7 +3,7 @@ use Rattle.std.specs.Prelude.{ℕ, ◌⊎◌, List, []}
 use Rattle.dcp_tag.specs.Tag.{TagItem, IsPayload}
 use Rattle.mdi_items.specs.declared.fault.MdiFault.{MdiFault}
 use Rattle.mdi_items.specs.Items.{AreOnce, AreThenFault, known_of}
-use Rattle.mdi_items.specs.Frame.{Frame, Says}
+use Rattle.mdi_items.specs.Frame.{Frame, FrameSays}
 use Rattle.mdi_items.specs.Table.{table, NoneApplies, IsFirstFault}
 
 -- The payload is that of these items, in any order, of which none has a known name a second time.
@@ -16,7 +16,7 @@ pub record IsMdi (frame : Frame) (payload : List ℕ) : Type 0 where
   pub items : List TagItem
   pub are_items : AreItems items payload
   pub faultless : NoneApplies payload (known_of items) table
-  pub says : Says payload (known_of items) frame
+  pub says : FrameSays payload (known_of items) frame
 
 -- The first fault of a payload: in the order of the items, and then that of the table.
 abbrev pub IsMdiFault : List ℕ → MdiFault → Type 0

@@ -7,8 +7,8 @@ use Rattle.mdi_items.specs.Names.{name_at}
 use Rattle.mdi_items.specs.Items.{IsKnown}
 
 -- The item of this name is now found, or its name isn't known.
-abbrev pub Notes : List ℕ → Found → List (Option Found) → List (Option Found) → Type 0
-Notes name found old new =
+abbrev pub NotesItem : List ℕ → Found → List (Option Found) → List (Option Found) → Type 0
+NotesItem name found old new =
     ((¬ IsKnown name) × (new ≡ old)) ⊎ ((k : ℕ) × (k < 10) × (name_at k ≡ name) × (slice_index_or old k None ≡ None) × (new ≡ slice_set old k (Some found)))
 
 -- There is one of this name already.

@@ -90,34 +90,34 @@ HasOtherLength known d k f =
     × (f ≡ fault.Mux (StreamLength k (found.bits / 8) (stream_length d k)))
 
 -- The row applies, with this fault.
-abbrev pub Applies : List ℕ → List (Option Found) → Row → MdiFault → Type 0
-Applies payload known (Absent k) f = (slice_index_or known k None ≡ None) × (f ≡ fault.Absent (name_at k))
-Applies payload known (OtherLength k bits) f = (found : Found) × IsAt known k found × (found.bits ≢ bits) × (f ≡ fault.ItemLength (name_at k) found.bits)
-Applies payload known OtherProtocol f = (bytes : List ℕ) × HasBytes payload known ptr bytes × (take 4 bytes ≢ codes "DMDI") × (f ≡ fault.Protocol)
-Applies payload known NoFac f = (bytes : List ℕ) × (cause : FacFault) × HasBytes payload known fac_ bytes × IsFault bytes cause × (f ≡ fault.Fac cause)
-Applies payload known Hierarchical f =
+abbrev pub RowApplies : List ℕ → List (Option Found) → Row → MdiFault → Type 0
+RowApplies payload known (Absent k) f = (slice_index_or known k None ≡ None) × (f ≡ fault.Absent (name_at k))
+RowApplies payload known (OtherLength k bits) f = (found : Found) × IsAt known k found × (found.bits ≢ bits) × (f ≡ fault.ItemLength (name_at k) found.bits)
+RowApplies payload known OtherProtocol f = (bytes : List ℕ) × HasBytes payload known ptr bytes × (take 4 bytes ≢ codes "DMDI") × (f ≡ fault.Protocol)
+RowApplies payload known NoFac f = (bytes : List ℕ) × (cause : FacFault) × HasBytes payload known fac_ bytes × IsFault bytes cause × (f ≡ fault.Fac cause)
+RowApplies payload known Hierarchical f =
     (fac : Fac) × HasFac payload known fac × ((fac.channel.msc ≡ 1) ⊎ (fac.channel.msc ≡ 2)) × (f ≡ fault.Hierarchical fac.channel.msc)
-Applies payload known NoDescription f =
+RowApplies payload known NoDescription f =
     (found : Found) × (cause : MuxFault) × IsAt known sdci found × IsSdciFault found.bits (bytes_at payload found) cause × (f ≡ fault.Mux cause)
-Applies payload known NoMode f = (code : ℕ) × HasBytes payload known robm (code ∷ []) × (3 < code) × (f ≡ fault.Mode code)
-Applies payload known BlockAbsent f =
+RowApplies payload known NoMode f = (code : ℕ) × HasBytes payload known robm (code ∷ []) × (3 < code) × (f ≡ fault.Mode code)
+RowApplies payload known BlockAbsent f =
     (fac : Fac) × HasFac payload known fac × IsFirst fac × (bits_there (slice_index_or known sdc_ None) ≡ 0) × (f ≡ fault.Absent (name_at sdc_))
-Applies payload known BlockOutOfPlace f =
+RowApplies payload known BlockOutOfPlace f =
     (fac : Fac) × (found : Found) × HasFac payload known fac × (¬ IsFirst fac) × IsAt known sdc_ found × (found.bits ≢ 0)
     × (f ≡ fault.ItemLength (name_at sdc_) found.bits)
-Applies payload known NoBlock f =
+RowApplies payload known NoBlock f =
     (found : Found) × (cause : SdcFault) × IsAt known sdc_ found × (found.bits ≢ 0) × IsBlockFault (block_bits payload found) cause × (f ≡ fault.Sdc cause)
-Applies payload known (StreamAbsent k) f = (d : MuxDesc) × HasDescription payload known d × LacksStream known d k f
-Applies payload known (StreamBits k) f = (d : MuxDesc) × HasDescription payload known d × HasOtherBits known d k f
-Applies payload known (StreamOtherLength k) f = (d : MuxDesc) × HasDescription payload known d × HasOtherLength known d k f
+RowApplies payload known (StreamAbsent k) f = (d : MuxDesc) × HasDescription payload known d × LacksStream known d k f
+RowApplies payload known (StreamBits k) f = (d : MuxDesc) × HasDescription payload known d × HasOtherBits known d k f
+RowApplies payload known (StreamOtherLength k) f = (d : MuxDesc) × HasDescription payload known d × HasOtherLength known d k f
 
 -- no row of the list applies
 abbrev pub NoneApplies : List ℕ → List (Option Found) → List Row → Type 0
 NoneApplies payload known [] = Unit {0}
-NoneApplies payload known (row ∷ rows) = ((f : MdiFault) → ¬ Applies payload known row f) × NoneApplies payload known rows
+NoneApplies payload known (row ∷ rows) = ((f : MdiFault) → ¬ RowApplies payload known row f) × NoneApplies payload known rows
 
 -- the fault is that of the first row that applies
 abbrev pub IsFirstFault : List ℕ → List (Option Found) → List Row → MdiFault → Type 0
 IsFirstFault payload known [] f = ⊥
 IsFirstFault payload known (row ∷ rows) f =
-    Applies payload known row f ⊎ (((g : MdiFault) → ¬ Applies payload known row g) × IsFirstFault payload known rows f)
+    RowApplies payload known row f ⊎ (((g : MdiFault) → ¬ RowApplies payload known row g) × IsFirstFault payload known rows f)

@@ -52,7 +52,7 @@ fn is_first(fac: &Fac) -> bool
 
 // The item, where it is there and has bits.
 fn with_bits(there: Option<Found>) -> Option<Found>
-    ensures some { IfSome result (λ found. (there ≡ Some found) × (found.bits ≢ 0)) }
+    ensures found { IfSome result (λ found. (there ≡ Some found) × (found.bits ≢ 0)) }
     ensures none { IfNone result (bits_there there ≡ 0) }
 {
     match there {

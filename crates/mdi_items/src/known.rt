@@ -5,7 +5,7 @@ ghost use Rattle.dcp_tag.specs.Tag.{TagItem};
 ghost use Rattle.mdi_items.specs.Items.{AreThenFault, known_of};
 ghost use Rattle.mdi_items.specs.Frame.{AreInside};
 ghost use Rattle.mdi_items.specs.Mdi.{AreItems};
-ghost use Rattle.mdi_items.specs.Noting.{Notes, IsNoted};
+ghost use Rattle.mdi_items.specs.Noting.{NotesItem, IsNoted};
 
 use crate::MdiFault;
 use crate::names::place_of;
@@ -48,7 +48,7 @@ pub(crate) fn gather(payload: &[u8]) -> Result<Known, MdiFault>
 
 // Keeps where an item stands, if its name is known.
 fn note(known: &mut Known, name: [u8; 4], found: Found) -> Result<(), MdiFault>
-    ensures noted { OnOk result (Notes name found known.old known.new) }
+    ensures noted { OnOk result (NotesItem name found known.old known.new) }
     ensures twice { IfErr result (IsNoted name known.old) }
     ensures unchanged { OnErr result (known.new ≡ known.old) }
 {

@@ -87,7 +87,7 @@ impl<'a> MdiWriter<'a> {
         requires stream { k < 4 }
         requires head { sdc_ ≤ next self.old }
         requires order { next self.old ≤ str k }
-        requires few { length bytes.now < 2 ^ 29 }
+        requires within_limit { length bytes.now < 2 ^ 29 }
         requires room { 8 + length bytes.now ≤ length (behind self.old) }
         ensures written { written self.new ≡ written self.old ++ spelled (whole (str k) bytes.now) }
         ensures behind { behind self.new ≡ drop (8 + length bytes.now) (behind self.old) }
@@ -107,11 +107,11 @@ impl<'a> MdiWriter<'a> {
     // Writes an item of whole bytes.
     fn bytes(&mut self, place: usize, value: &[u8])
         requires place { place < 10 }
-        requires few { length value.now < 2 ^ 29 }
+        requires within_limit { length value.now < 2 ^ 29 }
         requires room { 8 + length value.now ≤ length (behind self.old) }
         ensures written { written self.new ≡ written self.old ++ spelled (whole place value.now) }
         ensures behind { behind self.new ≡ drop (8 + length value.now) (behind self.old) }
-        ensures left { length (behind self.new) + (8 + length value.now) ≡ length (behind self.old) }
+        ensures remaining { length (behind self.new) + (8 + length value.now) ≡ length (behind self.old) }
         ensures next { next self.new ≡ place + 1 }
         ensures same_reference { lender self.new ≡ lender self.old }
     {
@@ -125,7 +125,7 @@ impl<'a> MdiWriter<'a> {
         requires room { 8 + length value.now ≤ length (behind self.old) }
         ensures written { written self.new ≡ written self.old ++ spelled (record { place = place; bits = bits; value = value.now }) }
         ensures behind { behind self.new ≡ drop (8 + length value.now) (behind self.old) }
-        ensures left { length (behind self.new) + (8 + length value.now) ≡ length (behind self.old) }
+        ensures remaining { length (behind self.new) + (8 + length value.now) ≡ length (behind self.old) }
         ensures next { next self.new ≡ place + 1 }
         ensures same_reference { lender self.new ≡ lender self.old }
     {

@@ -7,7 +7,7 @@ use Rattle.drm_reconfiguration.specs.declared.tracker.Before.{Before}
 use Rattle.drm_reconfiguration.specs.Tracker.{TrackerState, new_tracker, answered, answers, stepped}
 use Rattle.drm_reconfiguration.proofs.TrackerLemmas.{tells_the_switches}
 use Rattle.mod_feed.specs.Items.{Item, number_of, seen_in}
-use Rattle.mod_feed.specs.Feeding.{FeedStep, IsStep, after_step, Feeds, told_before, all_seen, IsOneFeeding, FeedingJoins, FeedTellsTheSwitches}
+use Rattle.mod_feed.specs.Feeding.{FeedStep, IsStep, after_step, FeedAnswers, told_before, all_seen, IsOneFeeding, FeedingJoins, FeedTellsTheSwitches}
 use Rattle.mod_feed.proofs.ItemLemmas.{item_is_one}
 
 one_step : (feed : TrackerState) (given : Given) (step other : FeedStep) → IsStep feed given step → IsStep feed given other → other ≡ step
@@ -25,20 +25,20 @@ feeding_is_one feed after after' (given ∷ more) [] steps' h k = absurd h
 feeding_is_one feed after after' (given ∷ more) (step ∷ steps) [] h k = absurd k
 feeding_is_one feed after after' (given ∷ more) (step ∷ steps) (step' ∷ steps') h k =
     let same : step' ≡ step = one_step feed given step step' h.0 k.0 in
-    let rest : Feeds (after_step feed step) more steps' after' =
-    subst (λ (s : FeedStep). Feeds (after_step feed s) more steps' after') same k.1 in
+    let rest : FeedAnswers (after_step feed step) more steps' after' =
+    subst (λ (s : FeedStep). FeedAnswers (after_step feed s) more steps' after') same k.1 in
     let r = feeding_is_one (after_step feed step) after after' more steps steps' h.1 rest in
     (ap₂ (λ (s : FeedStep) (ss : List FeedStep). s ∷ ss) same r.0, r.1)
 
 pub feedings_join : FeedingJoins
-feedings_join feed mid after [] more [] later h k = subst (λ (f : TrackerState). Feeds f more later after) h k
+feedings_join feed mid after [] more [] later h k = subst (λ (f : TrackerState). FeedAnswers f more later after) h k
 feedings_join feed mid after [] more (step ∷ steps) later h k = absurd h
 feedings_join feed mid after (given ∷ others) more [] later h k = absurd h
 feedings_join feed mid after (given ∷ others) more (step ∷ steps) later h k =
     (h.0, feedings_join (after_step feed step) mid after others more steps later h.1 k)
 
 -- what is told is what the tracker answers to what is seen
-told_is : (feed after : TrackerState) (given : List Given) (steps : List FeedStep) → Feeds feed given steps after → told_before steps ≡ answers feed (all_seen steps)
+told_is : (feed after : TrackerState) (given : List Given) (steps : List FeedStep) → FeedAnswers feed given steps after → told_before steps ≡ answers feed (all_seen steps)
 told_is feed after [] [] h = refl
 told_is feed after [] (step ∷ steps) h = absurd h
 told_is feed after (given ∷ more) [] h = absurd h
@@ -46,7 +46,7 @@ told_is feed after (given ∷ more) (step ∷ steps) h =
     ap₂ (λ (b : Option Before) (bs : List (Option Before)). b ∷ bs) h.0.before (told_is (after_step feed step) after more steps h.1)
 
 -- each item is seen once
-length-seen : (feed after : TrackerState) (given : List Given) (steps : List FeedStep) → Feeds feed given steps after → length (all_seen steps) ≡ length given
+length-seen : (feed after : TrackerState) (given : List Given) (steps : List FeedStep) → FeedAnswers feed given steps after → length (all_seen steps) ≡ length given
 length-seen feed after [] [] h = refl
 length-seen feed after [] (step ∷ steps) h = absurd h
 length-seen feed after (given ∷ more) [] h = absurd h
@@ -77,7 +77,7 @@ stepped_calls feed None = refl
 stepped_calls feed (Some seen) = refl
 
 -- a feed makes as many calls as items are given to it
-pub feeds_calls : (feed after : TrackerState) (given : List Given) (steps : List FeedStep) → Feeds feed given steps after → after.calls ≡ feed.calls + length given
+pub feeds_calls : (feed after : TrackerState) (given : List Given) (steps : List FeedStep) → FeedAnswers feed given steps after → after.calls ≡ feed.calls + length given
 feeds_calls feed after [] [] h = ap (λ (s : TrackerState). s.calls) h ∙ omega arith
 feeds_calls feed after [] (step ∷ steps) h = absurd h
 feeds_calls feed after (g ∷ given) [] h = absurd h

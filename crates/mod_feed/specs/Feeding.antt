@@ -36,11 +36,11 @@ abbrev pub after_step : TrackerState → FeedStep → TrackerState
 after_step feed step = stepped feed (seen_in step.item)
 
 -- a feed answers one after another by these steps, and is then left so
-abbrev pub Feeds : TrackerState → List Given → List FeedStep → TrackerState → Type 0
-Feeds feed [] [] after = after ≡ feed
-Feeds feed [] (step ∷ steps) after = ⊥
-Feeds feed (given ∷ more) [] after = ⊥
-Feeds feed (given ∷ more) (step ∷ steps) after = IsStep feed given step × Feeds (after_step feed step) more steps after
+abbrev pub FeedAnswers : TrackerState → List Given → List FeedStep → TrackerState → Type 0
+FeedAnswers feed [] [] after = after ≡ feed
+FeedAnswers feed [] (step ∷ steps) after = ⊥
+FeedAnswers feed (given ∷ more) [] after = ⊥
+FeedAnswers feed (given ∷ more) (step ∷ steps) after = IsStep feed given step × FeedAnswers (after_step feed step) more steps after
 
 -- what stands before the items, and what was seen in them
 abbrev pub told_before : List FeedStep → List (Option Before)
@@ -57,18 +57,18 @@ IsOneItem = (given : Given) (item other : Item) → IsItemOf given item → IsIt
 abbrev pub IsOneFeeding : Type 0
 IsOneFeeding =
     (feed after after' : TrackerState) (given : List Given) (steps steps' : List FeedStep)
-    → Feeds feed given steps after → Feeds feed given steps' after' → (steps' ≡ steps) × (after' ≡ after)
+    → FeedAnswers feed given steps after → FeedAnswers feed given steps' after' → (steps' ≡ steps) × (after' ≡ after)
 
 -- Steps one after another are steps.
 abbrev pub FeedingJoins : Type 0
 FeedingJoins =
     (feed mid after : TrackerState) (given more : List Given) (steps later : List FeedStep)
-    → Feeds feed given steps mid → Feeds mid more later after → Feeds feed (given ++ more) (steps ++ later) after
+    → FeedAnswers feed given steps mid → FeedAnswers mid more later after → FeedAnswers feed (given ++ more) (steps ++ later) after
 
 -- Whatever a new feed is given, what it tells before item k is what stands there in the list of all that was seen, and
 -- nothing else.
 abbrev pub FeedTellsTheSwitches : Type 0
 FeedTellsTheSwitches =
-    (given : List Given) (steps : List FeedStep) (after : TrackerState) → Feeds new_tracker given steps after
+    (given : List Given) (steps : List FeedStep) (after : TrackerState) → FeedAnswers new_tracker given steps after
     → (k : ℕ) (before : Option Before)
     → (slice_get (told_before steps) k ≡ Some before) ↔ ((k < length given) × StandsBefore (all_seen steps) k before)

@@ -4,13 +4,13 @@ use Rattle.drm_schedule.specs.declared.invalid.Reason.{Reason}
 use Rattle.plan_grammar.specs.declared.fault.LineFault.{LineFault}
 use Rattle.plan_grammar.specs.declared.fault.LineFault.TheVariants.{NoMemory, Broken}
 
-abbrev pub Fails : {X : Type 0} → LineFault → Result X Reason → Type 0
-Fails NoMemory read = Unit {0}
-Fails (Broken reason) read = read ≡ Err reason
+abbrev pub ReaderFails : {X : Type 0} → LineFault → Result X Reason → Type 0
+ReaderFails NoMemory read = Unit {0}
+ReaderFails (Broken reason) read = read ≡ Err reason
 
-abbrev pub Gives : {X : Type 0} → Result X LineFault → Result X Reason → Type 0
-Gives (Ok x) read = read ≡ Ok x
-Gives (Err fault) read = Fails fault read
+abbrev pub ReaderGives : {X : Type 0} → Result X LineFault → Result X Reason → Type 0
+ReaderGives (Ok x) read = read ≡ Ok x
+ReaderGives (Err fault) read = ReaderFails fault read
 
 -- what is said of a fault of the line itself
 abbrev pub OnBroken : LineFault → (Reason → Type 0) → Type 0

@@ -8,7 +8,7 @@ use Rattle.plan_grammar.specs.declared.fault.LineFault.{LineFault}
 use Rattle.plan_grammar.specs.declared.fault.LineFault.TheVariants as line_faults
 use Rattle.plan_grammar.specs.declared.line.Line.{Line}
 use Rattle.plan_grammar.specs.declared.first_word.Keyword.{Keyword}
-use Rattle.plan_grammar.specs.Gives.{Gives}
+use Rattle.plan_grammar.specs.Gives.{ReaderGives}
 use Rattle.plan_grammar.proofs.Clean.{IsClean}
 use Rattle.plan_grammar.specs.Lines.{shape_of}
 use Rattle.plan_grammar.specs.Said.{keyword_said, LineInLines}
@@ -91,10 +91,10 @@ refuses read n k (Some s) reason p whole e made =
 abbrev err_line : LineFault → Result Line LineFault
 err_line x = Err x
 
-pub gives_broken : (line : Result Line LineFault) (f : LineFault) (reason : Reason) (said : Result Line Reason) → line ≡ Err f → f ≡ line_faults.Broken reason → Gives line said → said ≡ Err reason
+pub gives_broken : (line : Result Line LineFault) (f : LineFault) (reason : Reason) (said : Result Line Reason) → line ≡ Err f → f ≡ line_faults.Broken reason → ReaderGives line said → said ≡ Err reason
 gives_broken line f reason said is broken_is gives =
     let whole : line ≡ Err (line_faults.Broken reason) = is ∙ ap (λ (x : LineFault). err_line x) broken_is in
-    subst (λ (x : Result Line LineFault). Gives x said) whole gives
+    subst (λ (x : Result Line LineFault). ReaderGives x said) whole gives
 
 -- a config line that ends a configuration before its time
 pub ends_early : (read : Read) (n : ℕ) (k : Keyword) (s : Option Shape) → ends_incomplete read k ≡ true → said_shape read n k s ≡ Err (fault (current_line read.current) reasons.Missing)
@@ -106,11 +106,11 @@ said_is k None l says e = absurd cc
 said_is k (Some s) l says e = ap keyword_said (sym (both_fine (not (list_all (λ p. p.is_spelled) s.parts)) (not (list_all (λ p. p.in_range) s.parts)) s.says l e).is_line) ∙ says
 
 -- what is read is a line of its keyword
-pub gives_keyword : (k : Keyword) (s : Option Shape) (r : Result Line LineFault) → SaysKeyword k s → Gives r (reading s) → IfOk r (λ l. keyword_said l ≡ k)
+pub gives_keyword : (k : Keyword) (s : Option Shape) (r : Result Line LineFault) → SaysKeyword k s → ReaderGives r (reading s) → IfOk r (λ l. keyword_said l ≡ k)
 gives_keyword k s (Ok l) says gives = said_is k s l says gives
 gives_keyword k s (Err f) says gives = tt
 
 -- what is read of a clean line is what a line can give
-pub gives_fits : (k : Keyword) (line : List ℕ) (words : List (List ℕ)) (r : Result Line LineFault) → IsClean line words → Gives r (reading (shape_of k line words)) → IfOk r LineInLines
+pub gives_fits : (k : Keyword) (line : List ℕ) (words : List (List ℕ)) (r : Result Line LineFault) → IsClean line words → ReaderGives r (reading (shape_of k line words)) → IfOk r LineInLines
 gives_fits k line words (Ok l) clean gives = line_fits k line words l clean gives
 gives_fits k line words (Err f) clean gives = tt

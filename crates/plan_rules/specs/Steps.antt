@@ -21,12 +21,12 @@ abbrev pub FailsAs : {X : Type 0} → PlanFault → Result X Fault → Type 0
 FailsAs p read = FailsAt (told p) read
 
 -- the lines read on, or failed at their first fault, unless memory ran out
-abbrev pub Steps : Result (Unit {0}) PlanFault → Read → Result Read Fault → Type 0
-Steps r new said = LeavesSaid told r new said
+abbrev pub LinesStep : Result (Unit {0}) PlanFault → Read → Result Read Fault → Type 0
+LinesStep r new said = LeavesSaid told r new said
 
 -- what is read, or the first fault, unless memory ran out
-abbrev pub Reads : {X : Type 0} → Result X PlanFault → Result X Fault → Type 0
-Reads r said = GivesSaid told r said
+abbrev pub ReadsLines : {X : Type 0} → Result X PlanFault → Result X Fault → Type 0
+ReadsLines r said = GivesSaid told r said
 
 abbrev pub check_rows : Bool → Bool → Bool → ℕ → Result (Unit {0}) PlanFault
 check_rows misplaced second full n =

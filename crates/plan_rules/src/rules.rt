@@ -3,13 +3,13 @@
 ghost use Rattle.std.specs.Prelude.{◌≡◌, ◌||◌, ◌<◌, ◌^◌, ◌-◌, false, length, map, List, ℕ, ◌∷◌, All, Option, IfOk, OnOk};
 ghost use Rattle.text_lines.specs.Lines.{words_of};
 ghost use Rattle.plan_grammar.specs.Shape.{Shape, reading};
-ghost use Rattle.plan_grammar.specs.Gives.{Gives};
+ghost use Rattle.plan_grammar.specs.Gives.{ReaderGives};
 ghost use Rattle.plan_grammar.specs.Said.{LineInLines, keyword_said};
 ghost use Rattle.plan_rules.specs.InLines.{IsSingle, ReadInLines, EndsComplete};
 ghost use Rattle.plan_grammar.specs.Lines.{shape_of};
 ghost use Rattle.plan_rules.specs.Said.{nothing};
 ghost use Rattle.plan_rules.specs.Rules.{version_in, keyword_in, is_misplaced, in_current, is_second, is_too_many, is_17th, ends_incomplete, current_line, said_shape, said_words, said_line, said_from, said};
-ghost use Rattle.plan_rules.specs.Steps.{Steps, Reads, check_of, refused_of, end_check};
+ghost use Rattle.plan_rules.specs.Steps.{LinesStep, ReadsLines, check_of, refused_of, end_check};
 
 use crate::counts;
 use crate::fault::{PlanFault, at};
@@ -104,7 +104,7 @@ impl Read {
     }
 
     // What is wrong with a line of this keyword, whose words are right.
-    #[tactic(auto, unfolding(crate::specs::Steps::check_of))]
+    #[tactic(auto, unfolding(crate::specs::LinesStep::check_of))]
     fn check(&self, n: u32, keyword: Keyword) -> Result<(), PlanFault>
         ensures { result ≡ check_of self.now n keyword }
     {
@@ -121,7 +121,7 @@ impl Read {
     }
 
     // The fault of a line that has this fault by itself.
-    #[tactic(auto, unfolding(crate::specs::Steps::refused_of))]
+    #[tactic(auto, unfolding(crate::specs::LinesStep::refused_of))]
     fn refused(&self, n: u32, keyword: Keyword, reason: Reason) -> PlanFault
         ensures { result ≡ refused_of self.now n keyword reason }
     {
@@ -140,8 +140,8 @@ impl Read {
         line: Result<Line, LineFault>,
     ) -> Result<(), PlanFault>
         requires { ends_incomplete self.old keyword ≡ false }
-        ensures steps { (s : Option Shape) → Gives line (reading s)
-            → Steps result self.new (said_shape self.old n keyword s) }
+        ensures steps { (s : Option Shape) → ReaderGives line (reading s)
+            → LinesStep result self.new (said_shape self.old n keyword s) }
         ensures kept { IfOk line LineInLines → IfOk line (λ l. keyword_said l ≡ keyword) → ReadInLines self.old
             → OnOk result (ReadInLines self.new) }
     {
@@ -166,7 +166,7 @@ impl Read {
         line: &str,
         words: &[&str],
     ) -> Result<(), PlanFault>
-        ensures steps { Steps result self.new
+        ensures steps { LinesStep result self.new
             (said_shape self.old n keyword (shape_of keyword line.now (map (λ w. w.now) words.now))) }
         ensures kept { (first : List ℕ) → words_of line.now ≡ first ∷ map (λ w. w.now) words.now → IsSingle line.now
             → ReadInLines self.old → OnOk result (ReadInLines self.new) }
@@ -185,7 +185,7 @@ impl Read {
         line: &str,
         words: &[&str],
     ) -> Result<(), PlanFault>
-        ensures steps { Steps result self.new
+        ensures steps { LinesStep result self.new
             (said_words self.old n line.now (map (λ w. w.now) words.now)) }
         ensures kept { words_of line.now ≡ map (λ w. w.now) words.now → IsSingle line.now
             → ReadInLines self.old → OnOk result (ReadInLines self.new) }
@@ -205,7 +205,7 @@ impl Read {
     /// Reads line `n`, from 1.
     #[tactic(auto, unfolding(crate::specs::Rules::said_line))]
     pub fn take(&mut self, alloc: Global, n: u32, line: &str) -> Result<(), PlanFault>
-        ensures steps { Steps result self.new (said_line self.old n line.now) }
+        ensures steps { LinesStep result self.new (said_line self.old n line.now) }
         ensures kept { IsSingle line.now → ReadInLines self.old → OnOk result (ReadInLines self.new) }
     {
         let words = words(alloc, line)?;
@@ -213,7 +213,7 @@ impl Read {
     }
 
     // What the end of a text of `n` lines shows to be missing.
-    #[tactic(auto, unfolding(crate::specs::Steps::end_check))]
+    #[tactic(auto, unfolding(crate::specs::LinesStep::end_check))]
     fn check_end(&self, n: u32) -> Result<(), PlanFault>
         requires { n < 2 ^ 32 - 1 }
         ensures { result ≡ end_check (version_in self.now.front) self.now.current n }
@@ -233,7 +233,7 @@ impl Read {
 // What the lines say, with no look at what is missing at their end.
 fn read_all(alloc: Global, lines: &[&str]) -> Result<Read, PlanFault>
     requires { length lines.now < 2 ^ 32 - 1 }
-    ensures said { Reads result (said_from nothing 1 (map (λ line. line.now) lines.now)) }
+    ensures said { ReadsLines result (said_from nothing 1 (map (λ line. line.now) lines.now)) }
     ensures kept { All (λ line. IsSingle line.now) lines.now → IfOk result ReadInLines }
 {
     let mut read = Read::new(alloc);
@@ -246,7 +246,7 @@ fn read_all(alloc: Global, lines: &[&str]) -> Result<Read, PlanFault>
 /// What the lines of a text say.
 pub fn read_lines(alloc: Global, lines: &[&str]) -> Result<Read, PlanFault>
     requires { length lines.now < 2 ^ 32 - 1 }
-    ensures said { Reads result (said (map (λ line. line.now) lines.now)) }
+    ensures said { ReadsLines result (said (map (λ line. line.now) lines.now)) }
     ensures kept { All (λ line. IsSingle line.now) lines.now → IfOk result ReadInLines }
     ensures whole { IfOk result EndsComplete }
 {

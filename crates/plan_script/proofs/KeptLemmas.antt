@@ -19,7 +19,7 @@ use Rattle.plan_script.specs.declared.line.Delivers.TheVariants as delivers
 use Rattle.text_lines.specs.Faults.{fault, first_fault, ok_unless, ◌>>=◌, lines_say}
 use Rattle.drm_timeline.specs.Numbers.{frame_count}
 use Rattle.plan_script.specs.Script.{Form, Fault, IsDelivery, IsScript, fragment_count, delivery_size, delivery, all_of, delivered, has_packet, in_schedule, in_range, is_feed, is_too_long, form_of, ended, script_of}
-use Rattle.plan_script.specs.Steps.{Reads, to_last, with_line, form_after, words_after, lines_after}
+use Rattle.plan_script.specs.Steps.{ReadsScript, to_last, with_line, form_after, words_after, lines_after}
 use Rattle.plan_script.proofs.SaidLemmas.{script_is}
 
 abbrev AreOf : Plan → List Delivery → Type 0
@@ -164,6 +164,6 @@ script_kept plan lines new e = by (lines_after plan [] 1 lines) refl (sym (scrip
     by (Err p) is all = absurd cc
 
 -- what is read is a script
-pub script_is_one : (plan : Plan) (lines : List (List ℕ)) (r : Result (List (List Delivery)) ScriptFault) → Reads r (script_of plan lines) → IfOk r (IsScript plan)
+pub script_is_one : (plan : Plan) (lines : List (List ℕ)) (r : Result (List (List Delivery)) ScriptFault) → ReadsScript r (script_of plan lines) → IfOk r (IsScript plan)
 script_is_one plan lines (Ok feeds) e = script_kept plan lines feeds e
 script_is_one plan lines (Err p) e = tt

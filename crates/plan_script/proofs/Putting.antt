@@ -16,7 +16,7 @@ use Rattle.plan_script.specs.declared.fault.ScriptFault.TheVariants as faults
 use Rattle.plan_script.specs.declared.feeds.Feeds.{Feeds}
 use Rattle.drm_timeline.specs.Numbers.{frame_count}
 use Rattle.plan_script.specs.Script.{delivery_size, delivery, all_of, fragment_count, has_packet, in_schedule}
-use Rattle.plan_script.specs.Steps.{with_all, is_full, Puts}
+use Rattle.plan_script.specs.Steps.{with_all, is_full, KeepsPackets}
 
 feed_none : (o : Option (List Delivery)) → option_map (λ feed. feed ++ []) o ≡ o
 feed_none None = refl
@@ -51,7 +51,7 @@ pub goes : (plan : Plan) (a rest : List Delivery) (r new whole : Feeds) → with
 goes plan a rest r new whole so_far is = rw is (sym (with_both plan a rest r) ∙ so_far)
 
 -- some aren't kept, and so not all
-pub stops : (p : ScriptFault) (plan : Plan) (n : ℕ) (a rest : List Delivery) (r new other whole : Feeds) → with_all plan (a ++ rest) r ≡ whole → Puts (Err p) n new (with_all plan a r) → Puts (Err p) n other whole
+pub stops : (p : ScriptFault) (plan : Plan) (n : ℕ) (a rest : List Delivery) (r new other whole : Feeds) → with_all plan (a ++ rest) r ≡ whole → KeepsPackets (Err p) n new (with_all plan a r) → KeepsPackets (Err p) n other whole
 stops faults.NoMemory plan n a rest r new other whole so_far e = tt
 stops (faults.Line line reason) plan n a rest r new other whole so_far e = (e.0, e.1, subst (λ (w : Feeds). is_full w ≡ true) so_far (full_on plan a rest r e.2))
 

@@ -14,7 +14,7 @@ use Rattle.plan_script.specs.declared.line.Line.TheVariants as lines
 use Rattle.plan_script.specs.declared.line.Delivers.{Delivers}
 use Rattle.text_lines.specs.Faults.{fault, first_fault, ok_unless}
 use Rattle.plan_script.specs.Script.{Form, Fault, is_too_long, delivered}
-use Rattle.plan_script.specs.Steps.{AreCounted, Begins, Puts, Steps, begun, feeds_in, form_after, reading, to_last, with_all}
+use Rattle.plan_script.specs.Steps.{AreCounted, FeedBegins, KeepsPackets, ScriptSteps, begun, feeds_in, form_after, reading, to_last, with_all}
 use Rattle.plan_script.proofs.RuleLemmas.{left}
 use Rattle.plan_script.proofs.FeedLemmas.{begun_counted, begun_long, more_counted, more_feeds, more_long}
 
@@ -40,8 +40,8 @@ above : (n : ℕ) → 15 < n → nat_lt 15 n ≡ true
 above n many = grind (arith, nat_tests)
 
 -- a line with which a feed begins
-pub begins : (plan : Plan) (old new : Feeds) (n : ℕ) (form : Option Form) (r : Result (Unit {0}) ScriptFault) → AreCounted plan old → reading plan form ≡ Ok lines.Feed → Begins r n new (begun old)
-    → Steps r (feeds_in new) (form_after plan (feeds_in old) n form)
+pub begins : (plan : Plan) (old new : Feeds) (n : ℕ) (form : Option Form) (r : Result (Unit {0}) ScriptFault) → AreCounted plan old → reading plan form ≡ Ok lines.Feed → FeedBegins r n new (begun old)
+    → ScriptSteps r (feeds_in new) (form_after plan (feeds_in old) n form)
 begins plan old new n form (Ok done) counted read e =
     left plan (feeds_in old) n form lines.Feed read
     ∙ last_row (is_too_long plan (feeds_in old ++ [] ∷ [])) n (feeds_in old ++ [] ∷ []) (begun_long plan old counted ∙ below (length (feeds_in old)) e.1)
@@ -52,7 +52,7 @@ begins plan old new n form (Err (faults.Line line reason)) counted read e =
     ∙ last_holds (is_too_long plan (feeds_in old ++ [] ∷ [])) n (feeds_in old ++ [] ∷ []) (begun_long plan old counted ∙ above (length (feeds_in old)) e.2)
     ∙ rw (e.0, e.1) refl
 
-pub begins_counted : (plan : Plan) (old new : Feeds) (n : ℕ) (r : Result (Unit {0}) ScriptFault) → AreCounted plan old → Begins r n new (begun old) → OnOk r (AreCounted plan new)
+pub begins_counted : (plan : Plan) (old new : Feeds) (n : ℕ) (r : Result (Unit {0}) ScriptFault) → AreCounted plan old → FeedBegins r n new (begun old) → OnOk r (AreCounted plan new)
 begins_counted plan old new n (Ok done) counted e = subst (AreCounted plan) (sym e.0) (begun_counted plan old counted e.1)
 begins_counted plan old new n (Err p) counted e = tt
 
@@ -63,7 +63,7 @@ some_length closed feed =
 
 -- a line that delivers to the last feed
 puts : (plan : Plan) (old new : Feeds) (feed : List Delivery) (n : ℕ) (d : Delivers) (form : Option Form) (r : Result (Unit {0}) ScriptFault) → AreCounted plan old → old.current ≡ Some feed → reading plan form ≡ Ok (lines.Deliver d)
-    → Puts r n new (with_all plan (delivered plan d) old) → Steps r (feeds_in new) (form_after plan (feeds_in old) n form)
+    → KeepsPackets r n new (with_all plan (delivered plan d) old) → ScriptSteps r (feeds_in new) (form_after plan (feeds_in old) n form)
 puts plan old new feed n d form (Ok done) counted is read e =
     let some : (length (feeds_in old) == 0) ≡ false = rw is (some_length old.closed feed) in
     let long : is_too_long plan (to_last (delivered plan d) (feeds_in old)) ≡ false = more_long plan (delivered plan d) old feed counted is ∙ e.1 in
@@ -78,7 +78,7 @@ puts plan old new feed n d form (Err (faults.Line line reason)) counted is read 
     left plan (feeds_in old) n form (lines.Deliver d) read ∙ rw (some, long, e.0, e.1) refl
 
 puts_counted : (plan : Plan) (old new : Feeds) (feed : List Delivery) (n : ℕ) (d : Delivers) (r : Result (Unit {0}) ScriptFault) → AreCounted plan old → old.current ≡ Some feed
-    → Puts r n new (with_all plan (delivered plan d) old) → OnOk r (AreCounted plan new)
+    → KeepsPackets r n new (with_all plan (delivered plan d) old) → OnOk r (AreCounted plan new)
 puts_counted plan old new feed n d (Ok done) counted is e = subst (AreCounted plan) (sym e.0) (more_counted plan (delivered plan d) old feed counted is e.1)
 puts_counted plan old new feed n d (Err p) counted is e = tt
 
@@ -93,13 +93,13 @@ misses plan old n d form counted none read =
 -- a line that delivers
 pub record Adds (plan : Plan) (old new : Feeds) (n : ℕ) (d : Delivers) (r : Result (Unit {0}) ScriptFault) : Type 0 where
   pub without : old.current ≡ None → r ≡ Err (faults.Line n reasons.Missing)
-  pub within : (old.current ≡ None → ⊥) → Puts r n new (with_all plan (delivered plan d) old)
+  pub within : (old.current ≡ None → ⊥) → KeepsPackets r n new (with_all plan (delivered plan d) old)
 
 pub adds : (plan : Plan) (old new : Feeds) (n : ℕ) (d : Delivers) (form : Option Form) (r : Result (Unit {0}) ScriptFault) → AreCounted plan old → reading plan form ≡ Ok (lines.Deliver d) → Adds plan old new n d r
-    → Steps r (feeds_in new) (form_after plan (feeds_in old) n form)
+    → ScriptSteps r (feeds_in new) (form_after plan (feeds_in old) n form)
 adds plan old new n d form r counted read e = by old.current refl
   where
-    by : (o : Option (List Delivery)) → o ≡ old.current → Steps r (feeds_in new) (form_after plan (feeds_in old) n form)
+    by : (o : Option (List Delivery)) → o ≡ old.current → ScriptSteps r (feeds_in new) (form_after plan (feeds_in old) n form)
     by None is = rw (e.without (sym is)) (misses plan old n d form counted (sym is) read)
     by (Some feed) is = puts plan old new feed n d form r counted (sym is) read (e.within (λ none. absurd cc))
 

@@ -100,16 +100,16 @@ abbrev pub begun : Feeds → Feeds
 begun feeds = record feeds { closed = feeds_in feeds; current = Some [] }
 
 -- at line n one more feed begins, or there are 16 already, unless memory ran out
-abbrev pub Begins : Result (Unit {0}) ScriptFault → ℕ → Feeds → Feeds → Type 0
-Begins (Ok done) n new whole = (new ≡ whole) × (length whole.closed ≤ 15)
-Begins (Err faults.NoMemory) n new whole = Unit {0}
-Begins (Err (faults.Line line reason)) n new whole = (line ≡ n) × (reason ≡ TooLong) × (15 < length whole.closed)
+abbrev pub FeedBegins : Result (Unit {0}) ScriptFault → ℕ → Feeds → Feeds → Type 0
+FeedBegins (Ok done) n new whole = (new ≡ whole) × (length whole.closed ≤ 15)
+FeedBegins (Err faults.NoMemory) n new whole = Unit {0}
+FeedBegins (Err (faults.Line line reason)) n new whole = (line ≡ n) × (reason ≡ TooLong) × (15 < length whole.closed)
 
 -- at line n all are kept, or they pass a limit, unless memory ran out
-abbrev pub Puts : Result (Unit {0}) ScriptFault → ℕ → Feeds → Feeds → Type 0
-Puts (Ok done) n new whole = (new ≡ whole) × (is_full whole ≡ false)
-Puts (Err faults.NoMemory) n new whole = Unit {0}
-Puts (Err (faults.Line line reason)) n new whole = (line ≡ n) × (reason ≡ TooLong) × (is_full whole ≡ true)
+abbrev pub KeepsPackets : Result (Unit {0}) ScriptFault → ℕ → Feeds → Feeds → Type 0
+KeepsPackets (Ok done) n new whole = (new ≡ whole) × (is_full whole ≡ false)
+KeepsPackets (Err faults.NoMemory) n new whole = Unit {0}
+KeepsPackets (Err (faults.Line line reason)) n new whole = (line ≡ n) × (reason ≡ TooLong) × (is_full whole ≡ true)
 
 -- a call's fault as one of the text
 abbrev pub told : ScriptFault → Option Fault
@@ -121,12 +121,12 @@ abbrev pub FailsAs : {X : Type 0} → ScriptFault → Result X Fault → Type 0
 FailsAs p read = FailsAt (told p) read
 
 -- the lines are read on, or failed at their first fault, unless memory ran out
-abbrev pub Steps : Result (Unit {0}) ScriptFault → List (List Delivery) → Result (List (List Delivery)) Fault → Type 0
-Steps r new read = LeavesSaid told r new read
+abbrev pub ScriptSteps : Result (Unit {0}) ScriptFault → List (List Delivery) → Result (List (List Delivery)) Fault → Type 0
+ScriptSteps r new read = LeavesSaid told r new read
 
 -- what is read, or the first fault, unless memory ran out
-abbrev pub Reads : {X : Type 0} → Result X ScriptFault → Result X Fault → Type 0
-Reads r read = GivesSaid told r read
+abbrev pub ReadsScript : {X : Type 0} → Result X ScriptFault → Result X Fault → Type 0
+ReadsScript r read = GivesSaid told r read
 
 -- the feeds that lines give, or their first fault, unless memory ran out
 abbrev pub ReadsFeeds : Result Feeds ScriptFault → Result (List (List Delivery)) Fault → Type 0

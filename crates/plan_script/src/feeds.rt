@@ -4,7 +4,7 @@ ghost use Rattle.std.specs.Prelude.{◌≡◌, ◌+◌, ◌-◌, ◌<◌, ◌≤
 ghost use Rattle.std.specs.List.{flat_map, range_with_len};
 ghost use Rattle.drm_schedule.specs.declared.plan.Plan.{Plan};
 ghost use Rattle.plan_script.specs.Script.{all_of, delivered, delivery, delivery_size, ended, in_schedule};
-ghost use Rattle.plan_script.specs.Steps.{AreCounted, Begins, IsPacket, Puts, Reads, begun, with_all, pushed, is_full, feeds_in};
+ghost use Rattle.plan_script.specs.Steps.{AreCounted, FeedBegins, IsPacket, KeepsPackets, ReadsScript, begun, with_all, pushed, is_full, feeds_in};
 
 use crate::delivery::Delivery;
 use crate::fault::{ScriptFault, at};
@@ -50,7 +50,7 @@ impl Feeds {
     /// One more feed.
     pub fn begin(&mut self, alloc: Global, n: u32) -> Result<(), ScriptFault>
         requires { length self.old.closed ≤ 15 }
-        ensures { Begins result n self.new (begun self.old) }
+        ensures { FeedBegins result n self.new (begun self.old) }
     {
         if let Some(feed) = self.current.replace(Items::new(alloc)) {
             if self.closed.len() >= MOST_CLOSED {
@@ -63,9 +63,9 @@ impl Feeds {
 
     /// The script of these feeds, at the end of a text of `n` lines.
     pub fn finish(self, n: u32) -> Result<Script, ScriptFault>
-        requires some { self.current ≡ None → self.closed ≡ [] }
+        requires open { self.current ≡ None → self.closed ≡ [] }
         requires lines { n < 2 ^ 32 - 1 }
-        ensures { Reads result (ended n (feeds_in self)) }
+        ensures { ReadsScript result (ended n (feeds_in self)) }
     {
         let Feeds {
             closed,
@@ -94,9 +94,9 @@ impl Feeds {
     // One more delivery, of so many bytes.
     fn put(&mut self, n: u32, delivery: Delivery, size: u64) -> Result<(), ScriptFault>
         requires fits { is_full self.old ≡ false }
-        requires small { size < 2 ^ 17 }
+        requires in_range { size < 2 ^ 17 }
         ensures { (plan : Plan) → size ≡ delivery_size plan delivery
-            → Puts result n self.new (with_all plan (delivery ∷ []) self.old) }
+            → KeepsPackets result n self.new (with_all plan (delivery ∷ []) self.old) }
     {
         if self.count >= MOST_DELIVERIES || self.bytes + size > MOST_BYTES {
             return Err(at(n, Reason::TooLong));
@@ -109,9 +109,9 @@ impl Feeds {
     // Fragment `i` of a packet.
     fn put_fragment(&mut self, n: u32, packet: &Packet, i: u32) -> Result<(), ScriptFault>
         requires fits { is_full self.old ≡ false }
-        requires small { packet.now.len < 2 ^ 16 }
+        requires in_range { packet.now.len < 2 ^ 16 }
         ensures { (plan : Plan) → IsPacket plan packet.now
-            → Puts result n self.new (with_all plan (delivery packet.now.number i ∷ []) self.old) }
+            → KeepsPackets result n self.new (with_all plan (delivery packet.now.number i ∷ []) self.old) }
     {
         self.put(n, packet.delivery(i), packet.size(i))
     }
@@ -119,7 +119,7 @@ impl Feeds {
     // Fragment `i` of the packet with this number.
     fn put_one(&mut self, plan: &Schedule, n: u32, number: u32, i: u32) -> Result<(), ScriptFault>
         requires fits { is_full self.old ≡ false }
-        ensures { Puts result n self.new (with_all plan.now (delivery number i ∷ []) self.old) }
+        ensures { KeepsPackets result n self.new (with_all plan.now (delivery number i ∷ []) self.old) }
     {
         self.put_fragment(n, &Packet::of(plan, number), i)
     }
@@ -127,7 +127,7 @@ impl Feeds {
     // All fragments of a packet, in their order.
     fn put_packet(&mut self, plan: &Schedule, n: u32, number: u32) -> Result<(), ScriptFault>
         requires fits { is_full self.old ≡ false }
-        ensures { Puts result n self.new (with_all plan.now (all_of plan.now number) self.old) }
+        ensures { KeepsPackets result n self.new (with_all plan.now (all_of plan.now number) self.old) }
     {
         let packet = Packet::of(plan, number);
         let count = packet.count();
@@ -140,7 +140,7 @@ impl Feeds {
     // All fragments of a packet, the last one first.
     fn put_back(&mut self, plan: &Schedule, n: u32, number: u32) -> Result<(), ScriptFault>
         requires fits { is_full self.old ≡ false }
-        ensures { Puts result n self.new (with_all plan.now (reverse (all_of plan.now number)) self.old) }
+        ensures { KeepsPackets result n self.new (with_all plan.now (reverse (all_of plan.now number)) self.old) }
     {
         let packet = Packet::of(plan, number);
         let mut left = packet.count();
@@ -160,7 +160,7 @@ impl Feeds {
         end: u32,
     ) -> Result<(), ScriptFault>
         requires fits { is_full self.old ≡ false }
-        ensures { Puts result n self.new
+        ensures { KeepsPackets result n self.new
             (with_all plan.now (flat_map (all_of plan.now) (range_with_len first (end - first))) self.old) }
     {
         for number in first..end {
@@ -179,7 +179,7 @@ impl Feeds {
     ) -> Result<(), ScriptFault>
         requires fits { is_full self.old ≡ false }
         requires within { in_schedule plan.now delivers ≡ true }
-        ensures { Puts result n self.new (with_all plan.now (delivered plan.now delivers) self.old) }
+        ensures { KeepsPackets result n self.new (with_all plan.now (delivered plan.now delivers) self.old) }
     {
         plan.always_valid();
         match delivers {

@@ -23,7 +23,7 @@ impl Packet {
     pub fn of(plan: &Schedule, number: u32) -> Packet
         ensures packet { IsPacket plan.now result }
         ensures number { result.number ≡ number }
-        ensures small { result.len < 2 ^ 16 }
+        ensures in_range { result.len < 2 ^ 16 }
     {
         plan.always_valid();
         let len = packet_len(plan, number);
@@ -52,7 +52,7 @@ impl Packet {
     pub fn size(&self, i: u32) -> u64
         requires { self.now.len < 2 ^ 16 }
         ensures size { (plan : Plan) → IsPacket plan self.now → result ≡ delivery_size plan (delivery self.now.number i) }
-        ensures small { result < 2 ^ 17 }
+        ensures in_range { result < 2 ^ 17 }
     {
         datagram_len(self.cut, self.len, i)
     }

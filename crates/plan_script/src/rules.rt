@@ -3,7 +3,7 @@
 ghost use Rattle.std.specs.Prelude.{◌≡◌, ◌+◌, ◌-◌, ◌<◌, ◌≤◌, ◌^◌, ◌∷◌, [], true, length, map, Option, Err, IfOk, OnOk};
 ghost use Rattle.text_lines.specs.Lines.{words_of};
 ghost use Rattle.plan_script.specs.Script.{Form, delivered, in_range, in_schedule, script_of, IsScript};
-ghost use Rattle.plan_script.specs.Steps.{AreCounted, Puts, Reads, ReadsFeeds, Steps, feeds_in, form_after, lines_after, reading, with_all, words_after};
+ghost use Rattle.plan_script.specs.Steps.{AreCounted, KeepsPackets, ReadsScript, ReadsFeeds, ScriptSteps, feeds_in, form_after, lines_after, reading, with_all, words_after};
 ghost use Rattle.plan_script.specs.declared.fault.ScriptFault.TheVariants as faults;
 
 use crate::fault::{ScriptFault, at};
@@ -21,8 +21,8 @@ impl Feeds {
         requires counted { AreCounted plan.now self.old }
         requires within { in_schedule plan.now delivers ≡ true }
         ensures none { self.old.current ≡ None → result ≡ Err (faults.Line n Reason.Missing) }
-        ensures some { (self.old.current ≡ None → ⊥)
-            → Puts result n self.new (with_all plan.now (delivered plan.now delivers) self.old) }
+        ensures open { (self.old.current ≡ None → ⊥)
+            → KeepsPackets result n self.new (with_all plan.now (delivered plan.now delivers) self.old) }
     {
         if self.current.is_none() {
             return Err(at(n, Reason::Missing));
@@ -40,7 +40,7 @@ impl Feeds {
         requires counted { AreCounted plan.now self.old }
         requires within { IfOk line (λ l. in_range plan.now l ≡ true) }
         ensures steps { (form : Option Form) → line ≡ reading plan.now form
-            → Steps result (feeds_in self.new) (form_after plan.now (feeds_in self.old) n form) }
+            → ScriptSteps result (feeds_in self.new) (form_after plan.now (feeds_in self.old) n form) }
         ensures counted { OnOk result (AreCounted plan.now self.new) }
     {
         match line {
@@ -60,7 +60,7 @@ impl Feeds {
         words: &[&str],
     ) -> Result<(), ScriptFault>
         requires counted { AreCounted plan.now self.old }
-        ensures steps { Steps result (feeds_in self.new)
+        ensures steps { ScriptSteps result (feeds_in self.new)
             (words_after plan.now (feeds_in self.old) n (map (λ w. w.now) words.now)) }
         ensures counted { OnOk result (AreCounted plan.now self.new) }
     {
@@ -83,7 +83,7 @@ impl Feeds {
         line: &str,
     ) -> Result<(), ScriptFault>
         requires counted { AreCounted plan.now self.old }
-        ensures steps { Steps result (feeds_in self.new)
+        ensures steps { ScriptSteps result (feeds_in self.new)
             (words_after plan.now (feeds_in self.old) n (words_of line.now)) }
         ensures counted { OnOk result (AreCounted plan.now self.new) }
     {
@@ -108,7 +108,7 @@ fn read_all(alloc: Global, plan: &Schedule, lines: &[&str]) -> Result<Feeds, Scr
 /// What the lines give.
 pub fn read_lines(alloc: Global, plan: &Schedule, lines: &[&str]) -> Result<Script, ScriptFault>
     requires { length lines.now < 2 ^ 32 - 1 }
-    ensures read { Reads result (script_of plan.now (map (λ line. line.now) lines.now)) }
+    ensures read { ReadsScript result (script_of plan.now (map (λ line. line.now) lines.now)) }
     ensures script { IfOk result (IsScript plan.now) }
 {
     let feeds = read_all(alloc, plan, lines)?;

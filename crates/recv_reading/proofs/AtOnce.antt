@@ -5,7 +5,7 @@ use Rattle.std.proofs.lemmas.List.Elements.{filter_map-append}
 use Rattle.drm_links.specs.Link.{Answer, Datagram, Idle, Failed, End, datagram_of}
 use Rattle.dcp_collect.specs.declared.taken.Taken.{Taken}
 use Rattle.dcp_collect.specs.State.{State, made}
-use Rattle.dcp_collect.specs.Runs.{Item, Steps}
+use Rattle.dcp_collect.specs.Runs.{Item, CollectorSteps}
 use Rattle.law_collect.specs.Laws.{most_at_once}
 use Rattle.law_collect.proofs.AtOnce.{few_at_once}
 use Rattle.law_collect.proofs.Runs.{steps_part}
@@ -25,7 +25,7 @@ if_weaker (Some n) f a = f a
 -- one datagram
 one_step : (window reach : ℕ) (first : Option ℕ) (datagrams : List (List ℕ)) (answers : List Taken) (given : List Item) (mid : State)
     (bytes : List ℕ) (last : List Taken) (later : List Item) (end : State)
-    → 1 ≤ window → Steps (made window reach first) datagrams answers given mid → Steps mid (bytes ∷ []) last later end
+    → 1 ≤ window → CollectorSteps (made window reach first) datagrams answers given mid → CollectorSteps mid (bytes ∷ []) last later end
     → (length later ≤ most_at_once window) × IfSome mid.newest (λ n. length later ≤ reach + window)
 one_step window reach first datagrams answers given mid bytes [] later end some s t = absurd t
 one_step window reach first datagrams answers given mid bytes (a ∷ []) later end some s (now, more, kept, next, takes, gives, steps, are) =
@@ -37,8 +37,8 @@ one_step window reach first datagrams answers given mid bytes (a ∷ b ∷ last)
 
 -- a datagram behind those that gave the items before
 datagram_more : (rules : ReceiveOptions) (ds : List (List ℕ)) (bytes : List ℕ) (taken taken' : List Taken) (before items : List Item) (mid end : State)
-    → 1 ≤ rules.window → Steps (made rules.window rules.reach rules.first) ds taken before mid
-    → Steps (made rules.window rules.reach rules.first) (ds ++ bytes ∷ []) taken' items end → FewMore rules mid before items
+    → 1 ≤ rules.window → CollectorSteps (made rules.window rules.reach rules.first) ds taken before mid
+    → CollectorSteps (made rules.window rules.reach rules.first) (ds ++ bytes ∷ []) taken' items end → FewMore rules mid before items
 datagram_more rules ds bytes taken taken' before items mid end some s t =
     let (half, first, last, now, later, front, back, told, are) = steps_part (made rules.window rules.reach rules.first) end ds (bytes ∷ []) taken' items t in
     let (replies, same, there) = one_way (made rules.window rules.reach rules.first) mid half ds taken first before now s front in
@@ -51,7 +51,7 @@ datagram_more rules ds bytes taken taken' before items mid end some s t =
 
 -- the same datagrams
 none_more : (rules : ReceiveOptions) (ds : List (List ℕ)) (taken taken' : List Taken) (before items : List Item) (mid end : State)
-    → Steps (made rules.window rules.reach rules.first) ds taken before mid → Steps (made rules.window rules.reach rules.first) ds taken' items end
+    → CollectorSteps (made rules.window rules.reach rules.first) ds taken before mid → CollectorSteps (made rules.window rules.reach rules.first) ds taken' items end
     → FewMore rules mid before items
 none_more rules ds taken taken' before items mid end s t =
     let same : items ≡ before = (one_way (made rules.window rules.reach rules.first) mid end ds taken taken' before items s t).1 in
@@ -61,15 +61,15 @@ none_more rules ds taken taken' before items mid end s t =
 answer_more : (rules : ReceiveOptions) (xs : List Answer) (x : Answer) (taken : List Taken) (before items : List Item) (mid : State) → 1 ≤ rules.window
     → Gave rules xs taken before mid → GaveItems rules (xs ++ x ∷ []) items → FewMore rules mid before items
 answer_more rules xs x taken before items mid some s (taken', end, t) =
-    by x (subst (λ ds. Steps (made rules.window rules.reach rules.first) ds taken' items end) (filter_map-append datagram_of xs (x ∷ [])) t)
+    by x (subst (λ ds. CollectorSteps (made rules.window rules.reach rules.first) ds taken' items end) (filter_map-append datagram_of xs (x ∷ [])) t)
   where
-    same : (y : Answer) → datagrams (y ∷ []) ≡ [] → Steps (made rules.window rules.reach rules.first) (datagrams xs ++ datagrams (y ∷ [])) taken' items end
+    same : (y : Answer) → datagrams (y ∷ []) ≡ [] → CollectorSteps (made rules.window rules.reach rules.first) (datagrams xs ++ datagrams (y ∷ [])) taken' items end
         → FewMore rules mid before items
     same y none u =
         none_more rules (datagrams xs) taken taken' before items mid end s
-        (subst (λ ds. Steps (made rules.window rules.reach rules.first) ds taken' items end) (ap (λ l. datagrams xs ++ l) none ∙ append-nil (datagrams xs)) u)
+        (subst (λ ds. CollectorSteps (made rules.window rules.reach rules.first) ds taken' items end) (ap (λ l. datagrams xs ++ l) none ∙ append-nil (datagrams xs)) u)
 
-    by : (y : Answer) → Steps (made rules.window rules.reach rules.first) (datagrams xs ++ datagrams (y ∷ [])) taken' items end
+    by : (y : Answer) → CollectorSteps (made rules.window rules.reach rules.first) (datagrams xs ++ datagrams (y ∷ [])) taken' items end
         → FewMore rules mid before items
     by (Datagram bytes) u = datagram_more rules (datagrams xs) bytes taken taken' before items mid end some s u
     by Idle u = same Idle refl u

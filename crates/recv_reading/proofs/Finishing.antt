@@ -14,7 +14,7 @@ use Rattle.law_collect.proofs.Fit.{fit_given}
 use Rattle.recv_reading.specs.declared.reason.EndWord.TheVariants as word
 use Rattle.recv_reading.specs.Ending.{ComesTo, GivesSome}
 use Rattle.recv_reading.specs.State.{ended_or, one_given}
-use Rattle.recv_reading.specs.Reached.{IsDrained, IsAmid, IsEnding, Comes, GivesNext}
+use Rattle.recv_reading.specs.Reached.{IsDrained, IsAmid, IsEnding, ComesIn, GivesNext}
 use Rattle.recv_reading.proofs.First.{given_first}
 use Rattle.recv_reading.proofs.Giving.{steps_many}
 use Rattle.recv_reading.proofs.Reaching.{amid_gave, full_is}
@@ -153,7 +153,7 @@ module _ (options : ReceiveOptions) (answers : List Answer) (taken : List Taken)
   pub finishes : has_ended r ≡ true → IsOver r c → Finishes options answers taken items c (word_of r.end)
   finishes ended over = by r.end ended z.comes
     where
-      by : (end : Option EndWord) → ended_or end (has_enough r) ≡ true → Comes options answers taken during more end c → Finishes options answers taken items c (word_of end)
+      by : (end : Option EndWord) → ended_or end (has_enough r) ≡ true → ComesIn options answers taken during more end c → Finishes options answers taken items c (word_of end)
       by None enough (goes, inl (none, d)) = absurd (true≢false (sym (full_of enough) ∙ ap (λ (l : List Item). is_full options.frames (length l)) (ap (λ l. during ++ l) none ∙ append-nil during) ∙ d.room))
       by None enough (goes, inr a) = over_amid enough a
       by (Some why) ended e = over_ending why over e
@@ -173,7 +173,7 @@ module _ (options : ReceiveOptions) (answers : List Answer) (taken : List Taken)
       drained_many : (xs : List Answer) (ts : List Taken) (ys : List Item) (d : State) → IsDrained options xs ts ys d → length ts ≡ length (datagrams xs)
       drained_many xs ts ys d all = steps_many (made options.window options.reach options.first) d (datagrams xs) ts ys all.gave
 
-      by : (end : Option EndWord) → Comes options answers taken during more end c → length taken ≡ length (datagrams answers)
+      by : (end : Option EndWord) → ComesIn options answers taken during more end c → length taken ≡ length (datagrams answers)
       by None (goes, inl (none, d)) = drained_many answers taken during c d
       by None (goes, inr a) =
           let before = drained_many a.before a.earlier during a.mid a.drained in
@@ -186,7 +186,7 @@ module _ (options : ReceiveOptions) (answers : List Answer) (taken : List Taken)
   stands_or : ((more ≡ []) × (ready c ≡ false)) ⊎ Stands options answers during more c
   stands_or = by r.end z.comes
     where
-      by : (end : Option EndWord) → Comes options answers taken during more end c → ((more ≡ []) × (ready c ≡ false)) ⊎ Stands options answers during more c
+      by : (end : Option EndWord) → ComesIn options answers taken during more end c → ((more ≡ []) × (ready c ≡ false)) ⊎ Stands options answers during more c
       by None (goes, inl (none, d)) = inl (none, d.none_ready)
       by None (goes, inr a) = inr (record {
         before = a.before;

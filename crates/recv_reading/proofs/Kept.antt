@@ -5,7 +5,7 @@ use Rattle.dcp_collect.specs.declared.taken.Taken.{Taken}
 use Rattle.dcp_collect.specs.Fragments.{Fragment, suffice, of_packet}
 use Rattle.dcp_collect.specs.Reading.{Read, Unread, Brings}
 use Rattle.dcp_collect.specs.State.{State, is_before, insert_kept, number_of, answer, after_take, after_item}
-use Rattle.dcp_collect.specs.Runs.{Item, Packet, Lost, Damaged, IsItem, Takes}
+use Rattle.dcp_collect.specs.Runs.{Item, Packet, Lost, Damaged, IsItem, CollectorTakes}
 use Rattle.law_collect.proofs.Stays.{after_by}
 use Rattle.recv_reading.specs.Reached.{packets_in}
 
@@ -26,7 +26,7 @@ kept_read c (Brings incoming) =
     (λ m. let e = length_insert (record { number = m; head = incoming.head; payload = incoming.payload }) c.kept in omega (arith, e))
 
 -- a datagram that is taken
-pub kept_taken : (c k : State) (bytes : List ℕ) (a : Taken) → Takes c bytes a k → length k.kept ≤ length c.kept + 1
+pub kept_taken : (c k : State) (bytes : List ℕ) (a : Taken) → CollectorTakes c bytes a k → length k.kept ≤ length c.kept + 1
 kept_taken c k bytes a takes = subst (λ (s : State). length s.kept ≤ length c.kept + 1) (sym takes.after_is) (kept_read c takes.read)
 
 -- ---- those of a packet are dropped

@@ -5,7 +5,7 @@ use Rattle.std.proofs.lemmas.List.{take_all}
 use Rattle.recv_reading.proofs.Common.{Answer, Failed, EndWord, ReceiveOptions, EndsBy, GoesOn, IsFinished, IsBroken}
 use Rattle.drm_links.specs.Hearing.{AreNext}
 use Rattle.recv_reading.specs.declared.reason.EndWord.TheVariants as word
-use Rattle.recv_reading.specs.Ending.{Holds, IsSound}
+use Rattle.recv_reading.specs.Ending.{ReasonHolds, IsSound}
 use Rattle.recv_reading.specs.OneReading.{IsOneReading}
 
 pub next_front : (ahead r s : List Answer) (xs ys : List Answer) → AreNext ahead xs r → AreNext ahead ys s → length xs ≤ length ys → xs ≡ take (length xs) ys
@@ -16,7 +16,7 @@ next_front ahead r s (x ∷ xs) (y ∷ ys) p q l =
     let f : xs ≡ take (length xs) ys = next_front (drop 1 ahead) r s xs ys p.1 q.1 (omega arith) in
     ap (λ z. z ∷ xs) e ∙ ap (λ zs. y ∷ zs) f
 
-pub ends_hold : (rules : ReceiveOptions) (xs : List Answer) (w : EndWord) → EndsBy rules xs w → Holds rules xs w
+pub ends_hold : (rules : ReceiveOptions) (xs : List Answer) (w : EndWord) → EndsBy rules xs w → ReasonHolds rules xs w
 ends_hold rules xs word.Frames e = e
 ends_hold rules xs word.Limit e = e.0
 ends_hold rules xs word.Idle e = e.0
@@ -24,10 +24,10 @@ ends_hold rules xs word.Input e = e.0
 ends_hold rules xs word.Paths e = e
 
 -- where a list that holds a reason to end stands at the front of another one, that one doesn't go on
-pub not_shorter : (rules : ReceiveOptions) (ahead r s : List Answer) (xs ys : List Answer) (w : EndWord) → AreNext ahead xs r → AreNext ahead ys s → Holds rules xs w → GoesOn rules ys → length xs < length ys → ⊥
+pub not_shorter : (rules : ReceiveOptions) (ahead r s : List Answer) (xs ys : List Answer) (w : EndWord) → AreNext ahead xs r → AreNext ahead ys s → ReasonHolds rules xs w → GoesOn rules ys → length xs < length ys → ⊥
 not_shorter rules ahead r s xs ys w p q h g l =
     let e : xs ≡ take (length xs) ys = next_front ahead r s xs ys p q (omega arith) in
-    g.shorter (length xs) l w (subst (λ zs. Holds rules zs w) e h)
+    g.shorter (length xs) l w (subst (λ zs. ReasonHolds rules zs w) e h)
 
 pub three : (m n : ℕ) → (m < n) ⊎ ((n < m) ⊎ (m ≡ n))
 three m n = grind arith
@@ -98,7 +98,7 @@ finished_whole rules ahead r s xs before ys w p q f b =
     let half = next_split ahead s before (Failed ∷ []) q' in
     let same : xs ≡ before =
     same_next ahead r half.0 xs before p half.1 (not_shorter rules ahead r half.0 xs before w p half.1 (ends_hold rules xs w f.ends) b.goes_on) (goes_past rules ahead r s xs before p q' f.goes_on) in
-    b.is_open w (subst (λ zs. Holds rules zs w) same (ends_hold rules xs w f.ends))
+    b.is_open w (subst (λ zs. ReasonHolds rules zs w) same (ends_hold rules xs w f.ends))
 
 -- two that break off are one
 pub broken_same : (rules : ReceiveOptions) (ahead r s : List Answer) (before xs before' ys : List Answer) → AreNext ahead xs r → AreNext ahead ys s → IsBroken rules before xs → IsBroken rules before' ys → ys ≡ xs

@@ -18,7 +18,7 @@ use Rattle.recv_reading.specs.declared.options.Bounds.{Bounds}
 use Rattle.recv_reading.specs.declared.reason.EndWord.TheVariants as word
 use Rattle.recv_reading.specs.Ending.{idles, IsOpen, most_answers}
 use Rattle.recv_reading.specs.State.{ahead, ended_or, still_open, one_given, one_taken, one_idle, ended_by}
-use Rattle.recv_reading.specs.Reached.{IsDrained, IsAmid, Comes, Counts, packets_in}
+use Rattle.recv_reading.specs.Reached.{IsDrained, IsAmid, ComesIn, CountsAnswers, packets_in}
 use Rattle.recv_reading.proofs.Going.{goes_none, goes_more, is_open, datagrams_more, datagrams_idle, datagrams_end, idles_more, not_ended, none_ended}
 use Rattle.recv_reading.proofs.Kept.{kept_taken, few_given}
 use Rattle.recv_reading.proofs.First.{knows_taken, knows_item}
@@ -147,7 +147,7 @@ module _ (options : ReceiveOptions) (answers : List Answer) (taken : List Taken)
           by_ready true is fit = fit
           by_ready false is fit = absurd (let clash : false ≡ true = is in cc)
 
-      by : (end : Option EndWord) → Comes options answers taken during more end c → Comes options answers taken during (more ++ item ∷ []) end (after_item c)
+      by : (end : Option EndWord) → ComesIn options answers taken during more end c → ComesIn options answers taken during (more ++ item ∷ []) end (after_item c)
       by None (goes, inl (none, d)) = absurd (true≢false (sym now ∙ d.none_ready))
       by None (goes, inr a) = (
         goes,
@@ -183,17 +183,17 @@ module _ (options : ReceiveOptions) (answers : List Answer) (taken : List Taken)
     enough : has_enough r ≡ false
     enough = open_enough r.end (has_enough r) w.is_open
 
-    comes : Comes options answers taken during more None c
-    comes = subst (λ e. Comes options answers taken during more e c) no_end z.comes
+    comes : ComesIn options answers taken during more None c
+    comes = subst (λ e. ComesIn options answers taken during more e c) no_end z.comes
 
-    n : Counts options answers r
+    n : CountsAnswers options answers r
     n = z.counts no_end
 
     -- all that came was given
     pub drained : IsDrained options answers taken items c
     drained = by comes
       where
-        by : Comes options answers taken during more None c → IsDrained options answers taken items c
+        by : ComesIn options answers taken during more None c → IsDrained options answers taken items c
         by (goes, inl (none, d)) = subst (λ l. IsDrained options answers taken l c) (sym (ap (λ l. during ++ l) none ∙ append-nil during)) d
         by (goes, inr a) = record {
           gave = amid_gave options answers taken during more more c c a (given_all more a.kept c a.gives w.none_ready);
@@ -254,7 +254,7 @@ module _ (options : ReceiveOptions) (answers : List Answer) (taken : List Taken)
         record {
           bounds_are = z.bounds_are;
           usable = z.usable;
-          comes = subst (λ e. Comes options (answers ++ Datagram bytes ∷ []) (taken ++ answer ∷ []) items [] e d) (sym no_end) (
+          comes = subst (λ e. ComesIn options (answers ++ Datagram bytes ∷ []) (taken ++ answer ∷ []) items [] e d) (sym no_end) (
             takes_end c d bytes answer takes ∙ unfinished,
             inr (record {
               before = answers;
@@ -307,7 +307,7 @@ module _ (options : ReceiveOptions) (answers : List Answer) (taken : List Taken)
         record {
           bounds_are = z.bounds_are;
           usable = z.usable;
-          comes = subst (λ e. Comes options (answers ++ Idle ∷ []) taken items [] e c) (sym no_end) (unfinished, inl (refl, drained_idle));
+          comes = subst (λ e. ComesIn options (answers ++ Idle ∷ []) taken items [] e c) (sym no_end) (unfinished, inl (refl, drained_idle));
           goes_on = goes_more options answers Idle z.goes_on (open_below below) tt;
           taken_are = datagrams_idle answers ∙ z.taken_are;
           most = z.most;
@@ -337,7 +337,7 @@ module _ (options : ReceiveOptions) (answers : List Answer) (taken : List Taken)
     ends_so last d why s same_bounds same_taken same_given is all ends many few finished goes = record {
       bounds_are = same_bounds ∙ z.bounds_are;
       usable = z.usable;
-      comes = subst (λ e. Comes options last taken items [] e d) (sym is) (record { mid = c; drained = all; ends = ends; gives = finished });
+      comes = subst (λ e. ComesIn options last taken items [] e d) (sym is) (record { mid = c; drained = all; ends = ends; gives = finished });
       goes_on = goes;
       taken_are = many ∙ sym same_taken;
       most = omega (arith, z.most, same_taken);

@@ -8,7 +8,7 @@ use Rattle.capture_reader.specs.declared.packets.CaptureStop.TheVariants as stop
 use Rattle.capture_reader.specs.Front.{IsWhole}
 use Rattle.capture_reader.specs.Capture as capture
 use Rattle.capture_reader.specs.Walking.{WalkerState, new_walker}
-use Rattle.capture_reader.specs.Reading.{HasRead, Stops}
+use Rattle.capture_reader.specs.Reading.{HasRead, ReadingStops}
 use Rattle.recv_reading.specs.Source.{ReadSoFar, HeardUntil}
 
 -- nothing was read yet
@@ -53,5 +53,5 @@ module _ (reader : WalkerState) (before mid : Known Input) (answers : List Answe
   pub all_packets : (next : WalkerState) (after : Known Input) → Inputs before after (λ left rest. capture.IsCaptureOf left p.packets capture.End) → ReadSoFar next before after (answers ++ End ∷ [])
   all_packets next after ended = (p.packets, inr (ended, ap (λ l. l ++ End ∷ []) p.are))
 
-  pub until_here : (stop : CaptureStop) (after : Known Input) → Stops p.packets stop before after → HeardUntil stop before after (answers ++ Failed ∷ [])
+  pub until_here : (stop : CaptureStop) (after : Known Input) → ReadingStops p.packets stop before after → HeardUntil stop before after (answers ++ Failed ∷ [])
   until_here stop after stopped = (p.packets, p.read.whole, stopped, ap (λ l. l ++ Failed ∷ []) p.are)

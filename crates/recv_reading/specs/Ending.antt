@@ -4,7 +4,7 @@ use Rattle.std.specs.List.{filter_map, AllByRecursion}
 use Rattle.drm_links.specs.Link.{Answer, Datagram, Idle, Failed, End, datagram_of}
 use Rattle.dcp_collect.specs.declared.taken.Taken.{Taken}
 use Rattle.dcp_collect.specs.State.{State, made, after_finish}
-use Rattle.dcp_collect.specs.Runs.{Item, Takes, Steps, up_to}
+use Rattle.dcp_collect.specs.Runs.{Item, CollectorTakes, CollectorSteps, up_to}
 use Rattle.law_collect.specs.Laws.{Given, most_at_once}
 use Rattle.recv_reading.specs.declared.reason.EndWord.{EndWord}
 use Rattle.recv_reading.specs.declared.reason.EndWord.TheVariants as word
@@ -27,7 +27,7 @@ idles answers = idles_from 0 answers
 
 -- A new collector that takes these datagrams, and gives all that is ready after each, has given these items.
 abbrev pub Gave : ReceiveOptions → List Answer → List Taken → List Item → State → Type 0
-Gave rules answers taken items end = Steps (made rules.window rules.reach rules.first) (datagrams answers) taken items end
+Gave rules answers taken items end = CollectorSteps (made rules.window rules.reach rules.first) (datagrams answers) taken items end
 
 -- the items that are given after these answers
 abbrev pub GaveItems : ReceiveOptions → List Answer → List Item → Type 0
@@ -55,25 +55,25 @@ abbrev pub HaveEnded : List Answer → Type 0
 HaveEnded answers = (before : List Answer) × (answers ≡ before ++ End ∷ [])
 
 -- a reason to end after these answers
-abbrev pub Holds : ReceiveOptions → List Answer → EndWord → Type 0
-Holds rules answers word.Frames = HasGiven rules answers rules.frames
-Holds rules answers word.Limit = length (datagrams answers) ≡ rules.limit
-Holds rules answers word.Idle = rules.idle ≤ idles answers
-Holds rules answers word.Input = HaveEnded answers
-Holds rules answers word.Paths = ⊥
+abbrev pub ReasonHolds : ReceiveOptions → List Answer → EndWord → Type 0
+ReasonHolds rules answers word.Frames = HasGiven rules answers rules.frames
+ReasonHolds rules answers word.Limit = length (datagrams answers) ≡ rules.limit
+ReasonHolds rules answers word.Idle = rules.idle ≤ idles answers
+ReasonHolds rules answers word.Input = HaveEnded answers
+ReasonHolds rules answers word.Paths = ⊥
 
 abbrev pub IsOpen : ReceiveOptions → List Answer → Type 0
-IsOpen rules answers = (w : EndWord) → Holds rules answers w → ⊥
+IsOpen rules answers = (w : EndWord) → ReasonHolds rules answers w → ⊥
 
 -- the first reason that holds
 abbrev pub EndsBy : ReceiveOptions → List Answer → EndWord → Type 0
-EndsBy rules answers word.Frames = Holds rules answers word.Frames
-EndsBy rules answers word.Limit = Holds rules answers word.Limit × (Holds rules answers word.Frames → ⊥)
+EndsBy rules answers word.Frames = ReasonHolds rules answers word.Frames
+EndsBy rules answers word.Limit = ReasonHolds rules answers word.Limit × (ReasonHolds rules answers word.Frames → ⊥)
 EndsBy rules answers word.Idle =
-    Holds rules answers word.Idle × (Holds rules answers word.Frames → ⊥) × (Holds rules answers word.Limit → ⊥)
+    ReasonHolds rules answers word.Idle × (ReasonHolds rules answers word.Frames → ⊥) × (ReasonHolds rules answers word.Limit → ⊥)
 EndsBy rules answers word.Input =
-    Holds rules answers word.Input × (Holds rules answers word.Frames → ⊥) × (Holds rules answers word.Limit → ⊥)
-    × (Holds rules answers word.Idle → ⊥)
+    ReasonHolds rules answers word.Input × (ReasonHolds rules answers word.Frames → ⊥) × (ReasonHolds rules answers word.Limit → ⊥)
+    × (ReasonHolds rules answers word.Idle → ⊥)
 EndsBy rules answers word.Paths = ⊥
 
 -- the answer didn't fail
@@ -106,7 +106,7 @@ most_answers rules = rules.limit * rules.idle + rules.idle + 1
 -- what a collector comes to by the last of these answers: it takes that datagram, or it is finished where the reading is
 abbrev pub ComesTo : ReceiveOptions → List Answer → List Answer → State → State → Type 0
 ComesTo options answers later mid c =
-    ((bytes : List ℕ) × (answer : Taken) × (later ≡ Datagram bytes ∷ []) × Takes mid bytes answer c)
+    ((bytes : List ℕ) × (answer : Taken) × (later ≡ Datagram bytes ∷ []) × CollectorTakes mid bytes answer c)
     ⊎ ((word : EndWord) × (later ≡ []) × EndsBy options answers word × (c ≡ after_finish mid options.frames))
 
 -- These are some first items of those that the answers give: all that was given before the last of them, and then some.

@@ -7,15 +7,15 @@ use Rattle.recv_reading.specs.declared.options.ReceiveOptions.{ReceiveOptions}
 use Rattle.recv_reading.specs.Ending.{IsFinished, IsBroken}
 
 -- a reading ends after these answers: it is finished, for this reason, or it ends in `Failed`
-abbrev pub Ends : ReceiveOptions → List Answer → Option EndWord → Type 0
-Ends rules answers (Some word) = IsFinished rules answers word
-Ends rules answers None = (before : List Answer) × IsBroken rules before answers
+abbrev pub ReadingEnds : ReceiveOptions → List Answer → Option EndWord → Type 0
+ReadingEnds rules answers (Some word) = IsFinished rules answers word
+ReadingEnds rules answers None = (before : List Answer) × IsBroken rules before answers
 
 -- Of the answers ahead these are read.
 pub record IsReadingOf (rules : ReceiveOptions) (ahead answers : List Answer) (ending : Option EndWord) : Type 0 where
   pub rest : List Answer
   pub next : AreNext ahead answers rest
-  pub ends : Ends rules answers ending
+  pub ends : ReadingEnds rules answers ending
 
 -- Of the answers ahead of a link one list is read, and it ends in one way.
 abbrev pub IsOneReading : Type 0

@@ -2,7 +2,7 @@
 use Rattle.std.specs.Prelude.{ℕ, ◌≡◌, ◌<◌, ◌⊎◌, true, List, [], ◌∷◌, ◌++◌, length, take, Option}
 use Rattle.dcp_collect.specs.declared.taken.Taken.{Taken}
 use Rattle.dcp_collect.specs.State.{State, made, ready, after_finish}
-use Rattle.dcp_collect.specs.Runs.{Item, IsItem, Takes, Steps}
+use Rattle.dcp_collect.specs.Runs.{Item, IsItem, CollectorTakes, CollectorSteps}
 use Rattle.law_collect.specs.Laws.{Given}
 use Rattle.drm_links.specs.Told.{Known}
 use Rattle.drm_links.specs.Source.{Input, Inputs}
@@ -28,7 +28,7 @@ terms_of options = record { window = options.window; reach = options.reach; firs
 -- as many items as are told, or more, are given of these packets
 abbrev pub HasEnough : Terms → List (List ℕ) → Type 0
 HasEnough terms packets =
-    (taken : List Taken) × (items : List Item) × (end : State) × Steps (made terms.window terms.reach terms.first) packets taken items end
+    (taken : List Taken) × (items : List Item) × (end : State) × CollectorSteps (made terms.window terms.reach terms.first) packets taken items end
     × (is_full terms.told (length items) ≡ true)
 
 -- fewer packets aren't enough
@@ -46,7 +46,7 @@ AreEnough terms packets before after =
 -- what a collector comes to before it gives what is ready: it takes one packet more, or is finished
 abbrev pub ComesTo : Terms → List (List ℕ) → State → State → Type 0
 ComesTo terms later mid state =
-    ((bytes : List ℕ) × (answer : Taken) × (later ≡ bytes ∷ []) × Takes mid bytes answer state) ⊎ ((later ≡ []) × (state ≡ after_finish mid terms.told))
+    ((bytes : List ℕ) × (answer : Taken) × (later ≡ bytes ∷ []) × CollectorTakes mid bytes answer state) ⊎ ((later ≡ []) × (state ≡ after_finish mid terms.told))
 
 -- These are some first items of those that the packets give, and then comes this one.
 pub record ComesAt (terms : Terms) (packets : List (List ℕ)) (items : List Item) (item : Item) (last : State) : Type 0 where
@@ -56,7 +56,7 @@ pub record ComesAt (terms : Terms) (packets : List (List ℕ)) (items : List Ite
   pub taken : List Taken
   pub during : List Item
   pub mid : State
-  pub steps : Steps (made terms.window terms.reach terms.first) before taken during mid
+  pub steps : CollectorSteps (made terms.window terms.reach terms.first) before taken during mid
   pub state : State
   pub comes : ComesTo terms later mid state
   pub more : List Item

@@ -3,7 +3,7 @@ use Rattle.std.specs.Prelude.{ℕ, ◌≡◌, ◌+◌, ◌*◌, ◌<◌, ◌≤�
 use Rattle.drm_links.specs.Link.{Answer, Datagram, Failed}
 use Rattle.dcp_collect.specs.declared.taken.Taken.{Taken}
 use Rattle.dcp_collect.specs.State.{State, ready, after_finish}
-use Rattle.dcp_collect.specs.Runs.{Item, Packet, Takes}
+use Rattle.dcp_collect.specs.Runs.{Item, Packet, CollectorTakes}
 use Rattle.law_collect.specs.Laws.{IsFit, Given}
 use Rattle.recv_reading.specs.declared.options.ReceiveOptions.{ReceiveOptions}
 use Rattle.recv_reading.specs.declared.reason.EndWord.{EndWord}
@@ -29,7 +29,7 @@ pub record IsAmid (options : ReceiveOptions) (answers : List Answer) (taken : Li
   pub mid : State
   pub drained : IsDrained options before earlier during mid
   pub kept : State
-  pub takes : Takes mid bytes answer kept
+  pub takes : CollectorTakes mid bytes answer kept
   pub gives : Given kept more c
 
 -- The reading has ended for this reason. All that was ready before was given, and then some of what was ready at the end.
@@ -39,13 +39,13 @@ pub record IsEnding (options : ReceiveOptions) (answers : List Answer) (taken : 
   pub ends : EndsBy options answers word
   pub gives : Given (after_finish mid options.frames) more c
 
-abbrev pub Comes : ReceiveOptions → List Answer → List Taken → List Item → List Item → Option EndWord → State → Type 0
-Comes options answers taken during more None c =
+abbrev pub ComesIn : ReceiveOptions → List Answer → List Taken → List Item → List Item → Option EndWord → State → Type 0
+ComesIn options answers taken during more None c =
     (c.end ≡ None) × (((more ≡ []) × IsDrained options answers taken during c) ⊎ IsAmid options answers taken during more c)
-Comes options answers taken during more (Some word) c = IsEnding options answers taken during more word c
+ComesIn options answers taken during more (Some word) c = IsEnding options answers taken during more word c
 
 -- what is counted of the answers while the reading is open
-pub record Counts (options : ReceiveOptions) (answers : List Answer) (r : ReadingState) : Type 0 where
+pub record CountsAnswers (options : ReceiveOptions) (answers : List Answer) (r : ReadingState) : Type 0 where
   pub idles_are : idles answers ≡ r.idles
   pub fewer : r.idles < options.idle
   pub few : length answers ≤ r.taken * options.idle + r.idles
@@ -62,11 +62,11 @@ packets_in (item ∷ items) = packets_in items
 pub record Reached (options : ReceiveOptions) (answers : List Answer) (taken : List Taken) (during more : List Item) (r : ReadingState) (c : State) : Type 0 where
   pub bounds_are : r.bounds ≡ bounds_of options
   pub usable : AreUsable options
-  pub comes : Comes options answers taken during more r.end c
+  pub comes : ComesIn options answers taken during more r.end c
   pub goes_on : GoesOn options answers
   pub taken_are : length (datagrams answers) ≡ r.taken
   pub most : r.taken ≤ options.limit
-  pub counts : r.end ≡ None → Counts options answers r
+  pub counts : r.end ≡ None → CountsAnswers options answers r
   pub few : length answers ≤ most_answers options
   pub given_are : length (during ++ more) ≡ r.given
   pub next_is : c.next ≡ r.given
@@ -82,7 +82,7 @@ HasReached r c =
     × Reached options answers taken during more r c
 
 -- it waits for an answer: nothing is ready, and no reason to end holds
-pub record Waits (r : ReadingState) (c : State) : Type 0 where
+pub record ReadingWaits (r : ReadingState) (c : State) : Type 0 where
   pub is_open : has_ended r ≡ false
   pub none_ready : ready c ≡ false
 

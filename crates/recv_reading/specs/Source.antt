@@ -9,7 +9,7 @@ use Rattle.capture_reader.specs.declared.packets.CaptureStop.TheVariants as stop
 use Rattle.capture_reader.specs.Front.{IsWhole}
 use Rattle.capture_reader.specs.Capture as capture
 use Rattle.capture_reader.specs.Walking.{WalkerState}
-use Rattle.capture_reader.specs.Reading.{HasRead, Stops}
+use Rattle.capture_reader.specs.Reading.{HasRead, ReadingStops}
 use Rattle.dcp_collect.specs.declared.taken.Taken.{Taken}
 use Rattle.recv_reading.specs.declared.source.SourceFault.{SourceFault}
 use Rattle.recv_reading.specs.declared.source.SourceFault.TheVariants as faults
@@ -27,7 +27,7 @@ abbrev pub answers_of : List (List ℕ) → capture.Ending → List Answer
 answers_of packets ending = map Datagram packets ++ ending_answer ending ∷ []
 
 -- These bytes bring these answers.
-pub record Brings (bytes : List ℕ) (ahead : List Answer) : Type 0 where
+pub record BytesBring (bytes : List ℕ) (ahead : List Answer) : Type 0 where
   pub packets : List (List ℕ)
   pub ending : capture.Ending
   pub is : capture.IsCaptureOf bytes packets ending
@@ -46,7 +46,7 @@ HeardOf before after answers = (reader : WalkerState) × ReadSoFar reader before
 -- These answers came of an input of which no more can be read for this reason.
 abbrev pub HeardUntil : CaptureStop → Known Input → Known Input → List Answer → Type 0
 HeardUntil stop before after answers =
-    (packets : List (List ℕ)) × All IsWhole packets × Stops packets stop before after × (answers ≡ map Datagram packets ++ Failed ∷ [])
+    (packets : List (List ℕ)) × All IsWhole packets × ReadingStops packets stop before after × (answers ≡ map Datagram packets ++ Failed ∷ [])
 
 abbrev pub StopsReading : SourceFault → Known Input → Known Input → List Answer → Type 0
 StopsReading faults.Link before after answers = ⊥

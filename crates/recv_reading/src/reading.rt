@@ -2,7 +2,7 @@
 
 ghost use Rattle.std.specs.Prelude.{ℕ, ◌≡◌, ◌<◌, ◌≤◌, ◌^◌, List, [], ◌∷◌, ◌++◌, true, None, Err, IfSome, IfErr, OnOk};
 ghost use Rattle.drm_links.specs.Link.{Answer, Datagram, Idle, End};
-ghost use Rattle.drm_links.specs.Told.{Counts, HasCause};
+ghost use Rattle.drm_links.specs.Told.{RisesWhere, HasCause};
 ghost use Rattle.capture_reader.specs.declared.packets.CaptureStop.{CaptureStop};
 ghost use Rattle.dcp_collect.specs.declared.taken.Taken.{Taken};
 ghost use Rattle.dcp_collect.specs.State.{after_item, after_finish};
@@ -10,14 +10,14 @@ ghost use Rattle.dcp_collect.specs.Runs.{Item, IsItem};
 ghost use Rattle.recv_reading.specs.declared.options.ReceiveOptions.{ReceiveOptions};
 ghost use Rattle.recv_reading.specs.First.{KeepsFirst};
 ghost use Rattle.recv_reading.specs.State.{new_reading, has_enough, has_ended, word_of, ended_by, ahead};
-ghost use Rattle.recv_reading.specs.Reached.{Reached, HasReached, Waits, GivesNext, ReadsOn};
+ghost use Rattle.recv_reading.specs.Reached.{Reached, HasReached, ReadingWaits, GivesNext, ReadsOn};
 ghost use Rattle.recv_reading.specs.Source.{ReadSoFar, HeardUntil, IsFailedCall};
 
 use crate::options::Bounds;
 use crate::reason::EndWord;
 use crate::source::{Datagrams, SourceFault};
-use dcp_collect::{Collector, Taken};
 use capture_reader::{CaptureStop, Packets};
+use dcp_collect::{Collector, Taken};
 use drm_links::Source;
 use std::marker::Model;
 
@@ -104,7 +104,7 @@ impl Reading {
 
     /// Takes a datagram that came.
     pub fn take(&mut self, collector: &mut Collector, datagram: &[u8]) -> Taken
-        requires waits { Waits self.old collector.old }
+        requires waits { ReadingWaits self.old collector.old }
         requires below_limit { self.old.taken < self.old.bounds.limit }
         requires reached { HasReached self.old collector.old }
         ensures reached { (options : ReceiveOptions) (answers : List Answer) (taken : List Taken)
@@ -121,7 +121,7 @@ impl Reading {
 
     /// Notes that nothing came for a while.
     pub fn idle(&mut self, collector: &mut Collector)
-        requires waits { Waits self.old collector.old }
+        requires waits { ReadingWaits self.old collector.old }
         requires below_limit { self.old.taken < self.old.bounds.limit }
         requires reached { HasReached self.old collector.old }
         ensures reached { (options : ReceiveOptions) (answers : List Answer) (taken : List Taken)
@@ -139,7 +139,7 @@ impl Reading {
 
     /// Notes that nothing comes any more.
     pub fn end(&mut self, collector: &mut Collector)
-        requires waits { Waits self.old collector.old }
+        requires waits { ReadingWaits self.old collector.old }
         requires below_limit { self.old.taken < self.old.bounds.limit }
         requires reached { HasReached self.old collector.old }
         ensures reached { (options : ReceiveOptions) (answers : List Answer) (taken : List Taken)
@@ -159,7 +159,7 @@ impl Reading {
         room: &mut R,
         from: &mut F,
     ) -> Result<Option<Taken>, SourceFault>
-        requires waits { Waits self.old collector.old }
+        requires waits { ReadingWaits self.old collector.old }
         requires reached { HasReached self.old collector.old }
         requires room { R.is_ready room.old }
         ensures reads { (start : F) (options : ReceiveOptions) (answers : List Answer) (taken : List Taken)
@@ -171,7 +171,7 @@ impl Reading {
         ensures first { KeepsFirst collector.old collector.new }
         ensures room { R.is_ready room.new }
         ensures kind { IfErr result R.fails }
-        ensures cause { Counts (R.faults from.old) (R.faults from.new) (IsFailedCall result) }
+        ensures cause { RisesWhere (R.faults from.old) (R.faults from.new) (IsFailedCall result) }
     {
         if self.taken == self.bounds.limit {
             self.finish(collector, EndWord::Limit);
@@ -187,7 +187,7 @@ impl Reading {
         packets: &mut Packets,
         input: &mut I,
     ) -> Result<Option<Taken>, CaptureStop>
-        requires waits { Waits self.old collector.old }
+        requires waits { ReadingWaits self.old collector.old }
         requires reached { HasReached self.old collector.old }
         ensures reads { (start : I) (options : ReceiveOptions) (answers : List Answer) (taken : List Taken) (during more : List Item)
             → ReadSoFar packets.old (I.known start) (I.known input.old) answers

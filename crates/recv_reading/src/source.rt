@@ -2,19 +2,19 @@
 
 ghost use Rattle.std.specs.Prelude.{ℕ, ◌≡◌, ◌<◌, ◌≤◌, List, ◌++◌, length, IfErr, OnOk};
 ghost use Rattle.drm_links.specs.Link.{Answer};
-ghost use Rattle.drm_links.specs.Told.{Counts};
+ghost use Rattle.drm_links.specs.Told.{RisesWhere};
 ghost use Rattle.drm_links.specs.Hearing.{Heard};
 ghost use Rattle.dcp_collect.specs.declared.taken.Taken.{Taken};
 ghost use Rattle.dcp_collect.specs.Runs.{Item};
 ghost use Rattle.recv_reading.specs.declared.options.ReceiveOptions.{ReceiveOptions};
 ghost use Rattle.recv_reading.specs.First.{KeepsFirst};
 ghost use Rattle.recv_reading.specs.State.{ahead};
-ghost use Rattle.recv_reading.specs.Reached.{Reached, HasReached, Waits, ReadsOn};
+ghost use Rattle.recv_reading.specs.Reached.{Reached, HasReached, ReadingWaits, ReadsOn};
 ghost use Rattle.recv_reading.specs.Source.{ReadSoFar, StopsReading, BreaksLink, IsFailedCall, IsOfLink, IsOfCapture};
 
 use crate::reading::Reading;
-use dcp_collect::{Collector, Taken};
 use capture_reader::{CaptureStop, Packets};
+use dcp_collect::{Collector, Taken};
 use drm_links::{Came, Link, Source};
 
 /// Why no datagram can be had any more.
@@ -63,7 +63,7 @@ pub trait Datagrams<F> {
         collector: &mut Collector,
     ) -> Result<Option<Taken>, SourceFault>
         requires room { is_ready self.old }
-        requires waits { Waits reading.old collector.old }
+        requires waits { ReadingWaits reading.old collector.old }
         requires below_limit { reading.old.taken < reading.old.bounds.limit }
         requires reached { HasReached reading.old collector.old }
         ensures reads { (start : F) (options : ReceiveOptions) (answers : List Answer) (taken : List Taken)
@@ -75,7 +75,7 @@ pub trait Datagrams<F> {
         ensures first { KeepsFirst collector.old collector.new }
         ensures room { is_ready self.new }
         ensures kind { IfErr result fails }
-        ensures cause { Counts (faults from.old) (faults from.new) (IsFailedCall result) };
+        ensures cause { RisesWhere (faults from.old) (faults from.new) (IsFailedCall result) };
 }
 
 /// The room for one datagram of a link: 65,536 bytes.

@@ -6,7 +6,7 @@ use Rattle.recv_reading.proofs.Common.{ReadingState, has_ended, word_of, Reached
 use Rattle.recv_reading.specs.declared.options.ReceiveOptions.{ReceiveOptions}
 use Rattle.drm_links.proofs.ToldLemmas.{Outputs-then, Outputs-nothing, Outputs-weaker}
 use Rattle.drm_reconfiguration.specs.Tracker.{TrackerState, new_tracker}
-use Rattle.mod_feed.specs.Feeding.{FeedStep, IsStep, Feeds, after_step}
+use Rattle.mod_feed.specs.Feeding.{FeedStep, IsStep, FeedAnswers, after_step}
 use Rattle.mod_feed.proofs.FeedingLemmas.{feedings_join}
 use Rattle.report_text.specs.Report.{step_text}
 use Rattle.recv_reading.specs.declared.source.SourceFault.{SourceFault}
@@ -46,8 +46,8 @@ some_items (x ∷ items) item is = cc
 
 -- a write failed, where something was given since the last answer
 front_at : (options : ReceiveOptions) (came : List Answer → Type 0) (a b : Known Output) (answers : List Answer) (taken : List Taken) (during more : List Item) (r : ReadingState) (c : State)
-    (earlier later : List FeedStep) (mid last : TrackerState) → Reached options answers taken during more r c → came answers → (more ≡ [] → ⊥) → Feeds new_tracker during earlier mid
-    → Feeds new_tracker (during ++ more) (earlier ++ later) last → Outputs a b (IsFrontBehind (steps_text earlier) (steps_text later)) → ReadsFront options came a b
+    (earlier later : List FeedStep) (mid last : TrackerState) → Reached options answers taken during more r c → came answers → (more ≡ [] → ⊥) → FeedAnswers new_tracker during earlier mid
+    → FeedAnswers new_tracker (during ++ more) (earlier ++ later) last → Outputs a b (IsFrontBehind (steps_text earlier) (steps_text later)) → ReadsFront options came a b
 front_at options came a b answers taken during more r c earlier later mid last z heard some before fed text =
     elim (gives_some options answers taken during more r c z) [
       | inl none ↦ absurd (some none)
@@ -62,7 +62,7 @@ front_at options came a b answers taken during more r c earlier later mid last z
           items = during ++ more;
           some = part;
           mid = mid;
-          before = subst (λ l. Feeds new_tracker l earlier mid) (sym same) before;
+          before = subst (λ l. FeedAnswers new_tracker l earlier mid) (sym same) before;
           last = last;
           feeds = fed;
         };
@@ -81,13 +81,13 @@ module _ (options : ReceiveOptions) (came : List Answer → Type 0) (a b : Known
       let l : length (refusals p.taken) ≤ length p.taken = refusals_few 0 p.taken in
       omega (arith, e, l, many_taken)
 
-  all_fed : Feeds new_tracker (p.during ++ p.more) (p.has.earlier ++ p.has.later) f
+  all_fed : FeedAnswers new_tracker (p.during ++ p.more) (p.has.earlier ++ p.has.later) f
   all_fed = feedings_join new_tracker p.has.mid f p.during p.more p.has.earlier p.has.later p.has.before p.has.since
 
   -- ---- an item
 
   module _ (item : Item) (step : FeedStep) (stepping : IsStep f item step) where
-    since_one : Feeds p.has.mid (p.more ++ item ∷ []) (p.has.later ++ step ∷ []) (after_step f step)
+    since_one : FeedAnswers p.has.mid (p.more ++ item ∷ []) (p.has.later ++ step ∷ []) (after_step f step)
     since_one = feedings_join p.has.mid f (after_step f step) p.more (item ∷ []) p.has.later (step ∷ []) p.has.since (stepping, refl)
 
     -- it was counted, and its lines were put behind the others
@@ -101,7 +101,7 @@ module _ (options : ReceiveOptions) (came : List Answer → Type 0) (a b : Known
           mid = p.has.mid;
           before = p.has.before;
           later = p.has.later ++ step ∷ [];
-          since = subst (λ h. Feeds p.has.mid (p.more ++ item ∷ []) (p.has.later ++ step ∷ []) h) (sym after) since_one;
+          since = subst (λ h. FeedAnswers p.has.mid (p.more ++ item ∷ []) (p.has.later ++ step ∷ []) h) (sym after) since_one;
           calls = counts ∙ ap (λ n. n + 1) p.has.calls ∙ sym next;
           tally = is ∙ ap (λ (w : Tallied). counted w step.item) p.has.tally ∙ steps_counted (p.has.earlier ++ p.has.later) (step ∷ []) p.taken
               ∙ ap (λ l. tally_of l p.taken) (append_assoc p.has.earlier p.has.later (step ∷ []));

@@ -10,31 +10,31 @@ use Rattle.recv_reading.proofs.Common.{Known, Answer, Failed, datagram_of, Outpu
 use Rattle.recv_reading.proofs.Common.{datagrams, HasGiven, EndsBy, GoesOn, IsFinished}
 use Rattle.recv_reading.specs.declared.reason.EndWord.{EndWord}
 use Rattle.recv_reading.specs.declared.options.ReceiveOptions.{ReceiveOptions}
-use Rattle.drm_links.specs.Told.{BothTold}
+use Rattle.drm_links.specs.Told.{IfBoth}
 use Rattle.drm_links.specs.Link.{Traffic}
 use Rattle.drm_links.proofs.ToldLemmas.{Outputs-weaker}
 use Rattle.dcp_collect.specs.declared.taken.Taken.TheVariants.{Kept, Repeated, Late, Refused, Inconsistent}
 use Rattle.drm_reconfiguration.specs.Tracker.{new_tracker}
 use Rattle.mod_feed.specs.Items.{Item}
-use Rattle.mod_feed.specs.Feeding.{FeedStep, Feeds}
+use Rattle.mod_feed.specs.Feeding.{FeedStep, FeedAnswers}
 use Rattle.drm_timeline.specs.Numbers.{frame_count}
-use Rattle.law_delivery.specs.Sent.{Arrival, OfSchedule, Stray, pairs_in, IsFollowed, IsInTime}
+use Rattle.law_delivery.specs.Sent.{Arrival, OfSchedule, Stray, pairs_in, IsDeliveryOf, IsInTime}
 use Rattle.law_delivery.specs.Given.{AreGiven, AreAllServed}
-use Rattle.law_delivery.specs.Laws.{Suits, Delivering, DeliveringEarly, StraysRefused, GivenInTime, SwitchesAtStarts, AllSwitches, AllFrames}
+use Rattle.law_delivery.specs.Laws.{AnswerSuits, Delivering, DeliveringEarly, StraysRefused, GivenInTime, SwitchesAtStarts, AllSwitches, AllFrames}
 use Rattle.recv_reading.specs.declared.reason.EndWord.TheVariants as word
 use Rattle.drm_links.specs.Hearing.{AreNext, HeardTold, Heard}
-use Rattle.recv_reading.specs.Ending.{Holds}
+use Rattle.recv_reading.specs.Ending.{ReasonHolds}
 use Rattle.report_text.specs.Reports.{is_given, refusals_from, report, is_clean}
 use Rattle.recv_report.specs.Received.{IsReport, Reported}
 use Rattle.law_frame_lines.specs.Laws.{ServedLines}
-use Rattle.recv_report.specs.Headline.{strays_from, TellsSwitches, GivesInTime, HeadlineOf, untold, WouldBeRead, ModulatesAll, Came, CompleteOf, Headline, Complete, PrintsFrames}
+use Rattle.recv_report.specs.Headline.{strays_from, TellsSwitches, GivesInTime, HeadlineOf, untold, WouldBeRead, ReportsAllFrames, Came, CompleteOf, Headline, Complete, PrintsFrames}
 use Rattle.recv_report.specs.Following.{HeadlinesFollow, CompletesFollow}
 use Rattle.recv_reading.proofs.Reaching.{one_way}
 use Rattle.recv_reading.proofs.OneReading.{next_front, not_shorter, same_next, next_split, goes_past}
 
 -- ---- the strays alone were refused
 
-pub strays_noted : (n : ℕ) (arrivals : List Arrival) (taken : List Taken) → AllZip Suits arrivals taken → refusals_from n taken ≡ strays_from n arrivals
+pub strays_noted : (n : ℕ) (arrivals : List Arrival) (taken : List Taken) → AllZip AnswerSuits arrivals taken → refusals_from n taken ≡ strays_from n arrivals
 strays_noted n [] [] suit = refl
 strays_noted n [] (a ∷ taken) suit = absurd suit
 strays_noted n (x ∷ arrivals) [] suit = absurd suit
@@ -105,10 +105,10 @@ served_clean plan base steps all = all_given steps (λ q step e. let (t, is, ser
 -- what is known of the frames makes the text that of all frames
 modulates_all : AllFrames → ItemLaws → (plan : Plan) (rules : ReceiveOptions) (told : Option ℕ) (feed : ℕ) (ahead rest answers : List Answer) (arrivals : List Arrival) (ds : List (List ℕ)) (text : List ℕ) (clean : Bool)
     → AreNext ahead answers rest → (r : IsReport rules feed answers text clean)
-    → IsSchedule plan → (told ≡ None) ⊎ (told ≡ Some (frame_count plan)) → IsFollowed plan rules.reach rules.first (pos 0) arrivals ds
+    → IsSchedule plan → (told ≡ None) ⊎ (told ≡ Some (frame_count plan)) → IsDeliveryOf plan rules.reach rules.first (pos 0) arrivals ds
     → ((q : ℕ) → q < frame_count plan → IsInTime plan rules.window (pos 0) (pairs_in arrivals) q)
-    → AreGiven plan rules.window (pos 0) told (pairs_in arrivals) r.steps → AllZip Suits (take (length (datagrams answers)) arrivals) r.taken
-    → ModulatesAll plan rules feed arrivals ahead text clean
+    → AreGiven plan rules.window (pos 0) told (pairs_in arrivals) r.steps → AllZip AnswerSuits (take (length (datagrams answers)) arrivals) r.taken
+    → ReportsAllFrames plan rules feed arrivals ahead text clean
 modulates_all law laws plan rules told feed ahead rest answers arrivals ds text clean next r schedule known followed in_time given suit =
     let (many, all) = law plan rules.window rules.reach told arrivals ds rules.first r.steps schedule known followed in_time given in
     record {
@@ -127,7 +127,7 @@ modulates_all law laws plan rules told feed ahead rest answers arrivals ds text 
 -- ---- with and without a told number
 
 -- a reason to end without a told number is one with it
-holds_told : (rules : ReceiveOptions) (xs : List Answer) (w : EndWord) → EndsBy (untold rules) xs w → Holds rules xs w
+holds_told : (rules : ReceiveOptions) (xs : List Answer) (w : EndWord) → EndsBy (untold rules) xs w → ReasonHolds rules xs w
 holds_told rules xs word.Frames e = absurd e
 holds_told rules xs word.Limit e = e.0
 holds_told rules xs word.Idle e = e.0
@@ -139,7 +139,7 @@ no_longer : (rules : ReceiveOptions) (ahead r s : List Answer) (xs ys : List Ans
 no_longer rules ahead r s xs ys v w p q f g l = not_shorter rules ahead s r ys xs w q p (holds_told rules ys w g.ends) f.goes_on l
 
 -- where it doesn't end by the told number, it is the same
-same_untold : (rules : ReceiveOptions) (ahead r s : List Answer) (xs ys : List Answer) (v w : EndWord) → AreNext ahead xs r → AreNext ahead ys s → IsFinished rules xs v → IsFinished (untold rules) ys w → Holds (untold rules) xs v → xs ≡ ys
+same_untold : (rules : ReceiveOptions) (ahead r s : List Answer) (xs ys : List Answer) (v w : EndWord) → AreNext ahead xs r → AreNext ahead ys s → IsFinished rules xs v → IsFinished (untold rules) ys w → ReasonHolds (untold rules) xs v → xs ≡ ys
 same_untold rules ahead r s xs ys v w p q f g h =
     same_next ahead r s xs ys p q (not_shorter (untold rules) ahead r s xs ys v p q h g.goes_on) (no_longer rules ahead r s xs ys v w p q f g)
 
@@ -164,7 +164,7 @@ read_front rules ahead rest answers others w next f (inr (told, of)) =
 
 -- where it doesn't end by the told number, it is all of that
 read_all : (rules : ReceiveOptions) (ahead rest : List Answer) (answers others : List Answer) (w : EndWord) → AreNext ahead answers rest → IsFinished rules answers w → WouldBeRead rules ahead others
-    → Holds (untold rules) answers w → answers ≡ others
+    → ReasonHolds (untold rules) answers w → answers ≡ others
 read_all rules ahead rest answers others w next f (inl (v, of)) holds = same_untold rules ahead rest of.rest answers others w v next of.next f of.ends holds
 read_all rules ahead rest answers others w next f (inr (told, of)) holds =
     let half = next_split ahead of.rest others (Failed ∷ []) of.next in
@@ -174,7 +174,7 @@ read_all rules ahead rest answers others w next f (inr (told, of)) holds =
     let equal : answers ≡ of.ends.0 =
     same_next ahead rest half.0 answers others next half.1 (not_shorter (untold rules) ahead rest half.0 answers others w next half.1 holds goes_on)
     (goes_past rules ahead rest of.rest answers others next of.next f.goes_on) ∙ same in
-    absurd (broken.is_open w (subst (λ l. Holds (untold rules) l w) equal holds))
+    absurd (broken.is_open w (subst (λ l. ReasonHolds (untold rules) l w) equal holds))
 
 -- the laws of whole deliveries and of fronts of them
 pub record DeliveryLaws : Type 0 where
@@ -187,43 +187,43 @@ pub record DeliveryLaws : Type 0 where
 module _ (laws : DeliveryLaws) (rules : ReceiveOptions) (feed : ℕ) (ahead rest answers : List Answer) (text : List ℕ) (clean : Bool) (plan : Plan) (arrivals : List Arrival)
     (some : 1 ≤ rules.window) (next : AreNext ahead answers rest) (r : IsReport rules feed answers text clean) (schedule : IsSchedule plan)
     (in_time : (q : ℕ) → q < frame_count plan → IsInTime plan rules.window (pos 0) (pairs_in arrivals) q) where
-  suits : (later : List (List ℕ)) → IsFollowed plan rules.reach rules.first (pos 0) arrivals (datagrams answers ++ later) → AllZip Suits (take (length (datagrams answers)) arrivals) r.taken
+  suits : (later : List (List ℕ)) → IsDeliveryOf plan rules.reach rules.first (pos 0) arrivals (datagrams answers ++ later) → AllZip AnswerSuits (take (length (datagrams answers)) arrivals) r.taken
   suits later followed =
       laws.refused plan rules.window rules.reach rules.first (pos 0) arrivals (datagrams answers) later r.taken r.run.during r.run.mid schedule some followed r.run.steps
 
   -- where the reading ends by the told number
   complete_early : (n : ℕ) (later : List (List ℕ)) → HasGiven rules answers (Some n) → rules.frames ≡ Some n → n ≡ frame_count plan
-      → IsFollowed plan rules.reach rules.first (pos 0) arrivals (datagrams answers ++ later) → ModulatesAll plan rules feed arrivals ahead text clean
+      → IsDeliveryOf plan rules.reach rules.first (pos 0) arrivals (datagrams answers ++ later) → ReportsAllFrames plan rules feed arrivals ahead text clean
   complete_early n later (taken, items, end, gave, enough) told size followed =
       let same : r.run.during ≡ items = (one_way (made rules.window rules.reach rules.first) end r.run.mid (datagrams answers) taken r.taken items r.run.during gave r.run.steps).1 in
       let long : length r.run.during ≡ length items = ap length same in
       let l : n ≤ length r.run.during = omega (arith, long, enough) in
       let are : r.items ≡ take n r.run.during = r.run.are ∙ ap (λ t. up_to t (r.run.during ++ r.run.rest)) told ∙ take-append-le n r.run.during r.run.rest l in
-      let feeds : Feeds new_tracker (take n r.run.during) r.steps r.after = subst (λ xs. Feeds new_tracker xs r.steps r.after) are r.feeds in
+      let feeds : FeedAnswers new_tracker (take n r.run.during) r.steps r.after = subst (λ xs. FeedAnswers new_tracker xs r.steps r.after) are r.feeds in
       let given : AreGiven plan rules.window (pos 0) (Some n) (pairs_in arrivals) r.steps =
       laws.early plan rules.window rules.reach n rules.first (pos 0) arrivals (datagrams answers) later r.taken r.run.during r.run.mid r.steps r.after schedule some followed r.run.steps l feeds in
       modulates_all laws.all_frames laws.items plan rules (Some n) feed ahead rest answers arrivals (datagrams answers ++ later) text clean next r schedule (inr (ap Some size)) followed in_time given (suits later followed)
 
   -- where it ends otherwise
-  complete_same : (rules.frames ≡ None) ⊎ (rules.frames ≡ Some (frame_count plan)) → IsFollowed plan rules.reach rules.first (pos 0) arrivals (datagrams answers) → ModulatesAll plan rules feed arrivals ahead text clean
+  complete_same : (rules.frames ≡ None) ⊎ (rules.frames ≡ Some (frame_count plan)) → IsDeliveryOf plan rules.reach rules.first (pos 0) arrivals (datagrams answers) → ReportsAllFrames plan rules feed arrivals ahead text clean
   complete_same known followed =
       let given = (laws.whole plan rules.window rules.reach rules.first rules.frames (pos 0) arrivals (datagrams answers) r.taken r.items r.steps r.after schedule some followed r.run r.feeds).0 in
-      let suit = suits [] (subst (IsFollowed plan rules.reach rules.first (pos 0) arrivals) (sym (append-nil (datagrams answers))) followed) in
+      let suit = suits [] (subst (IsDeliveryOf plan rules.reach rules.first (pos 0) arrivals) (sym (append-nil (datagrams answers))) followed) in
       modulates_all laws.all_frames laws.items plan rules rules.frames feed ahead rest answers arrivals (datagrams answers) text clean next r schedule known followed in_time given suit
 
-  complete_whole : (others : List Answer) (w : EndWord) → IsFinished rules answers w → WouldBeRead rules ahead others → IsFollowed plan rules.reach rules.first (pos 0) arrivals (datagrams others)
-      → (rules.frames ≡ None) ⊎ (rules.frames ≡ Some (frame_count plan)) → Holds (untold rules) answers w → ModulatesAll plan rules feed arrivals ahead text clean
+  complete_whole : (others : List Answer) (w : EndWord) → IsFinished rules answers w → WouldBeRead rules ahead others → IsDeliveryOf plan rules.reach rules.first (pos 0) arrivals (datagrams others)
+      → (rules.frames ≡ None) ⊎ (rules.frames ≡ Some (frame_count plan)) → ReasonHolds (untold rules) answers w → ReportsAllFrames plan rules feed arrivals ahead text clean
   complete_whole others w f would followed known holds =
-      complete_same known (subst (λ l. IsFollowed plan rules.reach rules.first (pos 0) arrivals (datagrams l)) (sym (read_all rules ahead rest answers others w next f would holds)) followed)
+      complete_same known (subst (λ l. IsDeliveryOf plan rules.reach rules.first (pos 0) arrivals (datagrams l)) (sym (read_all rules ahead rest answers others w next f would holds)) followed)
 
   -- by why the reading ends
   complete_by : (others : List Answer) (w : EndWord) → IsFinished rules answers w → WouldBeRead rules ahead others
-      → IsFollowed plan rules.reach rules.first (pos 0) arrivals (datagrams others) → (rules.frames ≡ None) ⊎ (rules.frames ≡ Some (frame_count plan)) → ModulatesAll plan rules feed arrivals ahead text clean
+      → IsDeliveryOf plan rules.reach rules.first (pos 0) arrivals (datagrams others) → (rules.frames ≡ None) ⊎ (rules.frames ≡ Some (frame_count plan)) → ReportsAllFrames plan rules feed arrivals ahead text clean
   complete_by others word.Frames f would followed (inl none) = absurd (subst (HasGiven rules answers) none f.ends)
   complete_by others word.Frames f would followed (inr told) =
       let (later, are) = read_front rules ahead rest answers others word.Frames next f would in
       let joined : datagrams others ≡ datagrams answers ++ datagrams later = ap datagrams are ∙ filter_map-append datagram_of answers later in
-      complete_early (frame_count plan) (datagrams later) (subst (HasGiven rules answers) told f.ends) told refl (subst (IsFollowed plan rules.reach rules.first (pos 0) arrivals) joined followed)
+      complete_early (frame_count plan) (datagrams later) (subst (HasGiven rules answers) told f.ends) told refl (subst (IsDeliveryOf plan rules.reach rules.first (pos 0) arrivals) joined followed)
   complete_by others word.Limit f would followed known = complete_whole others word.Limit f would followed known f.ends.0
   complete_by others word.Idle f would followed known = complete_whole others word.Idle f would followed known f.ends.0
   complete_by others word.Input f would followed known = complete_whole others word.Input f would followed known f.ends.0
@@ -239,7 +239,7 @@ complete laws rules feed ahead answers rest text clean some next r plan arrivals
 
 headline_told : HeadlinesFollow → (rules : ReceiveOptions) (feed : ℕ) (before after : Option Traffic) (a b : Known Output) (clean : Bool) (heard : List Answer) (whole : List ℕ) → 1 ≤ rules.window
     → HeardTold heard before after → IsReport rules feed heard whole clean → Outputs a b (λ t. t ≡ whole)
-    → BothTold before after (λ x y. (answers : List Answer) → Came answers x y → Outputs a b (λ t. HeadlineOf rules feed answers t clean))
+    → IfBoth before after (λ x y. (answers : List Answer) → Came answers x y → Outputs a b (λ t. HeadlineOf rules feed answers t clean))
 headline_told law rules feed None after a b clean heard whole some h is text = tt
 headline_told law rules feed (Some x) None a b clean heard whole some h is text = tt
 headline_told law rules feed (Some x) (Some y) a b clean heard whole some h is text = λ answers came.
@@ -254,7 +254,7 @@ receives_headline law rules feed before after a b clean some r =
 
 complete_told : CompletesFollow → (rules : ReceiveOptions) (feed : ℕ) (before after : Option Traffic) (a b : Known Output) (clean : Bool) (heard : List Answer) (whole : List ℕ) → 1 ≤ rules.window
     → HeardTold heard before after → IsReport rules feed heard whole clean → Outputs a b (λ t. t ≡ whole)
-    → BothTold before after (λ x y. Outputs a b (λ t. CompleteOf rules feed x.ahead t clean))
+    → IfBoth before after (λ x y. Outputs a b (λ t. CompleteOf rules feed x.ahead t clean))
 complete_told law rules feed None after a b clean heard whole some h is text = tt
 complete_told law rules feed (Some x) None a b clean heard whole some h is text = tt
 complete_told law rules feed (Some x) (Some y) a b clean heard whole some h is text =

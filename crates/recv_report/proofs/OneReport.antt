@@ -4,7 +4,7 @@ use Rattle.recv_reading.proofs.Common.{Taken, made, after_finish, Item, Gives, R
 use Rattle.dcp_collect.proofs.Decoded.{one_decoding}
 use Rattle.law_collect.proofs.Unique.{one_giving}
 use Rattle.drm_reconfiguration.specs.Tracker.{new_tracker}
-use Rattle.mod_feed.specs.Feeding.{Feeds}
+use Rattle.mod_feed.specs.Feeding.{FeedAnswers}
 use Rattle.mod_feed.proofs.FeedingLemmas.{feeding_is_one}
 use Rattle.report_text.specs.Reports.{refusals, report, is_clean}
 use Rattle.recv_report.specs.OneReport.{IsOneReport}
@@ -23,7 +23,7 @@ pub one_report : IsOneReport
 one_report rules feed answers text text' clean clean' r s =
     let w : s.word ≡ r.word = one_word rules answers r.word s.word r.reading.ends s.reading.ends in
     let (t, i) = runs_same rules.window rules.reach rules.first rules.frames (datagrams answers) r.taken s.taken r.items s.items r.run s.run in
-    let feeds : Feeds new_tracker r.items s.steps s.after = subst (λ xs. Feeds new_tracker xs s.steps s.after) i s.feeds in
+    let feeds : FeedAnswers new_tracker r.items s.steps s.after = subst (λ xs. FeedAnswers new_tracker xs s.steps s.after) i s.feeds in
     let e : s.steps ≡ r.steps = (feeding_is_one new_tracker r.after s.after r.items r.steps s.steps r.feeds feeds).0 in (
       s.text_is ∙ ap (λ l. report feed l (refusals s.taken) s.word) e ∙ ap (λ l. report feed r.steps (refusals l) s.word) t ∙ ap (report feed r.steps (refusals r.taken)) w ∙ sym r.text_is,
       s.clean_is ∙ ap is_clean e ∙ sym r.clean_is,

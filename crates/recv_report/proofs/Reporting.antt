@@ -7,7 +7,7 @@ use Rattle.recv_reading.specs.declared.options.ReceiveOptions.{ReceiveOptions}
 use Rattle.drm_links.proofs.ToldLemmas.{Outputs-weaker}
 use Rattle.drm_links.proofs.WritingLemmas.{text_then, front_more, front_then, front_behind}
 use Rattle.drm_reconfiguration.specs.Tracker.{new_tracker}
-use Rattle.mod_feed.specs.Feeding.{FeedStep, Feeds}
+use Rattle.mod_feed.specs.Feeding.{FeedStep, FeedAnswers}
 use Rattle.report_text.specs.Report.{feed_line, end_line}
 use Rattle.recv_reading.specs.declared.source.SourceFault.{SourceFault}
 use Rattle.recv_report.specs.declared.reading.ReceiveFault.{ReceiveFault}
@@ -145,7 +145,7 @@ broken rules some feed hears a0 a b first read = record {
     gave = read.gave;
     steps = read.steps;
     after = read.last;
-    feeds = subst (λ l. Feeds new_tracker l read.steps read.last) (sym read.all) read.feeds;
+    feeds = subst (λ l. FeedAnswers new_tracker l read.steps read.last) (sym read.all) read.feeds;
     text_is = refl;
   };
   text = text_then (feed_line feed) (steps_text read.steps) a0 a b first read.text;

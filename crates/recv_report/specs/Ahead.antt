@@ -4,7 +4,7 @@ use Rattle.drm_schedule.specs.declared.plan.Plan.{Plan}
 use Rattle.drm_schedule.specs.Valid.{IsSchedule}
 use Rattle.drm_links.specs.Link.{Answer}
 use Rattle.drm_timeline.specs.Numbers.{frame_count}
-use Rattle.law_delivery.specs.Sent.{Arrival, pairs_in, IsFollowed, IsInTime}
+use Rattle.law_delivery.specs.Sent.{Arrival, pairs_in, IsDeliveryOf, IsInTime}
 use Rattle.drm_links.specs.Hearing.{AreNext}
 use Rattle.recv_reading.specs.declared.options.ReceiveOptions.{ReceiveOptions}
 use Rattle.recv_reading.specs.Ending.{datagrams, GoesOn}
@@ -30,7 +30,7 @@ pub record IsInTimeAhead (rules : ReceiveOptions) (ahead : List Answer) : Type 0
   pub arrivals : List Arrival
   pub answers : List Answer
   pub read : WouldBeRead rules ahead answers
-  pub followed : IsFollowed plan rules.reach rules.first (pos 0) arrivals (datagrams answers)
+  pub followed : IsDeliveryOf plan rules.reach rules.first (pos 0) arrivals (datagrams answers)
   pub frames : (rules.frames ≡ None) ⊎ (rules.frames ≡ Some (frame_count plan))
   pub in_time : (q : ℕ) → q < frame_count plan → IsInTime plan rules.window (pos 0) (pairs_in arrivals) q
 

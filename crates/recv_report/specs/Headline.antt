@@ -2,7 +2,7 @@
 use Rattle.std.specs.Prelude.{ℕ, ℤ, pos, ◌+ℤ◌, ◌≡◌, ◌≢◌, ◌+◌, ◌*◌, ◌<◌, ◌⊎◌, Bool, true, List, [], ◌∷◌, ◌++◌, length, take, slice_get, Contains, None, Some}
 use Rattle.drm_schedule.specs.declared.plan.Plan.{Plan}
 use Rattle.drm_schedule.specs.Valid.{IsSchedule}
-use Rattle.drm_links.specs.Told.{Known, WhileTold}
+use Rattle.drm_links.specs.Told.{Known, IfBothKnown}
 use Rattle.drm_links.specs.Link.{Answer, Failed, Traffic}
 use Rattle.drm_links.specs.Sink.{Output, Outputs}
 use Rattle.dcp_collect.specs.declared.taken.Taken.TheVariants.{Refused}
@@ -10,7 +10,7 @@ use Rattle.drm_reconfiguration.specs.declared.tracker.Before.TheVariants.{Switch
 use Rattle.drm_timeline.specs.Starts.{later_starts}
 use Rattle.mod_feed.specs.Feeding.{FeedStep, told_before}
 use Rattle.drm_timeline.specs.Numbers.{frame_count}
-use Rattle.law_delivery.specs.Sent.{Arrival, OfSchedule, Stray, pairs_in, IsFollowed, IsInTime}
+use Rattle.law_delivery.specs.Sent.{Arrival, OfSchedule, Stray, pairs_in, IsDeliveryOf, IsInTime}
 use Rattle.law_delivery.specs.Given.{IsServed, AreGiven, IsStart, AreAllServed, AreAllFrames}
 use Rattle.law_frame_lines.specs.Line.{IsFrameLine}
 use Rattle.report_text.specs.Report.{item_line}
@@ -51,7 +51,7 @@ strays arrivals = strays_from 0 arrivals
 
 -- The text is the report of what a delivery of a schedule calls for: of what was refused it names the strays, and last it says
 -- why the reading of these answers ends.
-pub record Modulates (plan : Plan) (rules : ReceiveOptions) (feed : ℕ) (base : ℤ) (arrivals : List Arrival) (answers : List Answer) (text : List ℕ) (clean : Bool) : Type 0 where
+pub record ReportsDelivery (plan : Plan) (rules : ReceiveOptions) (feed : ℕ) (base : ℤ) (arrivals : List Arrival) (answers : List Answer) (text : List ℕ) (clean : Bool) : Type 0 where
   pub steps : List FeedStep
   pub given : AreGiven plan rules.window base rules.frames (pairs_in arrivals) steps
   pub in_time : GivesInTime plan rules.window base (pairs_in arrivals) steps
@@ -66,8 +66,8 @@ pub record Modulates (plan : Plan) (rules : ReceiveOptions) (feed : ℕ) (base :
 abbrev pub HeadlineOf : ReceiveOptions → ℕ → List Answer → List ℕ → Bool → Type 0
 HeadlineOf rules feed answers text clean =
     (plan : Plan) (base : ℤ) (arrivals : List Arrival)
-    → IsSchedule plan → IsFollowed plan rules.reach rules.first base arrivals (datagrams answers)
-    → Modulates plan rules feed base arrivals answers text clean
+    → IsSchedule plan → IsDeliveryOf plan rules.reach rules.first base arrivals (datagrams answers)
+    → ReportsDelivery plan rules feed base arrivals answers text clean
 
 -- without a told number of frames
 abbrev pub untold : ReceiveOptions → ReceiveOptions
@@ -82,7 +82,7 @@ WouldBeRead rules ahead answers =
 
 -- All frames of the schedule were given, with its switches. The text says nothing else, but the strays among what was read of
 -- what was ahead, and why that reading ends.
-pub record ModulatesAll (plan : Plan) (rules : ReceiveOptions) (feed : ℕ) (arrivals : List Arrival) (ahead : List Answer) (text : List ℕ) (clean : Bool) : Type 0 where
+pub record ReportsAllFrames (plan : Plan) (rules : ReceiveOptions) (feed : ℕ) (arrivals : List Arrival) (ahead : List Answer) (text : List ℕ) (clean : Bool) : Type 0 where
   pub steps : List FeedStep
   pub many : length steps ≡ frame_count plan
   pub all : AreAllServed plan (pos 0) steps
@@ -100,10 +100,10 @@ abbrev pub CompleteOf : ReceiveOptions → ℕ → List Answer → List ℕ → 
 CompleteOf rules feed ahead text clean =
     (plan : Plan) (arrivals : List Arrival) (answers : List Answer)
     → IsSchedule plan → WouldBeRead rules ahead answers
-    → IsFollowed plan rules.reach rules.first (pos 0) arrivals (datagrams answers)
+    → IsDeliveryOf plan rules.reach rules.first (pos 0) arrivals (datagrams answers)
     → (rules.frames ≡ None) ⊎ (rules.frames ≡ Some (frame_count plan))
     → ((q : ℕ) → q < frame_count plan → IsInTime plan rules.window (pos 0) (pairs_in arrivals) q)
-    → ModulatesAll plan rules feed arrivals ahead text clean
+    → ReportsAllFrames plan rules feed arrivals ahead text clean
 
 -- These answers came over the link in between.
 abbrev pub Came : List Answer → Traffic → Traffic → Type 0
@@ -112,10 +112,10 @@ Came answers before after = after.answers ≡ before.answers ++ answers
 -- THE HEADLINE for one link: whatever delivery of whatever valid schedule came over it, its report was written.
 abbrev pub Headline : ReceiveOptions → ℕ → Known Traffic → Known Traffic → Known Output → Known Output → Bool → Type 0
 Headline rules feed before after a b clean =
-    WhileTold before after (λ x y. (answers : List Answer) → Came answers x y
+    IfBothKnown before after (λ x y. (answers : List Answer) → Came answers x y
     → Outputs a b (λ text. HeadlineOf rules feed answers text clean))
 
 -- Whatever was ahead of the link: where it held each frame in time, all of them were given.
 abbrev pub Complete : ReceiveOptions → ℕ → Known Traffic → Known Traffic → Known Output → Known Output → Bool → Type 0
 Complete rules feed before after a b clean =
-    WhileTold before after (λ x y. Outputs a b (λ text. CompleteOf rules feed x.ahead text clean))
+    IfBothKnown before after (λ x y. Outputs a b (λ text. CompleteOf rules feed x.ahead text clean))

@@ -7,9 +7,9 @@ use Rattle.dcp_collect.specs.declared.taken.Taken.{Taken}
 use Rattle.dcp_collect.specs.State.{State}
 use Rattle.dcp_collect.specs.Runs.{Item, IsItem, Run, up_to}
 use Rattle.drm_reconfiguration.specs.Tracker.{TrackerState, new_tracker}
-use Rattle.mod_feed.specs.Feeding.{FeedStep, IsStep, Feeds, after_step}
+use Rattle.mod_feed.specs.Feeding.{FeedStep, IsStep, FeedAnswers, after_step}
 use Rattle.report_text.specs.Report.{step_text}
-use Rattle.text_output.specs.Gathering.{Puts}
+use Rattle.text_output.specs.Gathering.{PutsText}
 use Rattle.recv_reading.specs.declared.options.ReceiveOptions.{ReceiveOptions}
 use Rattle.recv_reading.specs.declared.reason.EndWord.{EndWord}
 use Rattle.recv_reading.specs.declared.source.SourceFault.{SourceFault}
@@ -30,9 +30,9 @@ AreOut earlier later gathered text =
 pub record HasPrinted (a b : Known Output) (f : TrackerState) (t : Tallied) (gathered : List ℕ) (taken : List Taken) (during more : List Item) (c : State) : Type 0 where
   pub earlier : List FeedStep
   pub mid : TrackerState
-  pub before : Feeds new_tracker during earlier mid
+  pub before : FeedAnswers new_tracker during earlier mid
   pub later : List FeedStep
-  pub since : Feeds mid more later f
+  pub since : FeedAnswers mid more later f
   pub calls : f.calls ≡ c.next
   pub tally : t ≡ tally_of (earlier ++ later) taken
   pub items : items_in t.sums ≡ c.next
@@ -48,7 +48,7 @@ pub record WritesNext {E : Type 0} (result : Result (Unit {0}) E) (c : State) (f
   pub feed : g ≡ after_step f step
   pub calls : g.calls ≡ f.calls + 1
   pub tally : u ≡ counted t step.item
-  pub puts : Puts result gathered more a b (step_text step)
+  pub puts : PutsText result gathered more a b (step_text step)
 
 -- with what became of a datagram, if one came
 abbrev pub noted_if : Tallied → ℕ → Option Taken → Tallied
@@ -66,7 +66,7 @@ pub record WroteItems (options : ReceiveOptions) (came : List Answer → Type 0)
   pub run : Run options.window options.reach options.first options.frames (datagrams answers) taken items
   pub steps : List FeedStep
   pub last : TrackerState
-  pub feeds : Feeds new_tracker items steps last
+  pub feeds : FeedAnswers new_tracker items steps last
   pub tally : t ≡ tally_of steps taken
   pub text : Outputs a b (λ text. text ≡ steps_text steps)
 
@@ -84,7 +84,7 @@ pub record ReadsBroken (options : ReceiveOptions) (came : List Answer → Type 0
   pub all : up_to options.frames items ≡ items
   pub steps : List FeedStep
   pub last : TrackerState
-  pub feeds : Feeds new_tracker items steps last
+  pub feeds : FeedAnswers new_tracker items steps last
   pub text : Outputs a b (λ text. text ≡ steps_text steps)
 
 -- a write failed: what was given before the last answer was written, and a front of what that one made ready

@@ -7,7 +7,7 @@ use Rattle.dcp_collect.specs.declared.taken.Taken.{Taken}
 use Rattle.dcp_collect.specs.State.{State}
 use Rattle.dcp_collect.specs.Runs.{Item, Run, up_to}
 use Rattle.drm_reconfiguration.specs.Tracker.{TrackerState, new_tracker}
-use Rattle.mod_feed.specs.Feeding.{FeedStep, Feeds}
+use Rattle.mod_feed.specs.Feeding.{FeedStep, FeedAnswers}
 use Rattle.recv_reading.specs.declared.reason.EndWord.{EndWord}
 use Rattle.report_text.specs.Report.{feed_line}
 use Rattle.drm_links.specs.Hearing.{Heard}
@@ -28,7 +28,7 @@ pub record IsReport (rules : ReceiveOptions) (feed : ℕ) (answers : List Answer
   pub run : Run rules.window rules.reach rules.first rules.frames (datagrams answers) taken items
   pub steps : List FeedStep
   pub after : TrackerState
-  pub feeds : Feeds new_tracker items steps after
+  pub feeds : FeedAnswers new_tracker items steps after
   pub text_is : text ≡ report feed steps (refusals taken) word
   pub clean_is : clean ≡ is_clean steps
 
@@ -42,7 +42,7 @@ pub record IsBrokenOff (rules : ReceiveOptions) (feed : ℕ) (answers : List Ans
   pub gave : Gave rules before taken items end
   pub steps : List FeedStep
   pub after : TrackerState
-  pub feeds : Feeds new_tracker (up_to rules.frames items) steps after
+  pub feeds : FeedAnswers new_tracker (up_to rules.frames items) steps after
   pub text_is : text ≡ feed_line feed ++ steps_text steps
 
 -- the steps of all that was given before the last answer, and of what came then
@@ -50,9 +50,9 @@ pub record Stepped (rules : ReceiveOptions) (answers : List Answer) (earlier lat
   pub items : List Item
   pub some : GivesSome rules answers items
   pub mid : TrackerState
-  pub before : Feeds new_tracker (up_to rules.frames some.during) earlier mid
+  pub before : FeedAnswers new_tracker (up_to rules.frames some.during) earlier mid
   pub last : TrackerState
-  pub feeds : Feeds new_tracker items (earlier ++ later) last
+  pub feeds : FeedAnswers new_tracker items (earlier ++ later) last
 
 -- What is written where a write failed: a front of the first line, before anything is read; all that was given before the last
 -- answer, and a front of what that one made ready; or the lines of all items, and a front of what ends the report.

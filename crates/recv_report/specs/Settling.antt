@@ -14,10 +14,10 @@ job_texts jobs = flat_map (λ job. text_of job) jobs
 
 -- Where all are done their texts are written, or a front of them; where a link failed, and else where not all are done for want
 -- of memory, nothing.
-abbrev pub Settles : {L O : Type 0} → List (Job L) → Result Bool Stop → (O → Known Output) → O → O → Type 0
-Settles jobs (Ok clean) known out out' =
+abbrev pub ReceiversSettle : {L O : Type 0} → List (Job L) → Result Bool Stop → (O → Known Output) → O → O → Type 0
+ReceiversSettle jobs (Ok clean) known out out' =
     All IsDone jobs × Outputs (known out) (known out') (λ text. text ≡ job_texts jobs)
     × (IsTrue clean ↔ All (λ job. IsTrue (clean_of job)) jobs)
-Settles jobs (Err stops.Write) known out out' = All IsDone jobs × Outputs (known out) (known out') (IsFront (job_texts jobs))
-Settles jobs (Err stops.Link) known out out' = (NoneFailed jobs → ⊥) × (out' ≡ out)
-Settles jobs (Err stops.NoMemory) known out out' = NoneFailed jobs × (All IsDone jobs → ⊥) × (out' ≡ out)
+ReceiversSettle jobs (Err stops.Write) known out out' = All IsDone jobs × Outputs (known out) (known out') (IsFront (job_texts jobs))
+ReceiversSettle jobs (Err stops.Link) known out out' = (NoneFailed jobs → ⊥) × (out' ≡ out)
+ReceiversSettle jobs (Err stops.NoMemory) known out out' = NoneFailed jobs × (All IsDone jobs → ⊥) × (out' ≡ out)

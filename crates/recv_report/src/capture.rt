@@ -8,9 +8,9 @@ ghost use Rattle.recv_report.specs.Captures.{EndsReceiving};
 ghost use Rattle.recv_report.specs.declared.capture.Unfinished.{Unfinished};
 
 use crate::reading::{ReceiveFault, write_report};
+use capture_reader::{CaptureStop, Packets};
 use dcp_collect::Collector;
 use drm_bits::NoMemory;
-use capture_reader::{CaptureStop, Packets};
 use drm_links::{Sink, Source};
 use mod_feed::Feed;
 use recv_reading::{ReceiveOptions, SourceFault};

@@ -3,7 +3,7 @@
 ghost use Rattle.std.specs.Prelude.{ℕ, ◌≡◌, ◌<◌, ◌≤◌, ◌↔◌, IsTrue, not, length, slice_index_or, All, IfOk};
 ghost use Rattle.std.specs.List.{flat_map};
 ghost use Rattle.drm_links.specs.Told.{HasCause};
-ghost use Rattle.drm_links.specs.Sink.{Writes};
+ghost use Rattle.drm_links.specs.Sink.{WritesWhole};
 ghost use Rattle.recv_reading.specs.declared.options.ReceiveOptions.{ReceiveOptions};
 ghost use Rattle.recv_report.specs.Jobs.{IsSeat, IsJob, IsReady, HasEnded, IsDone, is_failed, clean_of, text_of, job_rules};
 ghost use Rattle.recv_report.specs.Received.{EndsAs};
@@ -45,8 +45,8 @@ pub struct Seat {
 
 /// The seat of a receiver, under the number of its feed.
 pub fn seat_for(alloc: Global, rules: &ReceiveOptions, feed: u8) -> Result<Seat, NoMemory>
-    requires some { 1 ≤ rules.now.window }
-    requires few { rules.now.window ≤ 64 }
+    requires at_least_one { 1 ≤ rules.now.window }
+    requires within_limit { rules.now.window ≤ 64 }
     ensures { IfOk result (IsSeat rules.now feed) }
 {
     let collector = Collector::make(alloc, rules.window, rules.reach, rules.first)?;
@@ -93,8 +93,8 @@ pub fn job_for<L: Link>(
     feed: u8,
     link: L,
 ) -> Result<Job<L>, NoMemory>
-    requires some { 1 ≤ rules.now.window }
-    requires few { rules.now.window ≤ 64 }
+    requires at_least_one { 1 ≤ rules.now.window }
+    requires within_limit { rules.now.window ≤ 64 }
     ensures job { IfOk result (IsJob rules.now feed) }
     ensures link { IfOk result (λ job. job.link ≡ link) }
 {
@@ -193,7 +193,7 @@ fn is_clean<L: Link>(job: &Job<L>) -> bool
 
 /// Writes the texts of all receivers, in their order.
 pub(crate) fn write_texts<L: Link, O: Sink>(jobs: &[Job<L>], out: &mut O) -> Result<(), WriteFault>
-    ensures { Writes result (O.known out.old) (O.known out.new) (flat_map (λ job. text_of job) jobs.now) }
+    ensures { WritesWhole result (O.known out.old) (O.known out.new) (flat_map (λ job. text_of job) jobs.now) }
 {
     for job in jobs {
         write_all(out, job.text.bytes())?;

@@ -1,7 +1,7 @@
 //! Reading, and the report of what came.
 
 ghost use Rattle.std.specs.Prelude.{◌≡◌, ◌<◌, ◌^◌, [], true, Err, IfOk, IfErr, IsErr};
-ghost use Rattle.drm_links.specs.Told.{Counts, HasCause};
+ghost use Rattle.drm_links.specs.Told.{RisesWhere, HasCause};
 ghost use Rattle.dcp_collect.specs.State.{made, ready, after_item};
 ghost use Rattle.drm_reconfiguration.specs.Tracker.{new_tracker};
 ghost use Rattle.recv_reading.specs.Options.{AreUsable, options_of};
@@ -82,7 +82,7 @@ pub(crate) fn write_report<F, R: Datagrams<F>, O: Sink>(
     ensures stopped { IfErr result (StopsReport (options_of collector.old bounds) number (R.so_far from.old room.new from.new)
         (λ fault. R.until from.old fault from.new) (O.known out.old) (O.known out.new)) }
     ensures memory { result ≡ Err ReceiveFault.NoMemory → (from.new ≡ from.old) × (out.new ≡ out.old) }
-    ensures source { Counts (R.faults from.old) (R.faults from.new) (IsCallFailed result) }
+    ensures source { RisesWhere (R.faults from.old) (R.faults from.new) (IsCallFailed result) }
     ensures write { HasCause (O.known out.old) (O.known out.new) (result ≡ Err ReceiveFault.Write) }
 {
     let mut tally = ReportCounts::new(alloc)?;
@@ -119,7 +119,7 @@ fn read_all<F, R: Datagrams<F>, O: Sink>(
         tally.new) }
     ensures stopped { IfErr result (StopsReading (options_of collector.old bounds) (R.so_far from.old room.new from.new)
         (λ fault. R.until from.old fault from.new) (O.known out.old) (O.known out.new)) }
-    ensures source { Counts (R.faults from.old) (R.faults from.new) (IsCallFailed result) }
+    ensures source { RisesWhere (R.faults from.old) (R.faults from.new) (IsCallFailed result) }
     ensures write { HasCause (O.known out.old) (O.known out.new) (result ≡ Err ReceiveFault.Write) }
 {
     let mut reading = Reading::new(bounds);

@@ -4,12 +4,12 @@ ghost use Rattle.law_delivery.specs.Laws.{Delivering, DeliveringEarly, StraysRef
 ghost use Rattle.law_frame_lines.specs.Laws.{ServedLines};
 ghost use Rattle.recv_report.specs.Following.{HeadlinesFollow, CompletesFollow, NoneBreaksOff};
 
-use law_frame_lines::served_frames_are_printed;
 use law_delivery::{
     all_frames_are_given, all_frames_are_given_at_once, all_switches_are_told,
     frames_in_time_are_given, modulators_give, modulators_give_early, strays_are_refused,
     switches_are_told_at_starts,
 };
+use law_frame_lines::served_frames_are_printed;
 
 /// A report is that of the delivery that was read, and that of all frames where each of them is in time.
 pub fn reports_follow()

@@ -29,7 +29,7 @@ use Rattle.report_text.specs.HexBits.{hex_of_bits}
 use Rattle.report_text.specs.FrameLine.{front_bits}
 use Rattle.report_text.proofs.HexLemmas.{next_digit}
 use Rattle.report_dump.specs.declared.block.Head.{Head}
-use Rattle.report_dump.specs.Block.{IsTold, Holds, IsHead, IsZero, head_text}
+use Rattle.report_dump.specs.Block.{IsTold, HoldsBlock, IsHead, IsZero, head_text}
 use Rattle.report_dump.specs.Content.{bits_at}
 use Rattle.report_dump.specs.Lines.{kind_text, entity_line, tail_line, tail_text}
 use Rattle.report_dump.specs.Text.{field_text}
@@ -93,7 +93,7 @@ only_tail [] tail field small is ends = (refl, ap length (sym is.0))
 only_tail (e ∷ entities) tail field small is ends = absurd (no_tail e field small is.0 ends)
 
 -- nothing but the tail is left
-pub at_tail : (entities : List Entity) (tail : List ℕ) (room : ℕ) (bits : List Bool) → Holds entities tail room bits → (room < 2) ⊎ ((h : Head) × IsHead h bits × IsZero h)
+pub at_tail : (entities : List Entity) (tail : List ℕ) (room : ℕ) (bits : List Bool) → HoldsBlock entities tail room bits → (room < 2) ⊎ ((h : Head) × IsHead h bits × IsZero h)
     → (entities ≡ []) × (length tail ≡ room)
 at_tail entities tail room bits holds ends =
     let only = only_tail entities tail holds.field holds.octets holds.is (is_tail holds.field holds.behind bits room holds.size holds.octets holds.begins ends) in
@@ -107,7 +107,7 @@ pub record HasNext (entities : List Entity) (tail : List ℕ) (room : ℕ) (h : 
   pub rest : List Entity
   pub are : entities ≡ e ∷ rest
   pub within : 2 + h.len ≤ room
-  pub others : Holds rest tail (room - (2 + h.len)) (drop (8 * h.len) (drop 16 bits))
+  pub others : HoldsBlock rest tail (room - (2 + h.len)) (drop (8 * h.len) (drop 16 bits))
   pub line : entity_line e ≡ head_text h (take (8 * h.len) (drop 16 bits))
 
 same_flag : (a b : Bool) → from_bool a ≡ from_bool b → a ≡ b
@@ -234,14 +234,14 @@ next_of (e ∷ entities) tail field behind h small is long head some =
       line = line_is e h own (take (8 * h.len) (drop 16 (bits_of field ++ behind))) a body;
     }
 
-pub next_entity : (entities : List Entity) (tail : List ℕ) (room : ℕ) (h : Head) (bits : List Bool) → Holds entities tail room bits → 2 ≤ room → IsHead h bits → ¬ IsZero h → HasNext entities tail room h bits
+pub next_entity : (entities : List Entity) (tail : List ℕ) (room : ℕ) (h : Head) (bits : List Bool) → HoldsBlock entities tail room bits → 2 ≤ room → IsHead h bits → ¬ IsZero h → HasNext entities tail room h bits
 next_entity entities tail room h bits holds long head some =
     subst (λ n. HasNext entities tail n h bits) holds.size
     (subst (λ l. HasNext entities tail (length holds.field) h l) (sym holds.begins)
     (next_of entities tail holds.field holds.behind h holds.octets holds.is (omega (arith, long, holds.size)) (subst (IsHead h) holds.begins head) some))
 
 -- the bits are at least those of the bytes
-pub enough_bits : (entities : List Entity) (tail : List ℕ) (room : ℕ) (bits : List Bool) → Holds entities tail room bits → 8 * room ≤ length bits
+pub enough_bits : (entities : List Entity) (tail : List ℕ) (room : ℕ) (bits : List Bool) → HoldsBlock entities tail room bits → 8 * room ≤ length bits
 enough_bits entities tail room bits holds = omega (arith, ap length holds.begins, length-append (bits_of holds.field) holds.behind, length-bits_of holds.field, holds.size)
 
 -- ---- their lines
@@ -287,7 +287,7 @@ field_bits n afs field check bits is_n width (inr is) =
     ap (λ k. drop 4 (drop k bits)) four ∙ (ap (λ l. drop 4 (drop 4 l)) is ∙ behind_index afs field check)
 
 -- the data field stands behind what is in front of the block, and the index
-pub block_holds : (block : Block) (bits : List Bool) (is : IsBlock block bits) (n : ℕ) → n ≡ length bits → Holds block.entities block.tail (length is.field) (drop 4 (drop (front_bits n) bits))
+pub block_holds : (block : Block) (bits : List Bool) (is : IsBlock block bits) (n : ℕ) → n ≡ length bits → HoldsBlock block.entities block.tail (length is.field) (drop 4 (drop (front_bits n) bits))
 block_holds block bits is n is_n =
     record {
       field = is.field;
@@ -308,11 +308,11 @@ index_there block bits is n is_n =
 
 -- So the block that stands in a payload has its entities and its tail in the bits that are taken, as many as is told.
 pub told_holds : (payload : List ℕ) (span : SdcSpan) (block : Block) (room : ℕ) (bits : List Bool) → span.at + bytes_for span.bits ≤ length payload → IsTold payload span → IsBlock block (bits_at payload span)
-    → room ≡ span.info.room → bits ≡ drop 4 (drop (front_bits span.bits) (bits_at payload span)) → Holds block.entities block.tail room bits
+    → room ≡ span.info.room → bits ≡ drop 4 (drop (front_bits span.bits) (bits_at payload span)) → HoldsBlock block.entities block.tail room bits
 told_holds payload span block room bits inside (other, told, info) is is_room is_bits =
     let all : List Bool = bits_at payload span in
     let size : length all ≡ span.bits = length-take-le span.bits (bits_of (drop span.at payload)) (omega (arith, inside, length-bits_of (drop span.at payload), length-drop span.at payload)) in
     let same : length is.field ≡ room =
     ap (λ (i : BlockInfo). i.room) (one_told block other all all refl is told) ∙ (ap (λ (i : BlockInfo). i.room) (sym info) ∙ sym is_room) in
-    subst (λ n. Holds block.entities block.tail n bits) same
-    (subst (Holds block.entities block.tail (length is.field)) (sym is_bits) (block_holds block all is span.bits (sym size)))
+    subst (λ n. HoldsBlock block.entities block.tail n bits) same
+    (subst (HoldsBlock block.entities block.tail (length is.field)) (sym is_bits) (block_holds block all is span.bits (sym size)))

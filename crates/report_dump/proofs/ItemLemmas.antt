@@ -12,7 +12,7 @@ use Rattle.drm_sdc.proofs.EntityLaws.{small_front, small_rest}
 use Rattle.dcp_tag.specs.declared.items.Item.{Item}
 use Rattle.dcp_tag.specs.Tag.{TagItem, bytes_for, head, HasHead, IsSpelling}
 use Rattle.dcp_tag.specs.Place.{Place, left}
-use Rattle.dcp_tag.specs.Reading.{item_of, tag_of, Gives}
+use Rattle.dcp_tag.specs.Reading.{item_of, tag_of, GivesItem}
 use Rattle.dcp_tag.proofs.TagLemmas.{split_front, head_size, padded, one_front, cut_front, item_front, spelling_size}
 use Rattle.dcp_af.specs.Packet.{AfPacket, IsAf}
 use Rattle.dcp_af.specs.Packet as packet
@@ -62,7 +62,7 @@ pub items_there : (bytes : List ℕ) → IsBytes bytes → (items : List TagItem
 items_there bytes small = items_within (length bytes) bytes (omega arith) small
 
 -- the item that is given is the first of these
-pub item_given : (items : List TagItem) (old new : Place) (item : Item) → AreItems items (left old) → Gives item old new → (rest : List TagItem) × (items ≡ tag_of item ∷ rest) × AreItems rest (left new)
+pub item_given : (items : List TagItem) (old new : Place) (item : Item) → AreItems items (left old) → GivesItem item old new → (rest : List TagItem) × (items ≡ tag_of item ∷ rest) × AreItems rest (left new)
 item_given [] old new item (inl short) gives = absurd (omega (arith, short, gives.shorter))
 item_given [] old new item (inr cut) gives =
     let short = cut_front (left old) item.name item.bits (item.value.now ++ left new) cut gives.begins in
@@ -83,12 +83,12 @@ no_item (i ∷ items) bytes (spelling, rest, stands, spelled, more) (inr cut) =
     absurd (omega (arith, cut.short, enough.0))
 
 -- the number of an item's bits
-pub item_text : (item : Item) (old new : Place) → Gives item old new → tag_line (tag_of item) ≡ tag_text item.name item.bits
+pub item_text : (item : Item) (old new : Place) → GivesItem item old new → tag_line (tag_of item) ≡ tag_text item.name item.bits
 item_text item old new gives =
     ap (tag_text item.name) (length-take-le item.bits (bits_of item.value.now) (omega (arith, length-bits_of item.value.now, gives.size)))
 
 -- its line, and those of the others
-pub text_then : (items rest : List TagItem) (item : Item) (old new : Place) → items ≡ tag_of item ∷ rest → Gives item old new → items_text items ≡ tag_text item.name item.bits ++ items_text rest
+pub text_then : (items rest : List TagItem) (item : Item) (old new : Place) → items ≡ tag_of item ∷ rest → GivesItem item old new → items_text items ≡ tag_text item.name item.bits ++ items_text rest
 text_then items rest item old new is gives = ap items_text is ∙ ap (λ l. l ++ items_text rest) (item_text item old new gives)
 
 -- one content of items

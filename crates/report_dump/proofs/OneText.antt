@@ -13,7 +13,7 @@ use Rattle.dcp_pft.proofs.Table.{one_first, none_first}
 use Rattle.mdi_items.specs.declared.view.SdcSpan.{SdcSpan}
 use Rattle.mdi_items.specs.Frame.{Frame}
 use Rattle.mdi_items.proofs.MdiLemmas.{one_mdi, mdi_or_fault, one_mdi_fault}
-use Rattle.report_dump.specs.Content.{Saying, FrameOf, NoFrame, Content, Fragment, NoFragment, Whole, NoPacket, bits_at, AreItems, IsBlockOf, Says, IsContent}
+use Rattle.report_dump.specs.Content.{Saying, FrameOf, NoFrame, Content, Fragment, NoFragment, Whole, NoPacket, bits_at, AreItems, IsBlockOf, PayloadSays, IsContent}
 use Rattle.report_dump.specs.Text.{packet_text, is_bad, IsPacketText}
 use Rattle.report_dump.proofs.ItemLemmas.{one_list}
 
@@ -43,18 +43,18 @@ one_frame payload f g b c same is is_too =
     let blocks : b ≡ c = one_block_of payload f.sdc b c is (subst (λ (x : Frame). IsBlockOf payload x.sdc c) (sym same) is_too) in
     ap (λ x. FrameOf x b) same ∙ ap (λ x. FrameOf g x) blocks
 
-one_saying : (payload : List ℕ) (s t : Saying) → Says s payload → Says t payload → s ≡ t
+one_saying : (payload : List ℕ) (s t : Saying) → PayloadSays s payload → PayloadSays t payload → s ≡ t
 one_saying payload (FrameOf f b) (FrameOf g c) is is_too = one_frame payload f g b c (one_mdi f g payload is.0 is_too.0) is.1 is_too.1
 one_saying payload (FrameOf f b) (NoFrame fault) is is_too = absurd (mdi_or_fault f fault payload is.0 is_too)
 one_saying payload (NoFrame fault) (FrameOf g c) is is_too = absurd (mdi_or_fault g fault payload is_too.0 is)
 one_saying payload (NoFrame fault) (NoFrame other) is is_too = ap (λ x. NoFrame x) (one_mdi_fault fault other payload is is_too)
 
 -- what is said of the payloads of one packet
-one_whole : (p q : AfPacket) (items others : List TagItem) (s t : Saying) → p ≡ q → AreItems items p.payload → Says s p.payload → AreItems others q.payload → Says t q.payload
+one_whole : (p q : AfPacket) (items others : List TagItem) (s t : Saying) → p ≡ q → AreItems items p.payload → PayloadSays s p.payload → AreItems others q.payload → PayloadSays t q.payload
     → Whole p items s ≡ Whole q others t
 one_whole p q items others s t same are says are_too says_too =
     let lists : items ≡ others = one_list items others p.payload are (subst (λ (x : AfPacket). AreItems others x.payload) (sym same) are_too) in
-    let sayings : s ≡ t = one_saying p.payload s t says (subst (λ (x : AfPacket). Says t x.payload) (sym same) says_too) in
+    let sayings : s ≡ t = one_saying p.payload s t says (subst (λ (x : AfPacket). PayloadSays t x.payload) (sym same) says_too) in
     ap (λ x. Whole x items s) same ∙ (ap (λ x. Whole q x s) lists ∙ ap (λ x. Whole q others x) sayings)
 
 -- ---- contents

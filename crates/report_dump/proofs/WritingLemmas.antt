@@ -2,7 +2,7 @@
 use Rattle.std.proofs.Common.{◌≡◌, ℕ, Bool, sym, List, [], ◌++◌, Result, Ok, Err, refl, ◌∙◌, ap, subst, append-nil}
 use Rattle.std.specs.Prelude.{Option}
 use Rattle.drm_links.specs.Told.{Known}
-use Rattle.drm_links.specs.Sink.{Output, Outputs, Writes}
+use Rattle.drm_links.specs.Sink.{Output, Outputs, WritesWhole}
 use Rattle.drm_links.proofs.ToldLemmas.{counts_one, counts_none, counts_then, Outputs-then, Outputs-weaker}
 use Rattle.drm_links.proofs.WritingLemmas.{Writes-broken}
 use Rattle.drm_links.specs.declared.sink.WriteFault.{WriteFault}
@@ -14,10 +14,10 @@ use Rattle.report_dump.specs.declared.packet.ShowFault.{ShowFault}
 use Rattle.report_dump.specs.Content.{Content, IsContent}
 use Rattle.report_dump.specs.Lines.{af_line, mdi_line, fac_text, mux_line}
 use Rattle.report_dump.specs.Text.{block_text, frame_text, items_text, front_text, packet_text, is_bad}
-use Rattle.report_dump.specs.Shown.{Shows, answer}
+use Rattle.report_dump.specs.Shown.{ShowsPacket, answer}
 
 -- what is left behind what was written
-pub last_written : {E : Type 0} (whole s : List ℕ) (a b c : Known Output) (r : Result (Unit {0}) E) → Outputs a b (λ text. text ++ s ≡ whole) → b.faults ≡ a.faults → Writes r b c s → Writes r a c whole
+pub last_written : {E : Type 0} (whole s : List ℕ) (a b c : Known Output) (r : Result (Unit {0}) E) → Outputs a b (λ text. text ++ s ≡ whole) → b.faults ≡ a.faults → WritesWhole r b c s → WritesWhole r a c whole
 last_written whole s a b c (Ok done) first still second =
     record {
       whole =
@@ -37,22 +37,22 @@ unfolding frame_text
 law_frame_lines frame block = refl
 
 pub as_frame : {E : Type 0} (frame : Frame) (block : Option Block) (a b : Known Output) (r : Result (Unit {0}) E)
-    → Writes r a b (mdi_line frame ++ (fac_text frame.fac ++ (mux_line frame.mux ++ block_text block))) → Writes r a b (frame_text frame block)
-as_frame frame block a b r writes = subst (λ l. Writes r a b l) (law_frame_lines frame block) writes
+    → WritesWhole r a b (mdi_line frame ++ (fac_text frame.fac ++ (mux_line frame.mux ++ block_text block))) → WritesWhole r a b (frame_text frame block)
+as_frame frame block a b r writes = subst (λ l. WritesWhole r a b l) (law_frame_lines frame block) writes
 
 -- a packet's own line, and those of its items
 pub front_lines : (at : ℕ) (p : AfPacket) (items : List TagItem) → af_line at p ++ items_text items ≡ front_text at p items
 unfolding front_text
 front_lines at p items = refl
 
-pub as_front : {E : Type 0} (at : ℕ) (p : AfPacket) (items : List TagItem) (a b : Known Output) (r : Result (Unit {0}) E) → Writes r a b (af_line at p ++ items_text items) → Writes r a b (front_text at p items)
-as_front at p items a b r writes = subst (λ l. Writes r a b l) (front_lines at p items) writes
+pub as_front : {E : Type 0} (at : ℕ) (p : AfPacket) (items : List TagItem) (a b : Known Output) (r : Result (Unit {0}) E) → WritesWhole r a b (af_line at p ++ items_text items) → WritesWhole r a b (front_text at p items)
+as_front at p items a b r writes = subst (λ l. WritesWhole r a b l) (front_lines at p items) writes
 
 -- the answer of a packet whose lines were written, or a front of them
 pub shows : (content : Content) (at : ℕ) (bytes : List ℕ) (a b : Known Output) (w : Result (Unit {0}) WriteFault) (bad : Bool) (r : Result Bool ShowFault) → IsContent content bytes → bad ≡ is_bad content
-    → Writes w a b (packet_text at content) → r ≡ answer w bad → Shows r a b at bytes
+    → WritesWhole w a b (packet_text at content) → r ≡ answer w bad → ShowsPacket r a b at bytes
 shows content at bytes a b (Ok done) bad r is same writes ends =
-    subst (λ x. Shows x a b at bytes) (sym ends)
+    subst (λ x. ShowsPacket x a b at bytes) (sym ends)
     (record {
       text = packet_text at content;
       bad = is_bad content;
@@ -63,7 +63,7 @@ shows content at bytes a b (Ok done) bad r is same writes ends =
       memory = λ none. cc;
     })
 shows content at bytes a b (Err fault) bad r is same writes ends =
-    subst (λ x. Shows x a b at bytes) (sym ends)
+    subst (λ x. ShowsPacket x a b at bytes) (sym ends)
     (record {
       text = packet_text at content;
       bad = is_bad content;

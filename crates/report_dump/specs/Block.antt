@@ -18,7 +18,7 @@ abbrev pub IsTold : List ℕ → SdcSpan → Type 0
 IsTold payload span = (block : Block) × (is : IsBlock block (bits_at payload span)) × (span.info ≡ info_of block (bits_at payload span) is)
 
 -- So many bytes stand at the front of the bits, and they are these entities and this tail.
-pub record Holds (entities : List Entity) (tail : List ℕ) (room : ℕ) (bits : List Bool) : Type 0 where
+pub record HoldsBlock (entities : List Entity) (tail : List ℕ) (room : ℕ) (bits : List Bool) : Type 0 where
   pub field : List ℕ
   pub behind : List Bool
   pub begins : bits ≡ bits_of field ++ behind

@@ -48,16 +48,16 @@ IsBlockOf payload (Some span) (Some block) = IsBlock block (bits_at payload span
 IsBlockOf payload _ _ = ⊥
 
 -- The payload says this.
-abbrev pub Says : Saying → List ℕ → Type 0
-Says (FrameOf frame block) payload = IsMdi frame payload × IsBlockOf payload frame.sdc block
-Says (NoFrame fault) payload = IsMdiFault payload fault
+abbrev pub PayloadSays : Saying → List ℕ → Type 0
+PayloadSays (FrameOf frame block) payload = IsMdi frame payload × IsBlockOf payload frame.sdc block
+PayloadSays (NoFrame fault) payload = IsMdiFault payload fault
 
 abbrev pub IsContent : Content → List ℕ → Type 0
 IsContent (Fragment f) bytes = IsPft f bytes
 IsContent (NoFragment fault) bytes = (take 2 bytes ≡ pft_sync) × IsPftFault fault bytes
-IsContent (Whole p items saying) bytes = IsAf p bytes × AreItems items p.payload × Says saying p.payload
+IsContent (Whole p items saying) bytes = IsAf p bytes × AreItems items p.payload × PayloadSays saying p.payload
 IsContent (NoPacket fault) bytes = (take 2 bytes ≡ af_sync) × IsAfFault fault bytes
 
 -- The bytes begin as one of the two kinds of packets do.
-abbrev pub Begins : List ℕ → Type 0
-Begins bytes = (take 2 bytes ≡ af_sync) ⊎ (take 2 bytes ≡ pft_sync)
+abbrev pub PacketBegins : List ℕ → Type 0
+PacketBegins bytes = (take 2 bytes ≡ af_sync) ⊎ (take 2 bytes ≡ pft_sync)

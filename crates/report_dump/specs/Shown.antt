@@ -9,7 +9,7 @@ use Rattle.report_dump.specs.Text.{IsPacketText}
 
 -- The text of the packet was written, and the answer is whether it tells what is wrong; or a front of it was written, since
 -- the sink failed. Memory is never wanted.
-pub record Shows (result : Result Bool ShowFault) (before after : Known Output) (at : ℕ) (bytes : List ℕ) : Type 0 where
+pub record ShowsPacket (result : Result Bool ShowFault) (before after : Known Output) (at : ℕ) (bytes : List ℕ) : Type 0 where
   pub text : List ℕ
   pub bad : Bool
   pub is : IsPacketText at bytes text bad

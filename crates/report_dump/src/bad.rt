@@ -1,7 +1,7 @@
 //! The line of what is wrong with a packet.
 
 ghost use Rattle.std.specs.Prelude.{◌≡◌, ◌++◌};
-ghost use Rattle.drm_links.specs.Sink.{Writes};
+ghost use Rattle.drm_links.specs.Sink.{WritesWhole};
 ghost use Rattle.text_output.specs.Text.{piece_text, text_of};
 ghost use Rattle.report_dump.specs.Lines.{bad_line};
 
@@ -18,7 +18,7 @@ pub(crate) fn plain(words: &'static str) -> FaultWords
 
 /// Writes what is wrong with the packet at a byte of the capture.
 pub(crate) fn write_bad<O: Sink>(out: &mut O, at: u64, words: FaultWords) -> Result<(), WriteFault>
-    ensures { Writes result (O.known out.old) (O.known out.new) (bad_line at (piece_text words.entry.0 ++ piece_text words.entry.1)) }
+    ensures { WritesWhole result (O.known out.old) (O.known out.new) (bad_line at (piece_text words.entry.0 ++ piece_text words.entry.1)) }
 {
     write_pieces(out, &pieces(at, words))
 }

@@ -1,12 +1,12 @@
 //! The lines of a block of the Service Description Channel (ES 201 980).
 
 ghost use Rattle.std.specs.Prelude.{◌≡◌, ◌↔◌, ◌+◌, ◌*◌, ◌<◌, ◌≤◌, ◌⊎◌, ℕ, List, length, take, drop, IsTrue, IfSome, IfNone, OnOk};
-ghost use Rattle.drm_links.specs.Sink.{Writes};
+ghost use Rattle.drm_links.specs.Sink.{WritesWhole};
 ghost use Rattle.drm_sdc.specs.declared.block.Block.{Block};
 ghost use Rattle.drm_sdc.specs.declared.entity.Entity.{Entity};
 ghost use Rattle.drm_sdc.specs.Block.{IsBlock};
 ghost use Rattle.dcp_tag.specs.Tag.{bytes_for};
-ghost use Rattle.report_dump.specs.Block.{IsTold, Holds, IsHead, IsZero, head_text};
+ghost use Rattle.report_dump.specs.Block.{IsTold, HoldsBlock, IsHead, IsZero, head_text};
 ghost use Rattle.report_dump.specs.Content.{bits_at};
 ghost use Rattle.report_dump.specs.Lines.{kind_text, tail_text};
 ghost use Rattle.report_dump.specs.Text.{field_text};
@@ -26,7 +26,7 @@ pub(crate) fn write_block<O: Sink>(
     requires inside { span.now.at + bytes_for span.now.bits ≤ length payload.now }
     requires told { IsTold payload.now span.now }
     ensures { (block : Block) → IsBlock block (bits_at payload.now span.now)
-        → Writes result (O.known out.old) (O.known out.new) (field_text block.entities block.tail) }
+        → WritesWhole result (O.known out.old) (O.known out.new) (field_text block.entities block.tail) }
 {
     let mut bits = block_bits(payload, span);
     let _index = bits.take_u8(4);
@@ -35,9 +35,9 @@ pub(crate) fn write_block<O: Sink>(
 
 // Writes the lines of a data field of so many bytes.
 fn write_field<O: Sink>(out: &mut O, bits: &mut Bits<'_>, room: usize) -> Result<(), WriteFault>
-    requires field { (entities : List Entity) × (tail : List ℕ) × Holds entities tail room bits.old }
-    ensures { (entities : List Entity) (tail : List ℕ) → Holds entities tail room bits.old
-        → Writes result (O.known out.old) (O.known out.new) (field_text entities tail) }
+    requires field { (entities : List Entity) × (tail : List ℕ) × HoldsBlock entities tail room bits.old }
+    ensures { (entities : List Entity) (tail : List ℕ) → HoldsBlock entities tail room bits.old
+        → WritesWhole result (O.known out.old) (O.known out.new) (field_text entities tail) }
 {
     let mut left = room;
     while let Some(head) = next_head(bits, left) {
@@ -62,7 +62,7 @@ pub(crate) struct Head {
 fn next_head(bits: &mut Bits<'_>, left: usize) -> Option<Head>
     requires { 8 * left ≤ length bits.old }
     ensures head { IfSome result (λ h. IsHead h bits.old) }
-    ensures some { IfSome result (λ h. (2 ≤ left) × (¬ IsZero h)) }
+    ensures found { IfSome result (λ h. (2 ≤ left) × (¬ IsZero h)) }
     ensures nibble { IfSome result (λ h. h.nibble < 16) }
     ensures rest { IfSome result (λ h. bits.new ≡ drop 16 bits.old) }
     ensures tail { IfNone result ((left < 2) ⊎ ((h : Head) × IsHead h bits.old × IsZero h)) }
@@ -101,7 +101,7 @@ fn is_zero(head: &Head) -> bool
 fn write_entity<O: Sink>(out: &mut O, head: &Head, bits: &mut Bits<'_>) -> Result<(), WriteFault>
     requires nibble { head.now.nibble < 16 }
     requires body { 8 * head.now.len ≤ length bits.old }
-    ensures written { Writes result (O.known out.old) (O.known out.new) (head_text head.now (take (8 * head.now.len) bits.old)) }
+    ensures written { WritesWhole result (O.known out.old) (O.known out.new) (head_text head.now (take (8 * head.now.len) bits.old)) }
     ensures rest { OnOk result (bits.new ≡ drop (8 * head.now.len) bits.old) }
 {
     write_kind(out, head)?;
@@ -111,7 +111,7 @@ fn write_entity<O: Sink>(out: &mut O, head: &Head, bits: &mut Bits<'_>) -> Resul
 }
 
 fn write_kind<O: Sink>(out: &mut O, head: &Head) -> Result<(), WriteFault>
-    ensures { Writes result (O.known out.old) (O.known out.new) (kind_text head.now.kind head.now.version) }
+    ensures { WritesWhole result (O.known out.old) (O.known out.new) (kind_text head.now.kind head.now.version) }
 {
     write_pieces(
         out,
@@ -126,7 +126,7 @@ fn write_kind<O: Sink>(out: &mut O, head: &Head) -> Result<(), WriteFault>
 }
 
 fn write_tail<O: Sink>(out: &mut O, len: usize) -> Result<(), WriteFault>
-    ensures { Writes result (O.known out.old) (O.known out.new) (tail_text len) }
+    ensures { WritesWhole result (O.known out.old) (O.known out.new) (tail_text len) }
 {
     write_pieces(
         out,

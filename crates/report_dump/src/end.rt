@@ -1,6 +1,6 @@
 //! The line behind those of all packets.
 
-ghost use Rattle.drm_links.specs.Sink.{Writes};
+ghost use Rattle.drm_links.specs.Sink.{WritesWhole};
 ghost use Rattle.report_dump.specs.Lines.{end_packets_line};
 
 use drm_links::{Sink, WriteFault};
@@ -8,7 +8,7 @@ use text_output::{Piece, write_pieces};
 
 /// Writes how many packets a capture has, and how many bytes.
 pub fn write_end_packets<O: Sink>(out: &mut O, packets: u64, bytes: u64) -> Result<(), WriteFault>
-    ensures { Writes result (O.known out.old) (O.known out.new) (end_packets_line packets bytes) }
+    ensures { WritesWhole result (O.known out.old) (O.known out.new) (end_packets_line packets bytes) }
 {
     write_pieces(
         out,

@@ -1,7 +1,7 @@
 //! The line of a fragment.
 
 ghost use Rattle.std.specs.Prelude.{◌≡◌, ◌++◌, codes};
-ghost use Rattle.drm_links.specs.Sink.{Writes};
+ghost use Rattle.drm_links.specs.Sink.{WritesWhole};
 ghost use Rattle.dcp_pft.specs.Reading.{pft_of};
 ghost use Rattle.text_output.specs.Text.{piece_text, text_of};
 ghost use Rattle.report_dump.specs.Lines.{fragment_line, two_numbers, code_text, addr_text};
@@ -18,7 +18,7 @@ pub(crate) fn write_fragment<O: Sink>(
     at: u64,
     fragment: &Fragment<'_>,
 ) -> Result<(), WriteFault>
-    ensures { Writes result (O.known out.old) (O.known out.new) (fragment_line at (pft_of fragment.now)) }
+    ensures { WritesWhole result (O.known out.old) (O.known out.new) (fragment_line at (pft_of fragment.now)) }
 {
     write_pieces(out, &pieces(at, fragment))
 }

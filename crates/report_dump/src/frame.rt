@@ -1,7 +1,7 @@
 //! The lines of a frame.
 
 ghost use Rattle.std.specs.Prelude.{◌≡◌, Option};
-ghost use Rattle.drm_links.specs.Sink.{Writes};
+ghost use Rattle.drm_links.specs.Sink.{WritesWhole};
 ghost use Rattle.drm_fac.specs.Fac.{FacFits};
 ghost use Rattle.drm_sdc.specs.declared.block.Block.{Block};
 ghost use Rattle.mdi_items.specs.Frame.{frame_of};
@@ -24,7 +24,7 @@ pub(crate) fn write_frame<O: Sink>(out: &mut O, view: &MdiView<'_>) -> Result<()
     requires whole { IsWholeView view.now }
     requires frame { IsMdi (frame_of view.now) view.now.payload.now }
     ensures { (block : Option Block) → IsBlockOf view.now.payload.now view.now.sdc block
-        → Writes result (O.known out.old) (O.known out.new) (frame_text (frame_of view.now) block) }
+        → WritesWhole result (O.known out.old) (O.known out.new) (frame_text (frame_of view.now) block) }
 {
     write_head(out, view)?;
     write_fac_line(out, &view.fac)?;
@@ -33,7 +33,7 @@ pub(crate) fn write_frame<O: Sink>(out: &mut O, view: &MdiView<'_>) -> Result<()
 }
 
 fn write_head<O: Sink>(out: &mut O, view: &MdiView<'_>) -> Result<(), WriteFault>
-    ensures { Writes result (O.known out.old) (O.known out.new) (mdi_line (frame_of view.now)) }
+    ensures { WritesWhole result (O.known out.old) (O.known out.new) (mdi_line (frame_of view.now)) }
 {
     write_pieces(
         out,
@@ -53,7 +53,7 @@ fn write_head<O: Sink>(out: &mut O, view: &MdiView<'_>) -> Result<(), WriteFault
 
 fn write_fac_line<O: Sink>(out: &mut O, fac: &Fac) -> Result<(), WriteFault>
     requires { FacFits fac.now }
-    ensures { Writes result (O.known out.old) (O.known out.new) (fac_text fac.now) }
+    ensures { WritesWhole result (O.known out.old) (O.known out.new) (fac_text fac.now) }
 {
     write_all(out, b"fac ")?;
     write_fac(out, fac)
@@ -63,7 +63,7 @@ fn write_block_lines<O: Sink>(out: &mut O, view: &MdiView<'_>) -> Result<(), Wri
     requires whole { IsWholeView view.now }
     requires frame { IsMdi (frame_of view.now) view.now.payload.now }
     ensures { (block : Option Block) → IsBlockOf view.now.payload.now view.now.sdc block
-        → Writes result (O.known out.old) (O.known out.new) (block_text block) }
+        → WritesWhole result (O.known out.old) (O.known out.new) (block_text block) }
 {
     match &view.sdc {
         None => Ok(()),

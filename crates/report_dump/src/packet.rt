@@ -2,14 +2,14 @@
 
 ghost use Rattle.std.specs.Prelude.{◌≡◌, take};
 ghost use Rattle.dcp_pft.specs.Head.{sync};
-ghost use Rattle.report_dump.specs.Content.{Begins};
-ghost use Rattle.report_dump.specs.Shown.{Shows, answer};
+ghost use Rattle.report_dump.specs.Content.{PacketBegins};
+ghost use Rattle.report_dump.specs.Shown.{ShowsPacket, answer};
 
 use crate::bad::{plain, write_bad};
 use crate::fragment::write_fragment;
 use crate::whole::write_af;
-use dcp_pft::read_fragment;
 use capture_reader::Packet;
+use dcp_pft::read_fragment;
 use drm_links::{Sink, WriteFault};
 use report_text::pft_words;
 use std::alloc::Global;
@@ -30,8 +30,8 @@ pub fn write_packet<O: Sink>(
     out: &mut O,
     packet: &Packet<'_>,
 ) -> Result<bool, ShowFault>
-    requires { Begins packet.now.bytes.now }
-    ensures { Shows result (O.known out.old) (O.known out.new) packet.now.at packet.now.bytes.now }
+    requires { PacketBegins packet.now.bytes.now }
+    ensures { ShowsPacket result (O.known out.old) (O.known out.new) packet.now.at packet.now.bytes.now }
 {
     if packet.bytes.starts_with(b"PF") {
         write_pft(out, packet.at, packet.bytes)
@@ -43,7 +43,7 @@ pub fn write_packet<O: Sink>(
 // Writes the line of a fragment.
 fn write_pft<O: Sink>(out: &mut O, at: u64, bytes: &[u8]) -> Result<bool, ShowFault>
     requires { take 2 bytes.now ≡ sync }
-    ensures { Shows result (O.known out.old) (O.known out.new) at bytes.now }
+    ensures { ShowsPacket result (O.known out.old) (O.known out.new) at bytes.now }
 {
     match read_fragment(bytes) {
         Ok(fragment) => answer(write_fragment(out, at, &fragment), false),

@@ -2,10 +2,10 @@
 
 ghost use Rattle.std.specs.Prelude.{List, IfSome, IfNone};
 ghost use Rattle.std.specs.List.{flat_map};
-ghost use Rattle.drm_links.specs.Sink.{Writes};
+ghost use Rattle.drm_links.specs.Sink.{WritesWhole};
 ghost use Rattle.dcp_tag.specs.Tag.{TagItem};
 ghost use Rattle.dcp_tag.specs.Place.{left};
-ghost use Rattle.dcp_tag.specs.Reading.{Gives};
+ghost use Rattle.dcp_tag.specs.Reading.{GivesItem};
 ghost use Rattle.report_dump.specs.Content.{HasNoItem, AreItems};
 ghost use Rattle.report_dump.specs.Lines.{name_byte, tag_text};
 ghost use Rattle.report_dump.specs.Text.{items_text};
@@ -16,7 +16,7 @@ use text_output::{Piece, write_pieces};
 
 /// Writes a line for each item, up to one that goes past the end of the payload.
 pub(crate) fn write_tags<O: Sink>(out: &mut O, payload: &[u8]) -> Result<(), WriteFault>
-    ensures { (items : List TagItem) → AreItems items payload.now → Writes result (O.known out.old) (O.known out.new) (items_text items) }
+    ensures { (items : List TagItem) → AreItems items payload.now → WritesWhole result (O.known out.old) (O.known out.new) (items_text items) }
 {
     let mut items = Items::new(payload);
     while let Some(item) = next(&mut items) {
@@ -27,7 +27,7 @@ pub(crate) fn write_tags<O: Sink>(out: &mut O, payload: &[u8]) -> Result<(), Wri
 
 // The next item, unless it goes past the end.
 fn next<'a>(items: &mut Items<'a>) -> Option<Item<'a>>
-    ensures item { IfSome result (λ item. Gives item items.old items.new) }
+    ensures item { IfSome result (λ item. GivesItem item items.old items.new) }
     ensures none { IfNone result (HasNoItem (left items.old)) }
 {
     match items.next_item() {
@@ -37,7 +37,7 @@ fn next<'a>(items: &mut Items<'a>) -> Option<Item<'a>>
 }
 
 fn write_tag<O: Sink>(out: &mut O, name: &[u8; 4], bits: u32) -> Result<(), WriteFault>
-    ensures { Writes result (O.known out.old) (O.known out.new) (tag_text name.now bits) }
+    ensures { WritesWhole result (O.known out.old) (O.known out.new) (tag_text name.now bits) }
 {
     write_all(out, b"tag ")?;
     write_name(out, name)?;
@@ -52,7 +52,7 @@ fn write_tag<O: Sink>(out: &mut O, name: &[u8; 4], bits: u32) -> Result<(), Writ
 }
 
 fn write_name<O: Sink>(out: &mut O, name: &[u8]) -> Result<(), WriteFault>
-    ensures { Writes result (O.known out.old) (O.known out.new) (flat_map name_byte name.now) }
+    ensures { WritesWhole result (O.known out.old) (O.known out.new) (flat_map name_byte name.now) }
 {
     for byte in name {
         write_byte(out, *byte)?;
@@ -61,7 +61,7 @@ fn write_name<O: Sink>(out: &mut O, name: &[u8]) -> Result<(), WriteFault>
 }
 
 fn write_byte<O: Sink>(out: &mut O, byte: u8) -> Result<(), WriteFault>
-    ensures { Writes result (O.known out.old) (O.known out.new) (name_byte byte) }
+    ensures { WritesWhole result (O.known out.old) (O.known out.new) (name_byte byte) }
 {
     if byte.is_ascii_graphic() {
         write_all(out, &[byte])

@@ -1,7 +1,7 @@
 //! An AF packet, layer by layer.
 
 ghost use Rattle.std.specs.Prelude.{◌≡◌, ◌++◌, List, Option, take, if◌then◌else◌, codes};
-ghost use Rattle.drm_links.specs.Sink.{Writes};
+ghost use Rattle.drm_links.specs.Sink.{WritesWhole};
 ghost use Rattle.drm_sdc.specs.declared.block.Block.{Block};
 ghost use Rattle.dcp_tag.specs.Tag.{TagItem};
 ghost use Rattle.dcp_af.specs.Packet.{sync, IsAf};
@@ -14,7 +14,7 @@ ghost use Rattle.text_output.specs.Text.{piece_text};
 ghost use Rattle.report_dump.specs.Content.{AreItems, IsBlockOf};
 ghost use Rattle.report_dump.specs.Lines.{af_line, bad_line};
 ghost use Rattle.report_dump.specs.Text.{front_text, frame_text};
-ghost use Rattle.report_dump.specs.Shown.{Shows};
+ghost use Rattle.report_dump.specs.Shown.{ShowsPacket};
 
 use crate::bad::{plain, write_bad};
 use crate::frame::write_frame;
@@ -29,7 +29,7 @@ use text_output::{Piece, write_pieces};
 /// Writes the lines of the AF packet at a byte of the capture.
 pub(crate) fn write_af<O: Sink>(out: &mut O, at: u64, bytes: &[u8]) -> Result<bool, ShowFault>
     requires { take 2 bytes.now ≡ sync }
-    ensures { Shows result (O.known out.old) (O.known out.new) at bytes.now }
+    ensures { ShowsPacket result (O.known out.old) (O.known out.new) at bytes.now }
 {
     match read_af(bytes) {
         Ok(af) => write_whole(out, at, bytes, &af),
@@ -39,7 +39,7 @@ pub(crate) fn write_af<O: Sink>(out: &mut O, at: u64, bytes: &[u8]) -> Result<bo
 
 fn write_whole<O: Sink>(out: &mut O, at: u64, bytes: &[u8], af: &Af<'_>) -> Result<bool, ShowFault>
     requires { IsAf (packet_of af.now) bytes.now }
-    ensures { Shows result (O.known out.old) (O.known out.new) at bytes.now }
+    ensures { ShowsPacket result (O.known out.old) (O.known out.new) at bytes.now }
 {
     match read_mdi(af.payload) {
         Ok(view) => answer(write_framed(out, at, af, &view), false),
@@ -56,7 +56,7 @@ fn write_framed<O: Sink>(
     requires whole { IsWholeView view.now }
     requires frame { IsMdi (frame_of view.now) view.now.payload.now }
     ensures { (items : List TagItem) (block : Option Block) → AreItems items af.now.payload.now
-        → IsBlockOf view.now.payload.now view.now.sdc block → Writes result (O.known out.old) (O.known out.new)
+        → IsBlockOf view.now.payload.now view.now.sdc block → WritesWhole result (O.known out.old) (O.known out.new)
         (front_text at (packet_of af.now) items ++ frame_text (frame_of view.now) block) }
 {
     write_front(out, at, af)?;
@@ -69,7 +69,7 @@ fn write_unframed<O: Sink>(
     af: &Af<'_>,
     fault: MdiFault,
 ) -> Result<(), WriteFault>
-    ensures { (items : List TagItem) → AreItems items af.now.payload.now → Writes result (O.known out.old) (O.known out.new)
+    ensures { (items : List TagItem) → AreItems items af.now.payload.now → WritesWhole result (O.known out.old) (O.known out.new)
         (front_text at (packet_of af.now) items ++ bad_line at (mdi_words fault)) }
 {
     write_front(out, at, af)?;
@@ -78,7 +78,7 @@ fn write_unframed<O: Sink>(
 
 // The packet's own line and those of its items.
 fn write_front<O: Sink>(out: &mut O, at: u64, af: &Af<'_>) -> Result<(), WriteFault>
-    ensures { (items : List TagItem) → AreItems items af.now.payload.now → Writes result (O.known out.old) (O.known out.new)
+    ensures { (items : List TagItem) → AreItems items af.now.payload.now → WritesWhole result (O.known out.old) (O.known out.new)
         (front_text at (packet_of af.now) items) }
 {
     write_line(out, at, af)?;
@@ -86,7 +86,7 @@ fn write_front<O: Sink>(out: &mut O, at: u64, af: &Af<'_>) -> Result<(), WriteFa
 }
 
 fn write_line<O: Sink>(out: &mut O, at: u64, af: &Af<'_>) -> Result<(), WriteFault>
-    ensures { Writes result (O.known out.old) (O.known out.new) (af_line at (packet_of af.now)) }
+    ensures { WritesWhole result (O.known out.old) (O.known out.new) (af_line at (packet_of af.now)) }
 {
     write_pieces(
         out,

@@ -8,7 +8,7 @@ use Rattle.law_collect.proofs.Runs.{steps_more, steps_count, gives_given}
 use Rattle.law_collect.proofs.Fit.{fit_given}
 use Rattle.drm_reconfiguration.specs.Tracker.{TrackerState, new_tracker}
 use Rattle.mod_feed.specs.Items.{seen_in}
-use Rattle.mod_feed.specs.Feeding.{FeedStep, Feeds, after_step}
+use Rattle.mod_feed.specs.Feeding.{FeedStep, FeedAnswers, after_step}
 use Rattle.mod_feed.proofs.FeedingLemmas.{feedings_join, stepped_calls, feeds_calls}
 use Rattle.recv_reading.specs.declared.reason.EndWord.TheVariants as word
 use Rattle.report_text.specs.Report.{feed_line, end_line}
@@ -24,12 +24,12 @@ use Rattle.report_text.proofs.StepLemmas.{one_more, text_more}
 use Rattle.report_journal.specs.declared.settings.Settings.{Settings}
 use Rattle.report_journal.specs.Report.{IsReportSoFar, IsFrontSoFar, IsReportOf, word_for}
 use Rattle.report_journal.specs.declared.journal.Journal.TheInside.{Inside}
-use Rattle.report_journal.specs.Journal.{JournalState, AreInRange, entry_of, datagrams, IsKept, Enters}
+use Rattle.report_journal.specs.Journal.{JournalState, AreInRange, entry_of, datagrams, IsKept, JournalEnters}
 use Rattle.report_journal.specs.Sound.{IsOpen, IsSound}
 
 -- ---- a new journal
 
-none_fed : (told : Option ℕ) → Feeds new_tracker (up_to told []) [] new_tracker
+none_fed : (told : Option ℕ) → FeedAnswers new_tracker (up_to told []) [] new_tracker
 none_fed None = refl
 none_fed (Some zero) = refl
 none_fed (Some (suc n)) = refl
@@ -59,7 +59,7 @@ sound_new j range none is_made is_new is_empty is_first goes = record {
 -- ---- what was fed
 
 -- each step was counted
-fed_counts : (f after : TrackerState) (given : List Item) (steps : List FeedStep) (t : Tallied) → Feeds f given steps after → items_in t.sums ≡ f.calls → items_in (with_steps t steps).sums ≡ after.calls
+fed_counts : (f after : TrackerState) (given : List Item) (steps : List FeedStep) (t : Tallied) → FeedAnswers f given steps after → items_in t.sums ≡ f.calls → items_in (with_steps t steps).sums ≡ after.calls
 fed_counts f after [] [] t fed same = same ∙ sym (ap (λ (s : TrackerState). s.calls) fed)
 fed_counts f after [] (s ∷ steps) t fed same = absurd fed
 fed_counts f after (g ∷ given) [] t fed same = absurd fed
@@ -95,9 +95,9 @@ told_join (Some n) xs ys k is =
     take_join n xs ys ∙ ap (λ m. take n xs ++ take m ys) e
 
 feeds_more : (told : Option ℕ) (f g : TrackerState) (xs ys : List Item) (ss ts : List FeedStep)
-    → Feeds new_tracker (up_to told xs) ss f → Feeds f (up_to (left_of told f.calls) ys) ts g → Feeds new_tracker (up_to told (xs ++ ys)) (ss ++ ts) g
+    → FeedAnswers new_tracker (up_to told xs) ss f → FeedAnswers f (up_to (left_of told f.calls) ys) ts g → FeedAnswers new_tracker (up_to told (xs ++ ys)) (ss ++ ts) g
 feeds_more told f g xs ys ss ts p q =
-    subst (λ l. Feeds new_tracker l (ss ++ ts) g) (sym (told_join told xs ys f.calls (feeds_calls new_tracker f (up_to told xs) ss p ∙ omega arith)))
+    subst (λ l. FeedAnswers new_tracker l (ss ++ ts) g) (sym (told_join told xs ys f.calls (feeds_calls new_tracker f (up_to told xs) ss p ∙ omega arith)))
     (feedings_join new_tracker f g (up_to told xs) (up_to (left_of told f.calls) ys) ss ts p q)
 
 -- ---- a datagram more
@@ -247,7 +247,7 @@ module _ (by : Settings) (es es' : List (ℕ × List ℕ)) (path : ℕ) (bytes :
   }
 
   pub enters : {T E : Type 0} (result : Result T E) → OnOk result (WritesAll by.frames kept d f g u v text after) → OnErr result (after ≡ text) → OnErr result (CountsFirst by.frames kept d f g u v)
-      → Enters (record { entries = es; settings = by; collector = c; feed = f; tally = t; text = text; stopped = false }) (path, bytes) answer
+      → JournalEnters (record { entries = es; settings = by; collector = c; feed = f; tally = t; text = text; stopped = false }) (path, bytes) answer
       (record { entries = es'; settings = by; collector = d; feed = g; tally = v; text = after; stopped = is_err result })
   enters result ok err first = record {
     entries = more;

@@ -8,14 +8,14 @@ use Rattle.drm_links.proofs.ToldLemmas.{Outputs-then, Outputs-nothing}
 use Rattle.law_collect.proofs.Runs.{given_more, gives_after, gives_given}
 use Rattle.drm_reconfiguration.specs.Tracker.{TrackerState}
 use Rattle.mod_feed.specs.Items.{Item as FeedItem}
-use Rattle.mod_feed.specs.Feeding.{FeedStep, Feeds}
+use Rattle.mod_feed.specs.Feeding.{FeedStep, FeedAnswers}
 use Rattle.mod_feed.proofs.FeedingLemmas.{feedings_join, feeds_calls}
 use Rattle.report_text.specs.Report.{step_text}
 use Rattle.report_text.specs.Reports.{steps_text}
 use Rattle.report_text.specs.Tallies.{Tallied, counted, items_in, with_steps}
 use Rattle.recv_reading.proofs.Reaching.{one_below}
 use Rattle.report_text.proofs.StepLemmas.{one_more, one_text, text_more}
-use Rattle.report_journal.specs.Lines.{left_of, HasFed, PrintsNext, Prints, PrintsAll, CountsFirst}
+use Rattle.report_journal.specs.Lines.{left_of, HasFed, PrintsNext, JournalPrints, PrintsAll, CountsFirst}
 
 -- ---- what is printed
 
@@ -23,12 +23,12 @@ with_more : (t : Tallied) (ss ts : List FeedStep) → with_steps t (ss ++ ts) �
 with_more t [] ts = refl
 with_more t (s ∷ ss) ts = with_more (counted t s.item) ss ts
 
-pub none_printed : (c : State) (f : TrackerState) (t : Tallied) (a : Known Output) → Prints c c f f t t a a
+pub none_printed : (c : State) (f : TrackerState) (t : Tallied) (a : Known Output) → JournalPrints c c f f t t a a
 none_printed c f t a = record { items = []; gives = refl; steps = []; feeds = refl; counts = refl; text = Outputs-nothing a (λ x. x ≡ []) refl }
 
 -- an item more; where nothing is told of the output, its lines may be missing
-pub one_printed : {E : Type 0} {result : Result (Unit {0}) E} (c d e : State) (f g h : TrackerState) (t u v : Tallied) (a b b' o : Known Output) → Prints c d f g t u a b → ready d ≡ true → e ≡ after_item d
-    → (n : PrintsNext result d g h u v b b') → Outputs b o (λ x. x ≡ step_text n.step) → Prints c e f h t v a o
+pub one_printed : {E : Type 0} {result : Result (Unit {0}) E} (c d e : State) (f g h : TrackerState) (t u v : Tallied) (a b b' o : Known Output) → JournalPrints c d f g t u a b → ready d ≡ true → e ≡ after_item d
+    → (n : PrintsNext result d g h u v b b') → Outputs b o (λ x. x ≡ step_text n.step) → JournalPrints c e f h t v a o
 one_printed c d e f g h t u v a b b' o p now after n wrote = record {
   items = p.items ++ n.item ∷ [];
   gives = subst (λ s. Given c (p.items ++ n.item ∷ []) s) (sym after) (given_more p.items c d n.item p.gives now n.is);
@@ -75,9 +75,9 @@ none_more : (items : List Item) (c d : State) → ready c ≡ false → Gives c 
 none_more [] c d none gives = refl
 none_more (item ∷ items) c d none gives = absurd (true≢false (sym gives.0 ∙ none))
 
-module _ (told : Option ℕ) (c d : State) (f g : TrackerState) (t u : Tallied) (a b : Known Output) (p : Prints c d f g t u a b) (fed : HasFed told d.next g u) where
-  up_to_here : (more : List Item) → (is_full told g.calls ≡ true) ⊎ (more ≡ []) → Feeds f (up_to (left_of told f.calls) (p.items ++ more)) p.steps g
-  up_to_here more over = subst (λ l. Feeds f l p.steps g) (sym (cut told f.calls g.calls p.items more (feeds_calls f g p.items p.steps p.feeds) fed.within over)) p.feeds
+module _ (told : Option ℕ) (c d : State) (f g : TrackerState) (t u : Tallied) (a b : Known Output) (p : JournalPrints c d f g t u a b) (fed : HasFed told d.next g u) where
+  up_to_here : (more : List Item) → (is_full told g.calls ≡ true) ⊎ (more ≡ []) → FeedAnswers f (up_to (left_of told f.calls) (p.items ++ more)) p.steps g
+  up_to_here more over = subst (λ l. FeedAnswers f l p.steps g) (sym (cut told f.calls g.calls p.items more (feeds_calls f g p.items p.steps p.feeds) fed.within over)) p.feeds
 
   -- there was no room for the lines of the last one
   pub counts_first : CountsFirst told c d f g t u
@@ -85,7 +85,7 @@ module _ (told : Option ℕ) (c d : State) (f g : TrackerState) (t u : Tallied) 
     items = p.items;
     gives = p.gives;
     steps = p.steps;
-    feeds = subst (λ l. Feeds f (up_to (left_of told f.calls) l) p.steps g) (append-nil p.items) (up_to_here [] (inr refl));
+    feeds = subst (λ l. FeedAnswers f (up_to (left_of told f.calls) l) p.steps g) (append-nil p.items) (up_to_here [] (inr refl));
     counts = p.counts;
   }
 

@@ -2,7 +2,7 @@
 use Rattle.std.specs.Prelude.{ℕ, ◌≡◌, ◌≤◌, ◌++◌, ◌∷◌, [], Bool, true, false, List, map, length, IfSome}
 use Rattle.dcp_collect.specs.declared.taken.Taken.{Taken}
 use Rattle.dcp_collect.specs.State.{State, made}
-use Rattle.dcp_collect.specs.Runs.{Takes}
+use Rattle.dcp_collect.specs.Runs.{CollectorTakes}
 use Rattle.drm_reconfiguration.specs.Tracker.{TrackerState, new_tracker}
 use Rattle.report_text.specs.Report.{feed_line}
 use Rattle.report_text.specs.Tallies.{Tallied, new_tally, noted}
@@ -56,11 +56,11 @@ pub record IsKept (s : JournalState) : Type 0 where
 
 -- The entry stands behind the others, and its datagram was taken with this answer. All that it made ready was given, and its
 -- lines stand behind the text; or the report has stopped: some first ones of these were given, and the text is as it was.
-pub record Enters (s : JournalState) (entry : ℕ × List ℕ) (answer : Taken) (s' : JournalState) : Type 0 where
+pub record JournalEnters (s : JournalState) (entry : ℕ × List ℕ) (answer : Taken) (s' : JournalState) : Type 0 where
   pub entries : s'.entries ≡ s.entries ++ entry ∷ []
   pub settings : s'.settings ≡ s.settings
   pub kept : State
-  pub takes : Takes s.collector entry.1 answer kept
+  pub takes : CollectorTakes s.collector entry.1 answer kept
   pub writes : s'.stopped ≡ false → WritesAll s.settings.frames kept s'.collector s.feed s'.feed (noted s.tally (length s.entries) answer) s'.tally s.text s'.text
   pub stops : s'.stopped ≡ true → s'.text ≡ s.text
   pub first : s'.stopped ≡ true → CountsFirst s.settings.frames kept s'.collector s.feed s'.feed (noted s.tally (length s.entries) answer) s'.tally

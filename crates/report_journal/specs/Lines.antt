@@ -1,12 +1,12 @@
 -- The lines of the items that are ready.
 use Rattle.std.specs.Prelude.{ℕ, ◌≡◌, ◌≤◌, ◌++◌, ◌+◌, ◌-◌, false, IfSome, List, Option, None, Some, Result}
 use Rattle.drm_links.specs.Told.{Known}
-use Rattle.drm_links.specs.Sink.{Output, Outputs, Writes}
+use Rattle.drm_links.specs.Sink.{Output, Outputs, WritesWhole}
 use Rattle.dcp_collect.specs.State.{State}
-use Rattle.dcp_collect.specs.Runs.{Item, IsItem, Gives, up_to}
+use Rattle.dcp_collect.specs.Runs.{Item, IsItem, CollectorGives, up_to}
 use Rattle.law_collect.specs.Laws.{Given}
 use Rattle.drm_reconfiguration.specs.Tracker.{TrackerState}
-use Rattle.mod_feed.specs.Feeding.{FeedStep, IsStep, Feeds, after_step}
+use Rattle.mod_feed.specs.Feeding.{FeedStep, IsStep, FeedAnswers, after_step}
 use Rattle.recv_reading.specs.State.{is_full}
 use Rattle.report_text.specs.Report.{step_text}
 use Rattle.report_text.specs.Reports.{steps_text}
@@ -32,36 +32,36 @@ pub record PrintsNext {E : Type 0} (result : Result (Unit {0}) E) (c : State) (f
   pub feed : g ≡ after_step f step
   pub calls : g.calls ≡ f.calls + 1
   pub counts : u ≡ counted t step.item
-  pub writes : Writes result a b (step_text step)
+  pub writes : WritesWhole result a b (step_text step)
 
 -- Some items were given, each was given to the feed and counted, and their lines were written.
-pub record Prints (c d : State) (f g : TrackerState) (t u : Tallied) (a b : Known Output) : Type 0 where
+pub record JournalPrints (c d : State) (f g : TrackerState) (t u : Tallied) (a b : Known Output) : Type 0 where
   pub items : List Item
   pub gives : Given c items d
   pub steps : List FeedStep
-  pub feeds : Feeds f items steps g
+  pub feeds : FeedAnswers f items steps g
   pub counts : u ≡ with_steps t steps
   pub text : Outputs a b (λ text. text ≡ steps_text steps)
 
 -- all that was ready was given
 abbrev pub GivesRest : State → State → Type 0
-GivesRest c d = (items : List Item) × Gives c items d
+GivesRest c d = (items : List Item) × CollectorGives c items d
 
 -- All that was ready was given, and up to the told number given to the feed, counted and written.
 pub record PrintsAll (told : Option ℕ) (c d : State) (f g : TrackerState) (t u : Tallied) (a b : Known Output) : Type 0 where
   pub items : List Item
-  pub gives : Gives c items d
+  pub gives : CollectorGives c items d
   pub steps : List FeedStep
-  pub feeds : Feeds f (up_to (left_of told f.calls) items) steps g
+  pub feeds : FeedAnswers f (up_to (left_of told f.calls) items) steps g
   pub counts : u ≡ with_steps t steps
   pub text : Outputs a b (λ text. text ≡ steps_text steps)
 
 -- The same, with the lines behind a text.
 pub record WritesAll (told : Option ℕ) (c d : State) (f g : TrackerState) (t u : Tallied) (text after : List ℕ) : Type 0 where
   pub items : List Item
-  pub gives : Gives c items d
+  pub gives : CollectorGives c items d
   pub steps : List FeedStep
-  pub feeds : Feeds f (up_to (left_of told f.calls) items) steps g
+  pub feeds : FeedAnswers f (up_to (left_of told f.calls) items) steps g
   pub counts : u ≡ with_steps t steps
   pub text_is : after ≡ text ++ steps_text steps
 
@@ -70,5 +70,5 @@ pub record CountsFirst (told : Option ℕ) (c d : State) (f g : TrackerState) (t
   pub items : List Item
   pub gives : Given c items d
   pub steps : List FeedStep
-  pub feeds : Feeds f (up_to (left_of told f.calls) items) steps g
+  pub feeds : FeedAnswers f (up_to (left_of told f.calls) items) steps g
   pub counts : u ≡ with_steps t steps

@@ -3,9 +3,9 @@ use Rattle.std.specs.Prelude.{ℕ, ◌≡◌, ◌++◌, if◌then◌else◌, Boo
 use Rattle.drm_links.specs.Sink.{IsFront}
 use Rattle.dcp_collect.specs.declared.taken.Taken.{Taken}
 use Rattle.dcp_collect.specs.State.{State, made}
-use Rattle.dcp_collect.specs.Runs.{Item, Steps, Run, up_to}
+use Rattle.dcp_collect.specs.Runs.{Item, CollectorSteps, Run, up_to}
 use Rattle.drm_reconfiguration.specs.Tracker.{TrackerState, new_tracker}
-use Rattle.mod_feed.specs.Feeding.{FeedStep, Feeds}
+use Rattle.mod_feed.specs.Feeding.{FeedStep, FeedAnswers}
 use Rattle.recv_reading.specs.declared.reason.EndWord.{EndWord}
 use Rattle.recv_reading.specs.declared.reason.EndWord.TheVariants.{Frames, Paths}
 use Rattle.report_text.specs.Report.{feed_line}
@@ -19,9 +19,9 @@ use Rattle.report_journal.specs.declared.settings.Settings.{Settings}
 pub record IsReportSoFar (by : Settings) (datagrams : List (List ℕ)) (c : State) (f : TrackerState) (t : Tallied) (text : List ℕ) : Type 0 where
   pub taken : List Taken
   pub items : List Item
-  pub gave : Steps (made by.window by.reach by.first) datagrams taken items c
+  pub gave : CollectorSteps (made by.window by.reach by.first) datagrams taken items c
   pub steps : List FeedStep
-  pub feeds : Feeds new_tracker (up_to by.frames items) steps f
+  pub feeds : FeedAnswers new_tracker (up_to by.frames items) steps f
   pub counts : t ≡ tally_of steps taken
   pub text_is : text ≡ feed_line 1 ++ steps_text steps
 
@@ -32,10 +32,10 @@ pub record IsFrontSoFar (by : Settings) (datagrams : List (List ℕ)) (text : Li
   pub items : List Item
   pub more : List Item
   pub last : State
-  pub gave : Steps (made by.window by.reach by.first) datagrams taken (items ++ more) last
+  pub gave : CollectorSteps (made by.window by.reach by.first) datagrams taken (items ++ more) last
   pub steps : List FeedStep
   pub after : TrackerState
-  pub feeds : Feeds new_tracker (up_to by.frames items) steps after
+  pub feeds : FeedAnswers new_tracker (up_to by.frames items) steps after
   pub front : IsFront (feed_line 1 ++ steps_text steps) text
 
 -- why the report ends where so many items were given
@@ -50,6 +50,6 @@ pub record IsReportOf (by : Settings) (datagrams : List (List ℕ)) (text : List
   pub run : Run by.window by.reach by.first by.frames datagrams taken items
   pub steps : List FeedStep
   pub after : TrackerState
-  pub feeds : Feeds new_tracker items steps after
+  pub feeds : FeedAnswers new_tracker items steps after
   pub text_is : text ≡ report 1 steps (refusals taken) (word_for by.frames (length run.during))
   pub clean_is : clean ≡ is_clean steps

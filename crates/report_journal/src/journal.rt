@@ -2,7 +2,7 @@
 
 ghost use Rattle.std.specs.Prelude.{◌≡◌, ◌<◌, ◌^◌, ◌++◌, ◌∷◌, [], true, map, IsErr, IfOk, OnOk, OnErr, IfSome};
 ghost use Rattle.report_text.specs.Report.{feed_line};
-ghost use Rattle.report_journal.specs.Journal.{AreInRange, new_journal, datagrams, entry_of, IsKept, Enters};
+ghost use Rattle.report_journal.specs.Journal.{AreInRange, new_journal, datagrams, entry_of, IsKept, JournalEnters};
 ghost use Rattle.report_text.specs.Tallies.{items_in};
 ghost use Rattle.report_journal.specs.Report.{IsReportOf, word_for};
 ghost use Rattle.report_journal.specs.Took.{IfTook};
@@ -75,7 +75,7 @@ impl Journal {
     /// Enters a datagram of a path, and takes it. What it makes ready goes into the report; where there is no room for that,
     /// the report stops, and nothing is entered any more.
     pub fn enter(&mut self, alloc: Global, path: u8, datagram: &[u8]) -> Event
-        ensures took { IfTook result (λ answer. Enters self.old (path, datagram.now) answer self.new) }
+        ensures took { IfTook result (λ answer. JournalEnters self.old (path, datagram.now) answer self.new) }
         ensures none { result ≡ Event.NoMemory → self.new ≡ self.old }
         ensures stopped { self.old.stopped ≡ true → result ≡ Event.NoMemory }
     {

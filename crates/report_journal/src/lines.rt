@@ -4,7 +4,7 @@ ghost use Rattle.std.specs.Prelude.{◌≡◌, ◌≤◌, ◌<◌, ◌^◌, ◌�
 ghost use Rattle.dcp_collect.specs.State.{ready, after_item};
 ghost use Rattle.report_text.specs.Tallies.{items_in};
 ghost use Rattle.recv_reading.specs.State.{is_full};
-ghost use Rattle.report_journal.specs.Lines.{HasFed, PrintsNext, Prints, PrintsAll, WritesAll, CountsFirst, GivesRest};
+ghost use Rattle.report_journal.specs.Lines.{HasFed, PrintsNext, JournalPrints, PrintsAll, WritesAll, CountsFirst, GivesRest};
 
 use dcp_collect::Collector;
 use drm_bits::NoMemory;
@@ -53,9 +53,9 @@ fn print_ready<O: Sink>(
     told: Option<u64>,
     out: &mut O,
 ) -> Result<(), WriteFault>
-    requires few { IfSome told (λ n. n ≤ 3000000) }
+    requires within_limit { IfSome told (λ n. n ≤ 3000000) }
     requires fed { HasFed told collector.old.next feed.old counts.old }
-    ensures prints { OnOk result (Prints collector.old collector.new feed.old feed.new counts.old counts.new (O.known out.old) (O.known out.new)) }
+    ensures prints { OnOk result (JournalPrints collector.old collector.new feed.old feed.new counts.old counts.new (O.known out.old) (O.known out.new)) }
     ensures fed { OnOk result (HasFed told collector.new.next feed.new counts.new) }
     ensures over { OnOk result ((is_full told (items_in counts.new.sums) ≡ true) ⊎ (ready collector.new ≡ false)) }
     ensures first { OnErr result (CountsFirst told collector.old collector.new feed.old feed.new counts.old counts.new) }
@@ -83,9 +83,9 @@ fn give_ready<O: Sink>(
     told: Option<u64>,
     out: &mut O,
 ) -> Result<(), WriteFault>
-    requires few { IfSome told (λ n. n ≤ 3000000) }
+    requires within_limit { IfSome told (λ n. n ≤ 3000000) }
     requires fed { HasFed told collector.old.next feed.old counts.old }
-    ensures all { OnOk result (PrintsAll told collector.old collector.new feed.old feed.new counts.old counts.new (O.known out.old) (O.known out.new)) }
+    ensures prints_all { OnOk result (PrintsAll told collector.old collector.new feed.old feed.new counts.old counts.new (O.known out.old) (O.known out.new)) }
     ensures first { OnErr result (CountsFirst told collector.old collector.new feed.old feed.new counts.old counts.new) }
 {
     print_ready(collector, feed, counts, told, out)?;
@@ -103,7 +103,7 @@ pub(crate) fn write_ready(
     told: Option<u64>,
     text: &mut Vec<u8>,
 ) -> Result<(), NoMemory>
-    requires few { IfSome told (λ n. n ≤ 3000000) }
+    requires within_limit { IfSome told (λ n. n ≤ 3000000) }
     requires fed { HasFed told collector.old.next feed.old counts.old }
     ensures written { OnOk result (WritesAll told collector.old collector.new feed.old feed.new
         counts.old counts.new text.old.items text.new.items) }

@@ -6,7 +6,7 @@ use Rattle.std.proofs.lemmas.List.Elements.{filter-append}
 use Rattle.circular_buffer.specs.Buffer.{keep_last}
 use Rattle.dcp_collect.specs.declared.taken.Taken.{Taken}
 use Rattle.dcp_collect.specs.State.{State}
-use Rattle.dcp_collect.specs.Runs.{Item as Given, Steps}
+use Rattle.dcp_collect.specs.Runs.{Item as Given, CollectorSteps}
 use Rattle.mod_feed.specs.Items.{Item, Frame, Missing, Bad}
 use Rattle.mod_feed.specs.Feeding.{FeedStep}
 use Rattle.report_text.specs.declared.report.Sums.{Sums}
@@ -49,7 +49,7 @@ put_told : (b : Bool) (r : Refusal) (rs : List Refusal) → (b ≡ true → IsTo
 put_told true r rs one all = (one refl, all)
 put_told false r rs one all = all
 
-pub refusals_told : (c d : State) (ds : List (List ℕ)) (taken : List Taken) (items : List Given) (n : ℕ) → Steps c ds taken items d → AreTold (refusals_from n taken)
+pub refusals_told : (c d : State) (ds : List (List ℕ)) (taken : List Taken) (items : List Given) (n : ℕ) → CollectorSteps c ds taken items d → AreTold (refusals_from n taken)
 refusals_told c d [] [] items n s = tt
 refusals_told c d [] (a ∷ taken) items n s = absurd s
 refusals_told c d (b ∷ ds) [] items n s = absurd s

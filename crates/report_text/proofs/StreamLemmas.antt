@@ -9,7 +9,7 @@ use Rattle.drm_bits.specs.Description.{IsDescription}
 use Rattle.drm_bits.specs.declared.description.Part.{Part}
 use Rattle.drm_bits.specs.declared.description.MuxDesc.{MuxDesc}
 use Rattle.drm_links.specs.Told.{Known}
-use Rattle.drm_links.specs.Sink.{Output, Outputs, Writes}
+use Rattle.drm_links.specs.Sink.{Output, Outputs, WritesWhole}
 use Rattle.drm_links.proofs.ToldLemmas.{Outputs-weaker}
 use Rattle.drm_mux.specs.declared.frame.Spans.{Spans}
 use Rattle.drm_mux.specs.Frame.{parts_a, parts_b, multiplex_frame, pieces, streams_in, part_length, frame_length, HaveTheirLengths, EndBy}
@@ -51,7 +51,7 @@ some_bytes [] some = absurd (omega (arith, some))
 some_bytes (b ∷ bytes) some = refl
 
 -- without bytes a dash is written
-pub dash_written : {E : Type 0} (bytes : List ℕ) (a b : Known Output) (r : Result (Unit {0}) E) → length bytes ≡ 0 → Writes r a b (codes "-") → Writes r a b (bytes_text bytes)
+pub dash_written : {E : Type 0} (bytes : List ℕ) (a b : Known Output) (r : Result (Unit {0}) E) → length bytes ≡ 0 → WritesWhole r a b (codes "-") → WritesWhole r a b (bytes_text bytes)
 dash_written [] a b r none written = written
 dash_written (x ∷ bytes) a b r none written = absurd (omega (arith, none))
 

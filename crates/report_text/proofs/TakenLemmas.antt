@@ -13,7 +13,7 @@ use Rattle.dcp_collect.specs.declared.taken.Taken.TheVariants.{Repeated, Late, R
 use Rattle.dcp_collect.specs.Fragments.{Fragment, suffice, of_packet, agree, has_index}
 use Rattle.dcp_collect.specs.Reading.{Read, Unread, Brings, IsRead}
 use Rattle.dcp_collect.specs.State.{State, answer, answer_at, answer_within, answer_among, answer_by, is_far, is_late, number_of}
-use Rattle.dcp_collect.specs.Runs.{Takes}
+use Rattle.dcp_collect.specs.Runs.{CollectorTakes}
 use Rattle.report_text.specs.FaultWords.{IsTold}
 use Rattle.report_text.specs.Reports.{is_refused}
 use Rattle.report_text.specs.Tallies.{Tallied, noted, items_in}
@@ -77,5 +77,5 @@ read_told : (c : State) (read : Read) (bytes : List ℕ) → IsRead read bytes �
 read_told c (Unread f) bytes r e = field_told f bytes r
 read_told c (Brings incoming) bytes r e = at_told c (number_of c incoming) incoming.head e
 
-pub takes_told : (c after : State) (bytes : List ℕ) (a : Taken) → Takes c bytes a after → is_refused a ≡ true → IsTold a
+pub takes_told : (c after : State) (bytes : List ℕ) (a : Taken) → CollectorTakes c bytes a after → is_refused a ≡ true → IsTold a
 takes_told c after bytes a t e = subst IsTold (sym t.taken_is) (read_told c t.read bytes t.is_read (ap is_refused (sym t.taken_is) ∙ e))

@@ -2,7 +2,7 @@
 
 ghost use Rattle.std.specs.Prelude.{◌≡◌, ◌+◌, ◌≤◌, length};
 ghost use Rattle.dcp_tag.specs.Tag.{bytes_for};
-ghost use Rattle.drm_links.specs.Sink.{Writes};
+ghost use Rattle.drm_links.specs.Sink.{WritesWhole};
 ghost use Rattle.mdi_items.specs.View.{IsWholeView};
 ghost use Rattle.report_text.specs.FrameLine.{block_bits, block_text};
 
@@ -14,7 +14,7 @@ use mdi_items::{MdiView, SdcSpan};
 /// Writes the digits of the block, where there is one.
 pub(crate) fn write_block<O: Sink>(out: &mut O, view: &MdiView<'_>) -> Result<(), WriteFault>
     requires { IsWholeView view.now }
-    ensures { Writes result (O.known out.old) (O.known out.new) (block_text view.now.payload.now view.now.sdc) }
+    ensures { WritesWhole result (O.known out.old) (O.known out.new) (block_text view.now.payload.now view.now.sdc) }
 {
     match &view.sdc {
         None => write_all(out, b"-"),

@@ -2,7 +2,7 @@
 
 ghost use Rattle.std.specs.Prelude.{◌≡◌, ◌+◌, ◌<◌, ◌^◌, ◌↔◌, IsTrue, IfOk};
 ghost use Rattle.std.specs.List.{AllByRecursion};
-ghost use Rattle.drm_links.specs.Sink.{Writes};
+ghost use Rattle.drm_links.specs.Sink.{WritesWhole};
 ghost use Rattle.report_text.specs.FaultWords.{IsTold};
 ghost use Rattle.report_text.specs.Report.{end_line};
 ghost use Rattle.mod_feed.specs.Items.{item_of};
@@ -110,7 +110,7 @@ impl ReportCounts {
     /// Writes the lines of the last refusals.
     pub fn write_refused<O: Sink>(&self, out: &mut O) -> Result<(), WriteFault>
         requires { AllByRecursion (λ r. IsTold r.taken) self.now.refused }
-        ensures { Writes result (O.known out.old) (O.known out.new) (refused_text self.now.refused) }
+        ensures { WritesWhole result (O.known out.old) (O.known out.new) (refused_text self.now.refused) }
     {
         for refusal in &self.refused {
             write_refused(out, refusal.number, &refusal.taken)?;
@@ -120,7 +120,7 @@ impl ReportCounts {
 
     /// Writes the last line.
     pub fn write_end<O: Sink>(&self, out: &mut O, word: EndWord) -> Result<(), WriteFault>
-        ensures { Writes result (O.known out.old) (O.known out.new) (end_line word self.now.sums) }
+        ensures { WritesWhole result (O.known out.old) (O.known out.new) (end_line word self.now.sums) }
     {
         write_end(out, word, &self.sums)
     }

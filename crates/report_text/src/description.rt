@@ -1,6 +1,6 @@
 //! The multiplex description of a frame, as the value of its `sdci`.
 
-ghost use Rattle.drm_links.specs.Sink.{Writes};
+ghost use Rattle.drm_links.specs.Sink.{WritesWhole};
 ghost use Rattle.mdi_items.specs.View.{IsWholeView};
 ghost use Rattle.report_text.specs.FrameLine.{description_text};
 
@@ -13,7 +13,7 @@ use mdi_items::MdiView;
 /// Writes the digits of the description.
 pub(crate) fn write_description<O: Sink>(out: &mut O, view: &MdiView<'_>) -> Result<(), WriteFault>
     requires { IsWholeView view.now }
-    ensures { Writes result (O.known out.old) (O.known out.new) (description_text view.now.mux) }
+    ensures { WritesWhole result (O.known out.old) (O.known out.new) (description_text view.now.mux) }
 {
     let mut value = [0; 13];
     let len = write_sdci(&view.mux, &mut value);

@@ -3,7 +3,7 @@
 ghost use Rattle.std.specs.Prelude.{◌≡◌, ◌<◌, ◌++◌, codes, decimal, if◌then◌else◌};
 ghost use Rattle.std.specs.Int.{from_bool};
 ghost use Rattle.hex.specs.Hex.{encode_lower};
-ghost use Rattle.drm_links.specs.Sink.{Writes};
+ghost use Rattle.drm_links.specs.Sink.{WritesWhole};
 ghost use Rattle.drm_fac.specs.Fac.{FacFits};
 ghost use Rattle.drm_fac.specs.Services.{counts_of};
 ghost use Rattle.text_output.specs.Text.{piece_text, text_of};
@@ -17,7 +17,7 @@ use text_output::{Piece, write_pieces};
 #[tactic(auto, unfolding(crate::specs::FacLine::id_digits))]
 pub fn write_fac<O: Sink>(out: &mut O, fac: &Fac) -> Result<(), WriteFault>
     requires { FacFits fac.now }
-    ensures { Writes result (O.known out.old) (O.known out.new) (fac_line fac.now) }
+    ensures { WritesWhole result (O.known out.old) (O.known out.new) (fac_line fac.now) }
 {
     let id = fac.service.id.to_be_bytes();
     write_pieces(out, &pieces(fac, &id[1..]))

@@ -2,7 +2,7 @@
 
 ghost use Rattle.std.specs.Prelude.{◌≡◌};
 ghost use Rattle.std.specs.List.{flat_map};
-ghost use Rattle.drm_links.specs.Sink.{Writes};
+ghost use Rattle.drm_links.specs.Sink.{WritesWhole};
 ghost use Rattle.mdi_items.specs.Frame.{frame_of};
 ghost use Rattle.mdi_items.specs.View.{IsWholeView};
 ghost use Rattle.report_text.specs.FrameLine.{frame_line};
@@ -24,7 +24,7 @@ pub(crate) fn write_frame<O: Sink>(
     view: &MdiView<'_>,
 ) -> Result<(), WriteFault>
     requires { IsWholeView view.now }
-    ensures { Writes result (O.known out.old) (O.known out.new) (frame_line index (frame_of view.now) view.now.payload.now) }
+    ensures { WritesWhole result (O.known out.old) (O.known out.new) (frame_line index (frame_of view.now) view.now.payload.now) }
 {
     write_parts(out, view, &parts(index, view))
 }
@@ -70,7 +70,7 @@ fn write_parts<O: Sink>(
     parts: &[Part<'_>],
 ) -> Result<(), WriteFault>
     requires { IsWholeView view.now }
-    ensures { Writes result (O.known out.old) (O.known out.new)
+    ensures { WritesWhole result (O.known out.old) (O.known out.new)
         (flat_map (part_text (frame_of view.now) view.now.payload.now) parts.now) }
 {
     for part in parts {
@@ -81,7 +81,7 @@ fn write_parts<O: Sink>(
 
 fn write_part<O: Sink>(out: &mut O, view: &MdiView<'_>, part: Part<'_>) -> Result<(), WriteFault>
     requires { IsWholeView view.now }
-    ensures { Writes result (O.known out.old) (O.known out.new) (part_text (frame_of view.now) view.now.payload.now part.entry) }
+    ensures { WritesWhole result (O.known out.old) (O.known out.new) (part_text (frame_of view.now) view.now.payload.now part.entry) }
 {
     match part {
         Part::Text(piece) => write_piece(out, piece),

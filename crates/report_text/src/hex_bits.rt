@@ -2,7 +2,7 @@
 
 ghost use Rattle.std.specs.Prelude.{◌≡◌, ◌*◌, ◌<◌, ◌≤◌, length, take, drop, slice_index, OnOk};
 ghost use Rattle.hex.specs.Hex.{lower_digits};
-ghost use Rattle.drm_links.specs.Sink.{Writes};
+ghost use Rattle.drm_links.specs.Sink.{WritesWhole};
 ghost use Rattle.report_text.specs.HexBits.{hex_of_bits};
 
 use drm_bits::Bits;
@@ -10,7 +10,7 @@ use drm_links::{Sink, WriteFault, write_all};
 
 /// Writes a digit for each four bits that are left.
 pub(crate) fn write_bits<O: Sink>(out: &mut O, mut bits: Bits<'_>) -> Result<(), WriteFault>
-    ensures { Writes result (O.known out.old) (O.known out.new) (hex_of_bits bits.entry) }
+    ensures { WritesWhole result (O.known out.old) (O.known out.new) (hex_of_bits bits.entry) }
 {
     while let Ok(n) = bits.take(4) {
         write_all(out, &[digit(n)])?;
@@ -25,7 +25,7 @@ pub fn write_digits<O: Sink>(
     count: usize,
 ) -> Result<(), WriteFault>
     requires { 4 * count ≤ length bits.old }
-    ensures written { Writes result (O.known out.old) (O.known out.new) (hex_of_bits (take (4 * count) bits.old)) }
+    ensures written { WritesWhole result (O.known out.old) (O.known out.new) (hex_of_bits (take (4 * count) bits.old)) }
     ensures rest { OnOk result (bits.new ≡ drop (4 * count) bits.old) }
 {
     for _ in 0..count {

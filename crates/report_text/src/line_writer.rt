@@ -4,8 +4,8 @@ ghost use Rattle.std.specs.Prelude.{◌≡◌, [], IfOk};
 ghost use Rattle.mod_feed.specs.Items.{IsRead};
 ghost use Rattle.mod_feed.specs.Feeding.{step_of};
 ghost use Rattle.report_text.specs.Report.{step_text};
-ghost use Rattle.drm_links.specs.Sink.{Writes};
-ghost use Rattle.text_output.specs.Gathering.{Puts, Flushes};
+ghost use Rattle.drm_links.specs.Sink.{WritesWhole};
+ghost use Rattle.text_output.specs.Gathering.{PutsText, FlushesText};
 
 use crate::step::write_step;
 use drm_bits::NoMemory;
@@ -53,7 +53,7 @@ impl LineWriter {
     pub fn write_step<O: Sink>(&mut self, out: &mut O, step: &Step<'_>) -> Result<(), WriteFault>
         requires { IsRead step.now.item }
         ensures same { self.new ≡ self.old }
-        ensures writes { Writes result (O.known out.old) (O.known out.new) (step_text (step_of step.now)) }
+        ensures writes { WritesWhole result (O.known out.old) (O.known out.new) (step_text (step_of step.now)) }
     {
         self.lines.clear();
         if write_step(&mut self.lines, step).is_ok() {
@@ -67,7 +67,7 @@ impl LineWriter {
     /// Puts the lines of a step behind those that are gathered. What has no room goes out piece by piece.
     pub fn put_step<O: Sink>(&mut self, out: &mut O, step: &Step<'_>) -> Result<(), WriteFault>
         requires { IsRead step.now.item }
-        ensures { Puts result self.old self.new (O.known out.old) (O.known out.new) (step_text (step_of step.now)) }
+        ensures { PutsText result self.old self.new (O.known out.old) (O.known out.new) (step_text (step_of step.now)) }
     {
         self.lines.clear();
         if write_step(&mut self.lines, step).is_ok() {
@@ -81,7 +81,7 @@ impl LineWriter {
 
     /// Writes all that is gathered.
     pub fn flush<O: Sink>(&mut self, out: &mut O) -> Result<(), WriteFault>
-        ensures { Flushes result self.old self.new (O.known out.old) (O.known out.new) }
+        ensures { FlushesText result self.old self.new (O.known out.old) (O.known out.new) }
     {
         self.gathered.flush(out)
     }

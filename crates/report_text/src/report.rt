@@ -1,7 +1,7 @@
 //! The first and the last line of a report, and those of refused datagrams.
 
 ghost use Rattle.std.specs.Prelude.{◌≡◌};
-ghost use Rattle.drm_links.specs.Sink.{Writes};
+ghost use Rattle.drm_links.specs.Sink.{WritesWhole};
 ghost use Rattle.report_text.specs.FaultWords.{IsTold};
 ghost use Rattle.report_text.specs.Report.{feed_line, refused_line, end_word, end_line};
 
@@ -22,7 +22,7 @@ pub struct Sums {
 
 /// Writes the first line of the report of feed `k`.
 pub fn write_feed<O: Sink>(out: &mut O, k: u8) -> Result<(), WriteFault>
-    ensures { Writes result (O.known out.old) (O.known out.new) (feed_line k) }
+    ensures { WritesWhole result (O.known out.old) (O.known out.new) (feed_line k) }
 {
     write_pieces(
         out,
@@ -37,7 +37,7 @@ pub fn write_feed<O: Sink>(out: &mut O, k: u8) -> Result<(), WriteFault>
 /// Writes the line of the `n`-th datagram of a link, from 0 on, which was refused or disagreed.
 pub fn write_refused<O: Sink>(out: &mut O, n: u64, taken: &Taken) -> Result<(), WriteFault>
     requires { IsTold taken.now }
-    ensures { Writes result (O.known out.old) (O.known out.new) (refused_line n taken.now) }
+    ensures { WritesWhole result (O.known out.old) (O.known out.new) (refused_line n taken.now) }
 {
     write_pieces(
         out,
@@ -53,7 +53,7 @@ pub fn write_refused<O: Sink>(out: &mut O, n: u64, taken: &Taken) -> Result<(), 
 
 /// Writes the last line of a report.
 pub fn write_end<O: Sink>(out: &mut O, word: EndWord, sums: &Sums) -> Result<(), WriteFault>
-    ensures { Writes result (O.known out.old) (O.known out.new) (end_line word sums.now) }
+    ensures { WritesWhole result (O.known out.old) (O.known out.new) (end_line word sums.now) }
 {
     write_pieces(
         out,

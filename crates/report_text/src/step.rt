@@ -1,7 +1,7 @@
 //! A step of a feed: an item, behind the switch that stands before it.
 
 ghost use Rattle.std.specs.Prelude.{◌≡◌};
-ghost use Rattle.drm_links.specs.Sink.{Writes};
+ghost use Rattle.drm_links.specs.Sink.{WritesWhole};
 ghost use Rattle.mod_feed.specs.Items.{item_of, IsRead};
 ghost use Rattle.mod_feed.specs.Feeding.{step_of};
 ghost use Rattle.text_output.specs.Text.{text_of};
@@ -17,14 +17,14 @@ use text_output::{Piece, write_pieces};
 /// Writes the line of an item, behind that of the switch that stands before it.
 pub fn write_step<O: Sink>(out: &mut O, step: &Step<'_>) -> Result<(), WriteFault>
     requires { IsRead step.now.item }
-    ensures { Writes result (O.known out.old) (O.known out.new) (step_text (step_of step.now)) }
+    ensures { WritesWhole result (O.known out.old) (O.known out.new) (step_text (step_of step.now)) }
 {
     write_before(out, step.before)?;
     write_item(out, &step.item)
 }
 
 fn write_before<O: Sink>(out: &mut O, before: Option<Before>) -> Result<(), WriteFault>
-    ensures { Writes result (O.known out.old) (O.known out.new) (before_line before) }
+    ensures { WritesWhole result (O.known out.old) (O.known out.new) (before_line before) }
 {
     let (word, frame) = match before {
         None => return Ok(()),
@@ -39,7 +39,7 @@ fn write_before<O: Sink>(out: &mut O, before: Option<Before>) -> Result<(), Writ
 
 fn write_item<O: Sink>(out: &mut O, item: &FeedItem<'_>) -> Result<(), WriteFault>
     requires { IsRead item.now }
-    ensures { Writes result (O.known out.old) (O.known out.new) (item_line (item_of item.now)) }
+    ensures { WritesWhole result (O.known out.old) (O.known out.new) (item_line (item_of item.now)) }
 {
     match item {
         FeedItem::Frame { index, view } => write_frame(out, *index, view),

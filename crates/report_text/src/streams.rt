@@ -2,7 +2,7 @@
 
 ghost use Rattle.std.specs.Prelude.{length};
 ghost use Rattle.drm_bits.specs.Description.{IsDescription};
-ghost use Rattle.drm_links.specs.Sink.{Writes};
+ghost use Rattle.drm_links.specs.Sink.{WritesWhole};
 ghost use Rattle.drm_mux.specs.Frame.{multiplex_frame, streams_in, EndBy, HaveTheirLengths};
 ghost use Rattle.report_text.specs.FrameLine.{bytes_text};
 
@@ -20,7 +20,7 @@ pub(crate) fn write_streams<O: Sink>(
     requires description { IsDescription mux.now }
     requires lengths { HaveTheirLengths mux.now streams.now }
     requires inside { EndBy (length payload.now) streams.now }
-    ensures { Writes result (O.known out.old) (O.known out.new)
+    ensures { WritesWhole result (O.known out.old) (O.known out.new)
         (bytes_text (multiplex_frame mux.now (streams_in payload.now streams.now))) }
 {
     // What is read of the streams tells how many there are.

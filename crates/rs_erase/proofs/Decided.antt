@@ -10,7 +10,7 @@ use Rattle.gf_field.proofs.Polynomial.{same_from_xor}
 use Rattle.gf_field.proofs.Times.{times-lt}
 use Rattle.gf_field.specs.Field.{power, times}
 use Rattle.rs_erase.specs.Code.{AreElements, AreSyndromes}
-use Rattle.rs_erase.specs.Equations.{AreLocators, IsNoneOf, Solves, locators_of, power_sum, remaining_syndromes, remaining_values, word_with}
+use Rattle.rs_erase.specs.Equations.{AreLocators, IsNoneOf, ValuesSolve, locators_of, power_sum, remaining_syndromes, remaining_values, word_with}
 use Rattle.rs_erase.specs.FromZero.{syndromes_without}
 use Rattle.rs_erase.specs.Laws.{CodeWordOrNone}
 use Rattle.rs_erase.specs.Polynomial.{value}
@@ -71,7 +71,7 @@ remaining_quotients y (x ∷ xs) (u ∷ us) ly lo away lu bu =
 
 -- the value at the place of the first locator
 first_found : (x a : ℕ) (xs s us : List ℕ) → AreLocators (x ∷ xs) → AreElements (a ∷ s) → length (x ∷ xs) ≤ length (a ∷ s)
-    → Solves xs us (remaining_syndromes x (a ∷ s)) → (vs : List ℕ) × Solves (x ∷ xs) vs (a ∷ s)
+    → ValuesSolve xs us (remaining_syndromes x (a ∷ s)) → (vs : List ℕ) × ValuesSolve (x ∷ xs) vs (a ∷ s)
 first_found x a xs s us lo bs le h =
     let vs : List ℕ = quotients x xs us in
     let sum = bit_xor a (power_sum 1 xs vs) in
@@ -84,7 +84,7 @@ first_found x a xs s us lo bs le h =
 
 -- values that solve the equations, or that there are none
 pub solution_or_none : (xs s : List ℕ) → AreLocators xs → AreElements s → length xs ≤ length s
-    → ((vs : List ℕ) × Solves xs vs s) ⊎ ((vs : List ℕ) → Solves xs vs s → ⊥)
+    → ((vs : List ℕ) × ValuesSolve xs vs s) ⊎ ((vs : List ℕ) → ValuesSolve xs vs s → ⊥)
 solution_or_none [] s lo bs le =
     elim (zeros_or_not s) [
       | inl zeros ↦ inl ([], none_found [] [] s refl refl zeros)
@@ -101,7 +101,7 @@ solution_or_none (x ∷ xs) (a ∷ s) lo bs le =
 
 -- values that solve the equations, where no syndrome is left without all places
 pub solution_where_none_left : (xs s : List ℕ) → AreLocators xs → AreElements s → length xs ≤ length s
-    → All (λ a. a ≡ 0) (syndromes_without xs s) → (vs : List ℕ) × Solves xs vs s
+    → All (λ a. a ≡ 0) (syndromes_without xs s) → (vs : List ℕ) × ValuesSolve xs vs s
 solution_where_none_left [] s lo bs le zeros = ([], none_found [] [] s refl refl zeros)
 solution_where_none_left (x ∷ xs) [] lo bs le zeros = absurd (omega arith)
 solution_where_none_left (x ∷ xs) (a ∷ s) lo bs le zeros =

@@ -5,7 +5,7 @@ use Rattle.gf_field.proofs.Polynomial.{same_from_xor}
 use Rattle.gf_field.proofs.Times.{times-lt, times_assoc, times_comm, times_one}
 use Rattle.gf_field.specs.Field.{times}
 use Rattle.rs_erase.specs.Code.{AreElements}
-use Rattle.rs_erase.specs.Equations.{AreLocators, IsNoneOf, Solves, SumsFrom, nth_power, power_sum, remaining_syndromes, remaining_values}
+use Rattle.rs_erase.specs.Equations.{AreLocators, IsNoneOf, ValuesSolve, SumsFrom, nth_power, power_sum, remaining_syndromes, remaining_values}
 use Rattle.rs_erase.proofs.Elements.{cons_elements, elements_head, elements_tail}
 use Rattle.rs_erase.proofs.OnePlaceLess.{length-remaining_syndromes, rest_solves, whole_solves}
 
@@ -49,12 +49,12 @@ pub sums_zero : (j : ℕ) (vs s : List ℕ) → SumsFrom j [] vs s → All (λ a
 sums_zero j vs [] h = λ k d lt. absurd (omega arith)
 sums_zero j vs (a ∷ s) h = zero_cons a s h.0 (sums_zero (suc j) vs s h.1)
 
-pub none_found : (xs vs s : List ℕ) → length xs ≡ 0 → length vs ≡ length xs → All (λ a. a ≡ 0) s → Solves xs vs s
+pub none_found : (xs vs s : List ℕ) → length xs ≡ 0 → length vs ≡ length xs → All (λ a. a ≡ 0) s → ValuesSolve xs vs s
 none_found [] [] s e lv h = record { one_each = refl; elements = λ k d lt. absurd (omega arith); sums = zero_sums 1 s h }
 none_found [] (v ∷ vs) s e lv h = absurd (omega arith)
 none_found (x ∷ xs) vs s e lv h = absurd (omega arith)
 
-pub none_complete : (xs vs s : List ℕ) → length xs ≡ 0 → Solves xs vs s → All (λ a. a ≡ 0) s
+pub none_complete : (xs vs s : List ℕ) → length xs ≡ 0 → ValuesSolve xs vs s → All (λ a. a ≡ 0) s
 none_complete [] vs s e h = sums_zero 1 vs s h.sums
 none_complete (x ∷ xs) vs s e h = absurd (omega arith)
 
@@ -73,15 +73,15 @@ rest_required xs s left others x n e lo bs le el =
     let ll : length left ≡ length s - 1 = ap length el ∙ length_remaining_syndromes x s in
     (lo'.3, subst AreElements (sym el) (remaining_syndromes_elements x s bs), omega arith)
 
-pub rest_complete : (xs vs s left others : List ℕ) (x : ℕ) → xs ≡ x ∷ others → left ≡ remaining_syndromes x s → Solves xs vs s → (us : List ℕ) × Solves others us left
+pub rest_complete : (xs vs s left others : List ℕ) (x : ℕ) → xs ≡ x ∷ others → left ≡ remaining_syndromes x s → ValuesSolve xs vs s → (us : List ℕ) × ValuesSolve others us left
 rest_complete [] vs s left others x e el h = absurd (let lx = ap length e in omega arith)
 rest_complete (y ∷ ys) [] s left others x e el h = absurd (let lv = h.one_each in omega arith)
 rest_complete (y ∷ ys) (v ∷ vs) s left others x e el h =
     let same : y ≡ x = cc in
     let rest : ys ≡ others = cc in
-    let inner : Solves ys (remaining_values y ys vs) (remaining_syndromes y s) = rest_solves y v ys vs s h in
+    let inner : ValuesSolve ys (remaining_values y ys vs) (remaining_syndromes y s) = rest_solves y v ys vs s h in
     let el' : remaining_syndromes y s ≡ left = ap (λ (z : ℕ). remaining_syndromes z s) same ∙ sym el in
-    (remaining_values y ys vs, subst (λ (zs : List ℕ). Solves zs (remaining_values y ys vs) left) rest (subst (λ (t : List ℕ). Solves ys (remaining_values y ys vs) t) el' inner))
+    (remaining_values y ys vs, subst (λ (zs : List ℕ). ValuesSolve zs (remaining_values y ys vs) left) rest (subst (λ (t : List ℕ). ValuesSolve ys (remaining_values y ys vs) t) el' inner))
 
 -- the value of the removed place
 pub first_value : (x i a m v : ℕ) → x < 256 → a < 256 → m < 256 → times x i ≡ 1 → v ≡ times (bit_xor a m) i → times v x ≡ bit_xor a m
@@ -93,16 +93,16 @@ power_sum-lt j (x ∷ xs) [] = omega arith
 power_sum-lt j (x ∷ xs) (v ∷ vs) = xor_of_8 (times v (nth_power x j)) (power_sum j xs vs) (times-lt v (nth_power x j)) (power_sum-lt j xs vs)
 
 pub all_found : (xs s left others us vs : List ℕ) (x a i sum v : ℕ) → xs ≡ x ∷ others → AreLocators xs → AreElements s → length xs ≤ length s
-    → left ≡ remaining_syndromes x s → Solves others us left → remaining_values x others vs ≡ us → AreElements vs → length vs ≡ length others
-    → a ≡ get_or s 0 0 → times x i ≡ 1 → sum ≡ bit_xor a (power_sum 1 others vs) → v ≡ times sum i → Solves xs (v ∷ vs) s
+    → left ≡ remaining_syndromes x s → ValuesSolve others us left → remaining_values x others vs ≡ us → AreElements vs → length vs ≡ length others
+    → a ≡ get_or s 0 0 → times x i ≡ 1 → sum ≡ bit_xor a (power_sum 1 others vs) → v ≡ times sum i → ValuesSolve xs (v ∷ vs) s
 all_found xs [] left others us vs x a i sum v e lo bs le el h hd bv lv ha one hs hv = absurd (let lx = ap length e in omega arith)
 all_found xs (b ∷ s) left others us vs x a i sum v e lo bs le el h hd bv lv ha one hs hv =
     let lo' : AreLocators (x ∷ others) = subst AreLocators e lo in
-    let inner : Solves others (remaining_values x others vs) (remaining_syndromes x (b ∷ s)) =
-    subst (λ (t : List ℕ). Solves others t (remaining_syndromes x (b ∷ s))) (sym hd) (subst (λ (t : List ℕ). Solves others us t) el h) in
+    let inner : ValuesSolve others (remaining_values x others vs) (remaining_syndromes x (b ∷ s)) =
+    subst (λ (t : List ℕ). ValuesSolve others t (remaining_syndromes x (b ∷ s))) (sym hd) (subst (λ (t : List ℕ). ValuesSolve others us t) el h) in
     let P : ℕ → Type 0 = λ n. n < 256 in
     let sum' : sum ≡ bit_xor b (power_sum 1 others vs) = hs ∙ ap (λ (z : ℕ). bit_xor z (power_sum 1 others vs)) ha in
-    let whole : Solves (x ∷ others) (v ∷ vs) (b ∷ s) =
+    let whole : ValuesSolve (x ∷ others) (v ∷ vs) (b ∷ s) =
     whole_solves x v others vs b s lo' lv (subst P (sym hv) (times-lt sum i)) bv
     (first_value x i b (power_sum 1 others vs) v lo'.1 (elements_head b s bs) (power_sum-lt 1 others vs) one (hv ∙ ap (λ (z : ℕ). times z i) sum')) inner in
-    subst (λ (zs : List ℕ). Solves zs (v ∷ vs) (b ∷ s)) (sym e) whole
+    subst (λ (zs : List ℕ). ValuesSolve zs (v ∷ vs) (b ∷ s)) (sym e) whole

@@ -8,7 +8,7 @@ use Rattle.gf_field.specs.Field.{times}
 use Rattle.gf_field.proofs.Inverse.{times_cancel}
 use Rattle.gf_field.proofs.Times.{one_times, times-lt, times_assoc, times_comm, times_one, times_zero, xor_times, zero_times}
 use Rattle.rs_erase.specs.Code.{AreElements}
-use Rattle.rs_erase.specs.Equations.{AreLocators, IsNoneOf, Solves, nth_power}
+use Rattle.rs_erase.specs.Equations.{AreLocators, IsNoneOf, ValuesSolve, nth_power}
 use Rattle.rs_erase.specs.FromZero.{syndromes_without, weighted}
 use Rattle.rs_erase.specs.Polynomial.{add, scale}
 use Rattle.rs_erase.specs.Prepared.{AreWeights, IsFoundOf, geometric, others_product, scale_of, sums_product, without}
@@ -151,7 +151,7 @@ symbol_erased xs row y k ly le lk is lr one none = record {
 
 -- where nothing is left behind the values, they solve the equations
 pub found_solve : (xs s row : List ℕ) → AreLocators xs → AreElements s → AreElements row → length s ≡ 48 → length xs ≤ 48
-    → IsFoundOf xs s row → All (λ a. a ≡ 0) (drop (length xs) row) → Solves xs (take (length xs) row) s
+    → IsFoundOf xs s row → All (λ a. a ≡ 0) (drop (length xs) row) → ValuesSolve xs (take (length xs) row) s
 found_solve xs s row lo bs br ls le h zeros =
     let n = length xs in
     let lr = h.long in
@@ -174,10 +174,10 @@ found_solve xs s row lo bs br ls le h zeros =
     ∙ times_cancel (get_or row k 0) (get_or vs k 0) k' (br k 0 (omega arith)) (solves.elements k 0 (omega arith)) pos
     (times-lt (get_or xs k 0) (sums_product (get_or xs k 0) (without k xs)))
     (h.values k inside ∙ sym (alone xs vs s k solves inside (omega arith)))) in
-    subst (λ (us : List ℕ). Solves xs us s) (sym same) solves
+    subst (λ (us : List ℕ). ValuesSolve xs us s) (sym same) solves
 
 -- and where there are values that do, nothing is left
-pub none_behind : (xs vs s row : List ℕ) → length xs ≤ 48 → IsFoundOf xs s row → length s ≡ 48 → Solves xs vs s → All (λ a. a ≡ 0) (drop (length xs) row)
+pub none_behind : (xs vs s row : List ℕ) → length xs ≤ 48 → IsFoundOf xs s row → length s ≡ 48 → ValuesSolve xs vs s → All (λ a. a ≡ 0) (drop (length xs) row)
 none_behind xs vs s row le h ls solves =
     let n = length xs in
     let lr = h.long in

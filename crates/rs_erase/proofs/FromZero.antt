@@ -5,7 +5,7 @@ use Rattle.std.specs.Int.Bits.{xor_assoc, xor_zero_r, xor_zero_l}
 use Rattle.gf_field.specs.Field.{times}
 use Rattle.gf_field.proofs.Times.{times-lt, times_assoc, times_one}
 use Rattle.rs_erase.specs.Code.{AreElements}
-use Rattle.rs_erase.specs.Equations.{AreLocators, Solves, SumsFrom, nth_power, power_sum, remaining_syndromes, remaining_values}
+use Rattle.rs_erase.specs.Equations.{AreLocators, ValuesSolve, SumsFrom, nth_power, power_sum, remaining_syndromes, remaining_values}
 use Rattle.rs_erase.specs.FromZero.{SolvesFromZero, syndromes_without, weighted}
 use Rattle.rs_erase.proofs.Elements.{cons_elements, no_elements}
 use Rattle.rs_erase.proofs.EquationLoops.{sums_zero, zero_sums}
@@ -98,10 +98,10 @@ weighted_elements [] vs = no_elements
 weighted_elements (x ∷ xs) [] = no_elements
 weighted_elements (x ∷ xs) (v ∷ vs) = cons_elements (times v x) (weighted xs vs) (times-lt v x) (weighted_elements xs vs)
 
-pub weighted_solves : (xs vs s : List ℕ) → Solves xs vs s → SolvesFromZero xs (weighted xs vs) s
+pub weighted_solves : (xs vs s : List ℕ) → ValuesSolve xs vs s → SolvesFromZero xs (weighted xs vs) s
 weighted_solves xs vs s h = record { one_each = length-weighted xs vs h.one_each; elements = weighted_elements xs vs; sums = sums_weighted 0 xs vs s h.sums }
 
-pub bare_solves : (xs vs us s : List ℕ) → length vs ≡ length xs → AreElements vs → us ≡ weighted xs vs → SolvesFromZero xs us s → Solves xs vs s
+pub bare_solves : (xs vs us s : List ℕ) → length vs ≡ length xs → AreElements vs → us ≡ weighted xs vs → SolvesFromZero xs us s → ValuesSolve xs vs s
 bare_solves xs vs us s lv bv e h = record { one_each = lv; elements = bv; sums = sums_bare 0 xs vs s (subst (λ (w : List ℕ). SumsFrom 0 xs w s) e h.sums) }
 
 pub weighted_by_index : (xs vs us : List ℕ) → length vs ≡ length xs → length us ≡ length xs

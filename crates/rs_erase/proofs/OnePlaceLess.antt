@@ -7,7 +7,7 @@ use Rattle.gf_field.proofs.Polynomial.{same_from_xor, xor_four}
 use Rattle.gf_field.proofs.Times.{times-lt, times_assoc, times_comm, times_one, times_xor, times_zero, xor_times}
 use Rattle.gf_field.specs.Field.{times}
 use Rattle.rs_erase.specs.Code.{AreElements}
-use Rattle.rs_erase.specs.Equations.{AreLocators, IsNoneOf, Solves, SumsFrom, nth_power, power_sum, remaining_syndromes, remaining_values}
+use Rattle.rs_erase.specs.Equations.{AreLocators, IsNoneOf, ValuesSolve, SumsFrom, nth_power, power_sum, remaining_syndromes, remaining_values}
 use Rattle.rs_erase.proofs.Elements.{cons_elements, elements_head, elements_tail}
 
 pub swap : (a b c : ℕ) → times a (times b c) ≡ times b (times a c)
@@ -88,7 +88,7 @@ length-remaining_syndromes x a [] = refl
 length-remaining_syndromes x a (b ∷ s) = let h = length-remaining_syndromes x b s in omega arith
 
 -- a solution of the whole gives one for the places that are left
-pub rest_solves : (x v : ℕ) (xs vs s : List ℕ) → Solves (x ∷ xs) (v ∷ vs) s → Solves xs (remaining_values x xs vs) (remaining_syndromes x s)
+pub rest_solves : (x v : ℕ) (xs vs s : List ℕ) → ValuesSolve (x ∷ xs) (v ∷ vs) s → ValuesSolve xs (remaining_values x xs vs) (remaining_syndromes x s)
 rest_solves x v xs vs s h =
     record {
       one_each = length-remaining_values x xs vs (let e = h.one_each in omega arith);
@@ -100,7 +100,7 @@ pub nth_power_one : (x : ℕ) → x < 256 → nth_power x 1 ≡ x
 nth_power_one x lx = times_one x lx
 
 -- there is at most one solution
-pub one_solution : (xs vs us s : List ℕ) → AreLocators xs → length xs ≤ length s → Solves xs vs s → Solves xs us s → vs ≡ us
+pub one_solution : (xs vs us s : List ℕ) → AreLocators xs → length xs ≤ length s → ValuesSolve xs vs s → ValuesSolve xs us s → vs ≡ us
 one_solution [] [] [] s lo le p q = refl
 one_solution [] [] (u ∷ us) s lo le p q = absurd (let e = q.one_each in omega arith)
 one_solution [] (v ∷ vs) us s lo le p q = absurd (let e = p.one_each in omega arith)
@@ -123,7 +123,7 @@ one_solution (x ∷ xs) (v ∷ vs) (u ∷ us) (a ∷ s) lo le p q =
 
 -- a solution of what is left gives one of the whole
 pub whole_solves : (x v : ℕ) (xs vs : List ℕ) (a : ℕ) (s : List ℕ) → AreLocators (x ∷ xs) → length vs ≡ length xs → v < 256 → AreElements vs
-    → times v x ≡ bit_xor a (power_sum 1 xs vs) → Solves xs (remaining_values x xs vs) (remaining_syndromes x (a ∷ s)) → Solves (x ∷ xs) (v ∷ vs) (a ∷ s)
+    → times v x ≡ bit_xor a (power_sum 1 xs vs) → ValuesSolve xs (remaining_values x xs vs) (remaining_syndromes x (a ∷ s)) → ValuesSolve (x ∷ xs) (v ∷ vs) (a ∷ s)
 whole_solves x v xs vs a s lo lv bv bvs e h =
     let head : a ≡ power_sum 1 (x ∷ xs) (v ∷ vs) =
     sym (xor_twice a (power_sum 1 xs vs)) ∙ ap (λ (n : ℕ). bit_xor n (power_sum 1 xs vs)) (sym e ∙ ap (times v) (sym (nth_power_one x lo.1))) in

@@ -11,7 +11,7 @@ use Rattle.gf_field.proofs.Powers.{power-lt, power_add}
 use Rattle.gf_field.specs.Laws.{AreLogarithms, ArePowers}
 use Rattle.gf_field.specs.declared.logarithms.TheConstants.{LOGS, POWERS}
 use Rattle.gf_field.proofs.Times.{one_times, times-lt, times_assoc, times_comm, times_one, times_xor, times_zero, zero_times}
-use Rattle.rs_erase.specs.Equations.{AreLocators, IsNoneOf, Solves, SumsFrom, nth_power, power_sum, remaining_syndromes, remaining_values}
+use Rattle.rs_erase.specs.Equations.{AreLocators, IsNoneOf, ValuesSolve, SumsFrom, nth_power, power_sum, remaining_syndromes, remaining_values}
 use Rattle.rs_erase.specs.FromZero.{syndromes_without}
 use Rattle.rs_erase.specs.Polynomial.{add, scale}
 use Rattle.rs_erase.specs.Prepared.{geometric, others_product, scale_of, sums_product, without}
@@ -121,7 +121,7 @@ swapped_sums j x y v u xs vs (a ∷ s) h =
       swapped_sums (suc j) x y v u xs vs s h.1,
     )
 
-swapped : (x y v u : ℕ) (xs vs s : List ℕ) → Solves (x ∷ y ∷ xs) (v ∷ u ∷ vs) s → Solves (y ∷ x ∷ xs) (u ∷ v ∷ vs) s
+swapped : (x y v u : ℕ) (xs vs s : List ℕ) → ValuesSolve (x ∷ y ∷ xs) (v ∷ u ∷ vs) s → ValuesSolve (y ∷ x ∷ xs) (u ∷ v ∷ vs) s
 swapped x y v u xs vs s h =
     let b = h.elements in
     record {
@@ -135,7 +135,7 @@ swapped x y v u xs vs s h =
 moved : (v d x p : ℕ) → times (times v d) (times x p) ≡ times v (times x (times d p))
 moved v d x p = times_assoc v d (times x p) ∙ ap (times v) (swap d x p)
 
-first_alone : (x v : ℕ) (others vs s : List ℕ) → Solves (x ∷ others) (v ∷ vs) s → length others < length s
+first_alone : (x v : ℕ) (others vs s : List ℕ) → ValuesSolve (x ∷ others) (v ∷ vs) s → length others < length s
     → times v (times x (sums_product x others)) ≡ get_or (syndromes_without others s) 0 0
 first_alone x v [] vs [] h lt = absurd (omega arith)
 first_alone x v [] vs (a ∷ s) h lt = sym (h.sums.0 ∙ xor_zero_r (times v (times x 1)))
@@ -154,7 +154,7 @@ at_remaining y (x ∷ xs) [] j e lt = absurd (omega arith)
 at_remaining y (x ∷ xs) (v ∷ vs) zero e lt = refl
 at_remaining y (x ∷ xs) (v ∷ vs) (suc j) e lt = at_remaining y xs vs j (omega arith) (omega arith)
 
-pub alone : (xs vs s : List ℕ) (j : ℕ) → Solves xs vs s → j < length xs → length xs ≤ length s
+pub alone : (xs vs s : List ℕ) (j : ℕ) → ValuesSolve xs vs s → j < length xs → length xs ≤ length s
     → times (get_or vs j 0) (scale_of xs j) ≡ get_or (syndromes_without (without j xs) s) 0 0
 alone [] vs s j h lt le = absurd (omega arith)
 alone (x ∷ xs) [] s j h lt le = absurd (let e = h.one_each in omega arith)

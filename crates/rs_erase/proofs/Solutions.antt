@@ -6,7 +6,7 @@ use Rattle.std.specs.Int.Bits.{xor_self}
 use Rattle.gf_field.proofs.Polynomial.{same_from_xor}
 use Rattle.gf_field.specs.Field.{power}
 use Rattle.rs_erase.specs.Code.{AgreesOutside, AreElements, AreSyndromes, HasCodeWord, IsCodeWord, IsOnlyCodeWord}
-use Rattle.rs_erase.specs.Equations.{Solves, SumsFrom, locators_of, power_sum, word_value, word_with}
+use Rattle.rs_erase.specs.Equations.{ValuesSolve, SumsFrom, locators_of, power_sum, word_value, word_with}
 use Rattle.rs_erase.proofs.ErasedPlaces.{RiseFrom}
 use Rattle.rs_erase.specs.Polynomial.{value}
 use Rattle.rs_erase.proofs.CodeWords.{code_word_elements, code_word_from, code_word_values}
@@ -31,7 +31,7 @@ sums_from j xs vs (a ∷ s) h = (
 
 -- a solution makes a code word
 pub solution_is_code_word : (es vs w s : List ℕ) → RiseFrom 0 es → length w ≡ 255 → AreElements w → AreSyndromes w s
-    → Solves (locators_of es) vs s → IsCodeWord (word_with es vs w)
+    → ValuesSolve (locators_of es) vs s → IsCodeWord (word_with es vs w)
 solution_is_code_word es vs w s rise lw hw sy h =
     let lv : length vs ≡ length es = h.one_each ∙ length-locators_of es in
     let elements = word_with_elements es vs w 0 rise h.elements lw hw in
@@ -50,7 +50,7 @@ solution_is_code_word es vs w s rise lw hw sy h =
 
 -- a code word that agrees outside the places makes a solution
 pub code_word_is_solution : (es w c s : List ℕ) → RiseFrom 0 es → length w ≡ 255 → AreElements w → AreSyndromes w s
-    → IsCodeWord c → AgreesOutside es w c → Solves (locators_of es) (differences es w c) s
+    → IsCodeWord c → AgreesOutside es w c → ValuesSolve (locators_of es) (differences es w c) s
 code_word_is_solution es w c s rise lw hw sy code agrees =
     let ds = differences es w c in
     let hc = code_word_elements c code in
@@ -83,10 +83,10 @@ pub record IsTheCodeWord (places : List ℕ) (old new : List ℕ) : Type 0 where
 
 -- the places' values that were found
 pub solved : (es w s xs us vs new : List ℕ) → RiseFrom 0 es → length w ≡ 255 → ((i : ℕ) → get_or w i 0 < 256) → length es ≤ 48
-    → AreSyndromes w s → xs ≡ locators_of es → vs ≡ us → Solves xs us s → new ≡ word_with es vs w → IsTheCodeWord es w new
+    → AreSyndromes w s → xs ≡ locators_of es → vs ≡ us → ValuesSolve xs us s → new ≡ word_with es vs w → IsTheCodeWord es w new
 solved es w s xs us vs new rise lw hw le sy ex ev h en =
     let bw = elements_of w hw in
-    let h' : Solves (locators_of es) us s = subst (λ (zs : List ℕ). Solves zs us s) ex h in
+    let h' : ValuesSolve (locators_of es) us s = subst (λ (zs : List ℕ). ValuesSolve zs us s) ex h in
     let en' : word_with es us w ≡ new = ap (λ (zs : List ℕ). word_with es zs w) (sym ev) ∙ sym en in
     record {
       code_word = subst IsCodeWord en' (solution_is_code_word es us w s rise lw bw sy h');
@@ -101,10 +101,10 @@ solved es w s xs us vs new rise lw hw le sy ex ev h en =
 
 -- no values were found
 pub unsolved : (es w s xs : List ℕ) → RiseFrom 0 es → length w ≡ 255 → ((i : ℕ) → get_or w i 0 < 256)
-    → AreSyndromes w s → xs ≡ locators_of es → ((vs : List ℕ) → Solves xs vs s → ⊥) → HasCodeWord es w → ⊥
+    → AreSyndromes w s → xs ≡ locators_of es → ((vs : List ℕ) → ValuesSolve xs vs s → ⊥) → HasCodeWord es w → ⊥
 unsolved es w s xs rise lw hw sy ex none h =
     none (differences es w h.word)
-    (subst (λ (zs : List ℕ). Solves zs (differences es w h.word) s) (sym ex)
+    (subst (λ (zs : List ℕ). ValuesSolve zs (differences es w h.word) s) (sym ex)
     (code_word_is_solution es w h.word s rise lw (elements_of w hw) sy h.code_word h.agrees))
 
 pub not_found : IsTrue false → ⊥

@@ -43,7 +43,7 @@ SumsFrom j xs vs [] = Unit {0}
 SumsFrom j xs vs (a ∷ s) = (a ≡ power_sum j xs vs) × SumsFrom (suc j) xs vs s
 
 -- values at the places with the locators xs, from which the syndromes s come
-pub record Solves (xs vs s : List ℕ) : Type 0 where
+pub record ValuesSolve (xs vs s : List ℕ) : Type 0 where
   pub one_each : length vs ≡ length xs
   pub elements : AreElements vs
   pub sums : SumsFrom 1 xs vs s

@@ -80,7 +80,7 @@ fn solve_from_last(locators: &[Gf], products: &mut [Gf])
 
 /// Makes the first product of the first syndrome, and divides the others, which are those without the first place.
 fn solve_first(locators: &[Gf], products: &mut [Gf])
-    requires some { 0 < length locators.now }
+    requires at_least_one { 0 < length locators.now }
     requires distinct { AreLocators locators.now }
     requires one_each { length products.old ≡ length locators.now }
     requires elements { AreElements products.old }

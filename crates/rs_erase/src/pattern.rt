@@ -85,7 +85,7 @@ pub fn solve_by(pattern: &Pattern, word: &mut [u8; 255]) -> Result<(), SolveFaul
 
 /// Adds each value at its place.
 fn add_bytes(word: &mut [u8], places: &[u8], values: &[u8])
-    requires long { length word.old ≡ 255 }
+    requires length { length word.old ≡ 255 }
     requires one_each { length values.now ≡ length places.now }
     requires places { ArePlaces places.now }
     ensures { word.new ≡ word_with places.now values.now word.old }

@@ -70,7 +70,7 @@ fn divide_by_locators(products: &mut [Gf], locators: &[Gf])
 
 /// Adds each value at its place.
 pub fn add_values(word: &mut [u8], places: &[u8], values: &[Gf])
-    requires long { length word.old ≡ 255 }
+    requires length { length word.old ≡ 255 }
     requires one_each { length values.now ≡ length places.now }
     requires places { ArePlaces places.now }
     ensures { word.new ≡ word_with places.now values.now word.old }

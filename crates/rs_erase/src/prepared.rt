@@ -95,7 +95,7 @@ fn row_with_one(j: usize) -> Row
     requires { j < 48 }
     ensures one { slice_index (listed result) j ≡ 1 }
     ensures others { (i : ℕ) → i ≢ j → slice_index (listed result) i ≡ 0 }
-    ensures long { length (listed result) ≡ 48 }
+    ensures length { length (listed result) ≡ 48 }
 {
     let mut bytes = [0; 48];
     bytes[j] = 1;

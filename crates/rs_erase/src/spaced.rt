@@ -206,9 +206,9 @@ fn sums_of_run(table: &[u8; 4096], start: u8, symbols: &[u8; 48]) -> u8x16
 
 /// Adds at each place what its lane comes to, times its weight.
 fn add_found(word: &mut [u8], places: &[u8], sums: &[u8; 96], lanes: &[u8; 48], weights: &[Gf; 48])
-    requires long { length word.old ≡ 255 }
+    requires length { length word.old ≡ 255 }
     requires places { ArePlaces places.now }
-    requires few { length places.now ≤ 48 }
+    requires within_limit { length places.now ≤ 48 }
     requires lanes { (j : ℕ) → j < length places.now → slice_index lanes.now j < 96 }
     ensures { (vs : List ℕ) → length vs ≡ length places.now
         → ((j : ℕ) → j < length places.now

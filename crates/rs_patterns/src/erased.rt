@@ -19,7 +19,7 @@ pub(crate) fn write_erased(
     positions: &mut [u8; 255],
 ) -> usize
     requires { HasMarks count k start marks.now }
-    ensures few { result ≤ 255 }
+    ensures within_limit { result ≤ 255 }
     ensures erased { take result positions.new ≡ erased_positions count (is_marked marks.now) start k (k + 48) }
 {
     let mut erased = 0;

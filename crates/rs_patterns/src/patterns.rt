@@ -146,7 +146,7 @@ fn is_second(
     first: usize,
 ) -> bool
     requires there { set + 32 < length kept.now }
-    requires few { count ≤ 64 }
+    requires within_limit { count ≤ 64 }
     requires room { count ≤ length marks.now }
 {
     !is_for(&kept[set], marks, count, k, first)
@@ -155,7 +155,7 @@ fn is_second(
 
 // Whether it is for these chunks.
 fn is_for(kept: &Kept, marks: &[bool], count: usize, k: usize, first: usize) -> bool
-    requires few { count ≤ 64 }
+    requires within_limit { count ≤ 64 }
     requires room { count ≤ length marks.now }
     ensures { result ≡ true → IsFor kept.now count k first marks.now }
 {
@@ -188,7 +188,7 @@ fn solve_at(
     requires kept { AreKept kept.old }
     requires there { place < 64 }
     requires spaced { spacing.now ≡ count }
-    requires few { count ≤ 64 }
+    requires within_limit { count ≤ 64 }
     requires erased { IsErased count k start marks.now }
     ensures kept { AreKept kept.new }
     ensures solved { IsOk result ↔ HasCodeWord (erased_positions count (is_marked marks.now) start k (k + 48)) word.old }
@@ -209,7 +209,7 @@ fn solve_kept(
 ) -> Result<(), SolveFault>
     requires right { IsRight kept.old }
     requires spaced { spacing.now ≡ count }
-    requires few { count ≤ 64 }
+    requires within_limit { count ≤ 64 }
     requires erased { IsErased count k start marks.now }
     ensures right { IsRight kept.new }
     ensures solved { IsOk result ↔ HasCodeWord (erased_positions count (is_marked marks.now) start k (k + 48)) word.old }
@@ -227,7 +227,7 @@ fn solve_kept(
 
 // From now on it is for these chunks, without a pattern.
 fn note(kept: &mut Kept, marks: &[bool], count: usize, k: usize, first: usize)
-    requires few { count ≤ 64 }
+    requires within_limit { count ≤ 64 }
     requires room { count ≤ length marks.now }
     ensures { IsRight kept.new }
 {
@@ -249,7 +249,7 @@ fn copy_first(marks: &mut [bool], others: &[bool], count: usize)
 // The pattern of the chunk that starts at a place, if its erased bytes belong to few fragments.
 fn prepare(marks: &[bool], count: usize, k: usize, start: usize) -> Option<SpacedPattern>
     requires erased { IsErased count k start marks.now }
-    requires few { count ≤ 64 }
+    requires within_limit { count ≤ 64 }
     ensures { IfSome result (λ pattern. pattern
         ≡ record { places = erased_positions count (is_marked marks.now) start k (k + 48); distance = count }) }
 {

@@ -1,15 +1,15 @@
 //! Runs a case, and compares.
 
 use crate::forms::Outside;
-use test_case_files::{Case, Sent};
+use cmd_paths::run_paths;
 use drm_bits::NoMemory;
 use drm_links::{MemDock, MemLink};
 use drm_top::run;
-use cmd_paths::run_paths;
 use std::alloc::{AllocError, Global};
 use std::fmt::Display;
 use std::sync::Wait;
 use std::thread::Threads;
+use test_case_files::{Case, Sent};
 
 /// The program whose run a case is of.
 #[derive(Clone, Copy)]

@@ -3,10 +3,10 @@
 ghost use Rattle.std.specs.Prelude.{IfOk};
 ghost use Rattle.drm_links.specs.MemoryLink.{IsUntouched};
 
-use test_case_files::{Case, LinkCase, Output};
 use drm_bits::NoMemory;
 use drm_links::{LONGEST_DATAGRAM, MemDock, MemLink, MemShelf, MemSink, MemSource};
 use std::alloc::Global;
+use test_case_files::{Case, LinkCase, Output};
 
 /// What a run reads, writes and opens.
 #[derive(Drop)]

@@ -6,13 +6,13 @@ mod differences;
 mod forms;
 
 use anyhow::{Context, Result, bail};
-use test_case_files::{Case, Reader};
 use differences::{Program, differences};
 use std::process::ExitCode;
 use std::rt::Files;
 use std::sync::Wait;
 use std::thread::Threads;
 use std::{env, fs};
+use test_case_files::{Case, Reader};
 
 /// How many cases were run, and how many of them differ.
 #[derive(Drop)]

@@ -26,9 +26,9 @@ fn packet() -> [u8; 1400]
 
 /// Writes the parity of the packet of so many bytes to the front, and answers its length.
 fn parity_of(len: usize, m: u8, parity: &mut [u8; MOST_PARITY]) -> usize
-    requires some { 1 ≤ len }
-    requires small { len ≤ 1400 }
-    requires few { m ≤ 5 }
+    requires at_least_one { 1 ≤ len }
+    requires in_range { len ≤ 1400 }
+    requires within_limit { m ≤ 5 }
     ensures { result ≤ most_parity }
 {
     let bytes = packet();
@@ -40,9 +40,9 @@ fn parity_of(len: usize, m: u8, parity: &mut [u8; MOST_PARITY]) -> usize
 
 /// Writes a fragment of the packet of so many bytes, and answers its length, or 0 where there is none of this index.
 fn datagram(len: usize, m: u8, seq: u16, index: u32, into: &mut [u8; 1500]) -> usize
-    requires some { 1 ≤ len }
-    requires small { len ≤ 1400 }
-    requires few { m ≤ 5 }
+    requires at_least_one { 1 ≤ len }
+    requires in_range { len ≤ 1400 }
+    requires within_limit { m ≤ 5 }
     ensures { result ≤ 1500 }
 {
     let bytes = packet();
@@ -59,9 +59,9 @@ fn datagram(len: usize, m: u8, seq: u16, index: u32, into: &mut [u8; 1500]) -> u
 }
 
 fn has_parity(len: usize, m: u8, expected: &[u8]) -> bool
-    requires some { 1 ≤ len }
-    requires small { len ≤ 1400 }
-    requires few { m ≤ 5 }
+    requires at_least_one { 1 ≤ len }
+    requires in_range { len ≤ 1400 }
+    requires within_limit { m ≤ 5 }
 {
     let mut parity = [0xee; MOST_PARITY];
     let end = parity_of(len, m, &mut parity);
@@ -140,9 +140,9 @@ fn writes_datagrams(rt: HostRuntime) {
 
 /// Whether this fragment of a packet has so many bytes, of which these are the first.
 fn begins(len: usize, m: u8, seq: u16, index: u32, end: usize, head: &[u8]) -> bool
-    requires some { 1 ≤ len }
-    requires small { len ≤ 1400 }
-    requires few { m ≤ 5 }
+    requires at_least_one { 1 ≤ len }
+    requires in_range { len ≤ 1400 }
+    requires within_limit { m ≤ 5 }
 {
     let mut into = [0; 1500];
     datagram(len, m, seq, index, &mut into) == end && into.starts_with(head)

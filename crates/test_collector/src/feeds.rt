@@ -9,8 +9,8 @@ use dcp_af::AfFault;
 use dcp_collect::Out;
 use drm_fac::{Channel, Fac, Mode, Service};
 use drm_mux::{MuxDesc, Part, Spans};
-use drm_sdc::{BlockInfo, SdcFault};
 use drm_reconfiguration::Before;
+use drm_sdc::{BlockInfo, SdcFault};
 use mdi_items::{MdiFault, MdiView, SdcSpan};
 use mod_feed::{BadFault, Feed, FeedItem, Step};
 

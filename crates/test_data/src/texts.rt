@@ -22,8 +22,8 @@ const LONGER: [[u8; 4]; 9] = [
 
 // Whether it is this piece of the message.
 fn is_piece(message: &str, toggle: bool, k: usize, piece: [u8; 4]) -> bool
-    requires some { 1 ≤ length message.now }
-    requires few { length message.now ≤ 128 }
+    requires at_least_one { 1 ≤ length message.now }
+    requires within_limit { length message.now ≤ 128 }
 {
     text_piece(message, toggle, k) == Some(piece)
 }

@@ -1,7 +1,7 @@
 //! A dock of links that wait for the last of them.
 
 ghost use Rattle.std.specs.Prelude.{◌≡◌, None, IfOk};
-ghost use Rattle.drm_links.specs.Told.{Counts};
+ghost use Rattle.drm_links.specs.Told.{RisesWhere};
 ghost use Rattle.drm_links.specs.Dock.{IsFresh, IsFailed};
 
 use crate::link::GatedLink;
@@ -58,7 +58,7 @@ impl<'a> GatedDock<'a> {
 
     fn open(&mut self, at: Address) -> Opened<GatedLink<'a>>
         ensures fresh { IsFresh ⟦<GatedLink<'a> as Link>⟧.known ⟦<GatedLink<'a> as Link>⟧.idles result }
-        ensures cause { Counts self.old.faults self.new.faults (IsFailed result) }
+        ensures cause { RisesWhere self.old.faults self.new.faults (IsFailed result) }
     {
         match self.link_of(at.port) {
             Ok(link) => Opened::Link(link),

@@ -1,12 +1,12 @@
 //! Paths work side by side: the first three of four links bring nothing before the fourth one was asked.
 
-use drm_links::MemSink;
-use test_gated_links::{GatedDock, Share, reports, words_of};
 use cmd_paths::run_paths;
+use drm_links::MemSink;
 use std::alloc::Global;
 use std::sync::Wait;
 use std::sync::atomic::AtomicU64;
 use std::thread::Threads;
+use test_gated_links::{GatedDock, Share, reports, words_of};
 
 /// Which packets each link brings.
 const SHARES: [Share; 4] = [

@@ -1,10 +1,10 @@
 //! Receivers work side by side: the first fifteen of sixteen links bring nothing before the last one was asked.
 
 use crate::small::is_done;
-use test_gated_links::{GatedDock, Share, reports};
 use std::alloc::Global;
 use std::sync::atomic::AtomicU64;
 use std::thread::Threads;
+use test_gated_links::{GatedDock, Share, reports};
 
 /// Each link brings all three packets.
 const SHARES: [Share; 16] = [Share { from: 0, to: 3 }; 16];

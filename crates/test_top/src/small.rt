@@ -3,9 +3,9 @@
 use drm_bits::NoMemory;
 use drm_links::{Dock, Link, MemShelf, MemSink, MemSource};
 use drm_top::run;
-use test_gated_links::words_of;
 use std::alloc::Global;
 use std::thread::Threads;
+use test_gated_links::words_of;
 use test_support::SMALL;
 
 /// What a command line reads and writes: the schedule on the shelf, and an empty input.

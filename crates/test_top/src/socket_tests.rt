@@ -4,11 +4,11 @@ use crate::small::is_done;
 use drm_adapt::UdpDock;
 use drm_bits::zeros;
 use drm_links::{Address, Came, Dock, LONGEST_DATAGRAM, Link, Opened};
-use test_gated_links::reports;
 use std::alloc::Global;
 use std::net::Net;
 use std::thread::{Threads, join, sleep};
 use std::time::{Clock, Duration};
+use test_gated_links::reports;
 
 // The headers of the first fragments of the three packets, but for their check values.
 const FIRST: [(usize, [u8; 14]); 3] = [

@@ -20,7 +20,7 @@ fn has_number(word: &str) -> bool
 /// The number that a word spells in 1 to 10 decimal digits.
 pub fn number(word: &str) -> Option<u64>
     ensures value { result ≡ number_of word.now }
-    ensures small { IfSome result (λ n. n < 10 ^ 10) }
+    ensures in_range { IfSome result (λ n. n < 10 ^ 10) }
 {
     if has_number(word) {
         word.parse().ok()

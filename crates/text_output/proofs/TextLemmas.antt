@@ -6,7 +6,7 @@ use Rattle.std.proofs.lemmas.Grind.{flat_map-append}
 use Rattle.std.proofs.lemmas.List.{append-nil, take-append-drop, drop_more}
 use Rattle.hex.specs.Hex.{encode_with, encode_lower}
 use Rattle.drm_links.specs.Told.{Known}
-use Rattle.drm_links.specs.Sink.{Output, Outputs, Writes}
+use Rattle.drm_links.specs.Sink.{Output, Outputs, WritesWhole}
 use Rattle.drm_links.proofs.ToldLemmas.{Outputs-weaker}
 use Rattle.drm_links.proofs.WritingLemmas.{Writes-broken}
 
@@ -18,8 +18,8 @@ flat_map-split f xs i d within =
 
 -- all before a piece, and a front of it
 pub next_broken : {X E F : Type 0} (f : X → List ℕ) (xs : List X) (i : ℕ) (d : X) → i < length xs → (a b c : Known Output) (r : Result (Unit {0}) E) (other : E) (fault : F)
-    → Outputs a b (λ t. t ≡ flat_map f (take i xs)) → b.faults ≡ a.faults → r ≡ Err other → Writes r b c (f (get_or xs i d))
-    → (let broken : Result (Unit {0}) F = Err fault in Writes broken a c (flat_map f xs))
+    → Outputs a b (λ t. t ≡ flat_map f (take i xs)) → b.faults ≡ a.faults → r ≡ Err other → WritesWhole r b c (f (get_or xs i d))
+    → (let broken : Result (Unit {0}) F = Err fault in WritesWhole broken a c (flat_map f xs))
 next_broken f xs i d within a b c r other fault done same is writes =
     let more : List ℕ = flat_map f (drop (i + 1) xs) in
     let first : List ℕ = f (get_or xs i d) in

@@ -26,7 +26,7 @@ fn put_sixteen(bytes: &[u8], digits: &mut [u8], at: usize)
     requires within { at + 16 ≤ length bytes.now }
     requires room { length digits.old ≡ 2 * length bytes.now }
     ensures put { take (2 * at + 32) digits.new ≡ take (2 * at) digits.old ++ encode_lower (chunk at 16 bytes.now) }
-    ensures long { length digits.new ≡ length digits.old }
+    ensures same_length { length digits.new ≡ length digits.old }
 {
     let lanes = lanes_from(bytes, at);
     let (front, back) = digits_of(lanes);
@@ -64,7 +64,7 @@ fn write_lanes(bytes: &mut [u8], place: usize, lanes: u8x16)
 // The digits of sixteen bytes, in two vectors.
 fn digits_of(bytes: u8x16) -> (u8x16, u8x16)
     ensures digits { result.0 ++ result.1 ≡ encode_lower bytes }
-    ensures long { (length result.0 ≡ 16) × (length result.1 ≡ 16) }
+    ensures length { (length result.0 ≡ 16) × (length result.1 ≡ 16) }
 {
     pairs(high_digits(bytes), low_digits(bytes))
 }
@@ -86,7 +86,7 @@ fn low_digits(bytes: u8x16) -> u8x16
 // The lanes of both by turns, so that the digits of a byte stand together.
 fn pairs(first: u8x16, second: u8x16) -> (u8x16, u8x16)
     ensures turns { result.0 ++ result.1 ≡ paired first second }
-    ensures long { (length result.0 ≡ 16) × (length result.1 ≡ 16) }
+    ensures length { (length result.0 ≡ 16) × (length result.1 ≡ 16) }
 {
     first.interleave(second)
 }

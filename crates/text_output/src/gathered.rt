@@ -1,7 +1,7 @@
 //! Texts that are gathered, so that short ones go out together.
 
 ghost use Rattle.std.specs.Prelude.{◌≡◌, ◌≤◌, ◌+◌, ◌++◌, [], length, IfOk};
-ghost use Rattle.text_output.specs.Gathering.{Puts, Flushes};
+ghost use Rattle.text_output.specs.Gathering.{PutsText, FlushesText};
 
 use drm_bits::NoMemory;
 use drm_links::{Sink, WriteFault, write_all};
@@ -46,7 +46,7 @@ impl Gathered {
 
     /// Puts a text behind those that are gathered. Where there is no room for it, these go out first.
     pub fn put<O: Sink>(&mut self, out: &mut O, text: &[u8]) -> Result<(), WriteFault>
-        ensures { Puts result self.old self.new (O.known out.old) (O.known out.new) text.now }
+        ensures { PutsText result self.old self.new (O.known out.old) (O.known out.new) text.now }
     {
         if text.len() <= MOST_BYTES - self.bytes.len() {
             self.add(text);
@@ -72,7 +72,7 @@ impl Gathered {
 
     /// Writes all that is gathered.
     pub fn flush<O: Sink>(&mut self, out: &mut O) -> Result<(), WriteFault>
-        ensures { Flushes result self.old self.new (O.known out.old) (O.known out.new) }
+        ensures { FlushesText result self.old self.new (O.known out.old) (O.known out.new) }
     {
         if self.bytes.is_empty() {
             return Ok(());

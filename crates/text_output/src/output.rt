@@ -2,7 +2,7 @@
 
 ghost use Rattle.std.specs.Prelude.{◌≤◌, length};
 ghost use Rattle.hex.specs.Hex.{encode_lower};
-ghost use Rattle.drm_links.specs.Sink.{Writes};
+ghost use Rattle.drm_links.specs.Sink.{WritesWhole};
 ghost use Rattle.text_output.specs.Text.{piece_text, text_of};
 
 use crate::digits::put_digits;
@@ -15,7 +15,7 @@ const AT_ONCE: usize = 64;
 
 /// Writes the texts of the pieces, one after another.
 pub fn write_pieces<O: Sink>(out: &mut O, pieces: &[Piece<'_>]) -> Result<(), WriteFault>
-    ensures { Writes result (O.known out.old) (O.known out.new) (text_of pieces.now) }
+    ensures { WritesWhole result (O.known out.old) (O.known out.new) (text_of pieces.now) }
 {
     for piece in pieces {
         write_piece(out, *piece)?;
@@ -25,7 +25,7 @@ pub fn write_pieces<O: Sink>(out: &mut O, pieces: &[Piece<'_>]) -> Result<(), Wr
 
 /// Writes the text of a piece.
 pub fn write_piece<O: Sink>(out: &mut O, piece: Piece<'_>) -> Result<(), WriteFault>
-    ensures { Writes result (O.known out.old) (O.known out.new) (piece_text piece.entry) }
+    ensures { WritesWhole result (O.known out.old) (O.known out.new) (piece_text piece.entry) }
 {
     match piece {
         Piece::Words(text) => write_all(out, text.as_bytes()),
@@ -37,7 +37,7 @@ pub fn write_piece<O: Sink>(out: &mut O, piece: Piece<'_>) -> Result<(), WriteFa
 
 /// Writes bytes in hex, two digits each.
 pub fn write_hex<O: Sink>(out: &mut O, bytes: &[u8]) -> Result<(), WriteFault>
-    ensures { Writes result (O.known out.old) (O.known out.new) (encode_lower bytes.now) }
+    ensures { WritesWhole result (O.known out.old) (O.known out.new) (encode_lower bytes.now) }
 {
     let mut rest = bytes;
     while !rest.is_empty() {
@@ -51,7 +51,7 @@ pub fn write_hex<O: Sink>(out: &mut O, bytes: &[u8]) -> Result<(), WriteFault>
 // Writes the digits of a few bytes in one call.
 fn write_digits<O: Sink>(out: &mut O, bytes: &[u8]) -> Result<(), WriteFault>
     requires { length bytes.now ≤ 64 }
-    ensures { Writes result (O.known out.old) (O.known out.new) (encode_lower bytes.now) }
+    ensures { WritesWhole result (O.known out.old) (O.known out.new) (encode_lower bytes.now) }
 {
     let mut room = [0; 2 * AT_ONCE];
     let digits = &mut room[..2 * bytes.len()];

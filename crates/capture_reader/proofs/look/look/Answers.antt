@@ -2,7 +2,7 @@ use Rattle.std.proofs.Common.{rules, ◌≡◌, ◌≢◌, ℕ, List, take, sym,
 use Rattle.std.proofs.lemmas.List.{take-take}
 use Rattle.dcp_af.specs.Packet as af
 use Rattle.dcp_pft.specs.Head as pft
-use Rattle.capture_reader.specs.Front.{Begins, Other}
+use Rattle.capture_reader.specs.Front.{BytesBegin, Other}
 use Rattle.capture_reader.specs.Looking.{IsFrontPart}
 use Rattle.capture_reader.proofs.look.look.Goals as goal
 

@@ -25,7 +25,7 @@ returns-in-Err g c =
     }
 
 pub air_over-requires : goal.air_over-requires
-air_over-requires g c = (search rules, (c.requires.some, (c.requires.few, feeds_are c.in_ok-plan.plan c.in-Ok.script c.in-Ok.ensures.script)))
+air_over-requires g c = (search rules, (c.requires.at_least_one, (c.requires.within_limit, feeds_are c.in_ok-plan.plan c.in-Ok.script c.in-Ok.ensures.script)))
 
 pub returns : goal.returns
 returns g c =

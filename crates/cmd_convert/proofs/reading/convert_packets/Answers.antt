@@ -17,7 +17,7 @@ packets-init g c =
     let used = c.args.cutter.now in (
       loop_none (options_of c.args.collector.now (capture_bounds c.args.told)) _
           (Converting used c.args.progress.now out out err err) c.new-reading.result c.args.collector.now
-          (capture_usable c.args.told c.args.collector.now c.requires.window.0 c.requires.some c.requires.few)
+          (capture_usable c.args.told c.args.collector.now c.requires.window.0 c.requires.at_least_one c.requires.within_limit)
           (c.new-reading.ensures ∙ ap new_reading c.of_capture.ensures) c.requires.collector
           (read_none (g.I.Source.known c.args.input.now) c.args.packets.now c.requires.packets)
           (subst (λ q. ConvertedAll used c.args.collector.now [] new_progress q out out err err)

@@ -15,7 +15,7 @@ use Rattle.cmd_exercise.proofs.exercise_command.exercise.Goals as goal
 pub air_over-requires-clause-feeds : goal.air_over-requires-clause-feeds
 air_over-requires-clause-feeds g c = λ lifetimes within.
     subst (λ p. AreFeeds p c.in_ok-script.script) (sym c.in_ok-plan.ensures)
-    (subst (AreFeeds (plan c.args.n)) (sym c.in_ok-script.ensures) (are_feeds c.args.n c.requires.few))
+    (subst (AreFeeds (plan c.args.n)) (sym c.in_ok-script.ensures) (are_feeds c.args.n c.requires.within_limit))
 
 pub returns-in_err-write_line : goal.returns-in_err-write_line
 returns-in_err-write_line g c =

@@ -1,6 +1,6 @@
 use Rattle.std.proofs.Common.{◌≡◌, ◌++◌, List, take, drop, length, vec_len, ◌∙◌, inl, inr, refl, sym, subst}
 use Rattle.std.proofs.lemmas.List.{take_at}
-use Rattle.drm_links.specs.Told.{Tells}
+use Rattle.drm_links.specs.Told.{KnownThrough}
 use Rattle.recv_reading.specs.declared.options.ReceiveOptions.{ReceiveOptions}
 use Rattle.drm_links.specs.Dock.{Docked, Over}
 use Rattle.link_group.specs.Reaching.{AreUp, HaveGone, HaveLinks, after_closes}
@@ -19,15 +19,15 @@ returns-in-Ok-clause-told g c =
     let before : List (Member g.row.D-L.Denot) = c.as_mut_slice.result.now in
     let after : List (Member g.row.D-L.Denot) = c.gate_one-ended.new.to in
     let value : before ≡ members = c.as_mut_slice.ensures.value in
-    let many : length before ≡ length to = c.as_mut_slice.ensures.len ∙ c.in-Ok.ensures.many in
+    let many : length before ≡ length to = c.as_mut_slice.ensures.len ∙ c.in-Ok.ensures.same_count in
     let many' : length after ≡ length to = c.gate_one-ended.auto.to ∙ many in
     let size : length after ≡ vec_len c.in-Ok.members = c.gate_one-ended.auto.to ∙ c.as_mut_slice.ensures.len in
     let back : take c.in-Ok.members.len (after ++ drop (length after) members) ≡ after = take_at after (drop (length after) members) c.in-Ok.members.len size in
     let a = g.D.Dock.known c.args.dock.now in
     let b = g.D.Dock.known c.reach_in.new.dock in
     let d = g.D.Dock.known c.close_each.new.dock in
-    let shut : Tells b d (λ x y. (overs : List Over) → HaveGone known after overs → y ≡ after_closes overs to x) =
-    subst (λ ms. Tells b d (λ x y. (overs : List Over) → HaveGone known ms overs → y ≡ after_closes overs to x)) back c.close_each.ensures.closed in
+    let shut : KnownThrough b d (λ x y. (overs : List Over) → HaveGone known after overs → y ≡ after_closes overs to x) =
+    subst (λ ms. KnownThrough b d (λ x y. (overs : List Over) → HaveGone known ms overs → y ≡ after_closes overs to x)) back c.close_each.ensures.closed in
     let links : Docked a b (λ told. HaveLinks known told to before) = subst (λ ms. Docked a b (λ told. HaveLinks known told to ms)) (sym value) c.in-Ok.ensures.links in
     let up : AreUp before = subst (λ (ms : List (Member g.row.D-L.Denot)). AreUp ms) (sym value) c.in-Ok.ensures.up in
     let from = g.L.Link.known c.args.source.now in

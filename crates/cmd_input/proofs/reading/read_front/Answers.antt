@@ -10,8 +10,8 @@ loop-len-preserved g c =
     let n : length c.loop-len.room ≡ c.loop-len.len + (length c.loop-len.room - c.loop-len.len) = omega (arith, within) in
     let same : length c.read.new.buf ≡ length (take (length c.loop-len.room - c.loop-len.len) (drop c.loop-len.len c.loop-len.room)) = c.read.auto.buf in
     let room : length (take (length c.loop-len.room - c.loop-len.len) (drop c.loop-len.len c.loop-len.room)) ≡ length c.loop-len.room - c.loop-len.len = grind (arith, common_steps, within) in
-    let few : c.in-Got.n ≤ length c.read.new.buf = omega (arith, same, c.in-Got.ensures.some.1) in (
-      filled_more (g.I.Source.known c.args.input.now) (g.I.Source.known c.loop-len.input) (g.I.Source.known c.read.new.self) c.loop-len.len c.in-Got.n (length c.loop-len.room - c.loop-len.len) c.loop-len.room c.read.new.buf n c.in-Got.ensures.some.0 few (c.in-Got.ensures.cause.same (λ failed. cc)) filled c.in-Got.ensures.bytes c.in-Got.ensures.told,
+    let few : c.in-Got.n ≤ length c.read.new.buf = omega (arith, same, c.in-Got.ensures.moves_bytes.1) in (
+      filled_more (g.I.Source.known c.args.input.now) (g.I.Source.known c.loop-len.input) (g.I.Source.known c.read.new.self) c.loop-len.len c.in-Got.n (length c.loop-len.room - c.loop-len.len) c.loop-len.room c.read.new.buf n c.in-Got.ensures.moves_bytes.0 few (c.in-Got.ensures.cause.same (λ failed. cc)) filled c.in-Got.ensures.bytes c.in-Got.ensures.told,
       grind (arith, common_steps, size, same, room, within),
       grind (arith, common_steps, same, room, few, within),
       c.in-Got.ensures.cause.same (λ failed. cc) ∙ still,

@@ -12,7 +12,7 @@ pub loop-k-init : goal.loop-k-init
 loop-k-init g c =
     let d : c.from.result ≡ c.args.packer.now.length = c.from.ensures ∙ c.requires.length in (
       wrote_none c.args.packer.now c.args.unit.now (g.O.Sink.known c.args.out.now) c.requires.continuity,
-      ceil_is c.args.packer.now.length (length c.args.unit.now) c.div_ceil-count.result (omega (arith, c.requires.some, c.requires.length)) (subst (λ n. c.div_ceil-count.result ≡ length c.args.unit.now / n + min 1 (length c.args.unit.now % n)) d c.div_ceil-count.ensures),
+      ceil_is c.args.packer.now.length (length c.args.unit.now) c.div_ceil-count.result (omega (arith, c.requires.at_least_one, c.requires.length)) (subst (λ n. c.div_ceil-count.result ≡ length c.args.unit.now / n + min 1 (length c.args.unit.now % n)) d c.div_ceil-count.ensures),
     )
 
 pub returns-in_err-write_all-clause-writes : goal.returns-in_err-write_all-clause-writes

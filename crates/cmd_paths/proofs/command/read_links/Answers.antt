@@ -3,9 +3,9 @@ use Rattle.std.specs.Prelude.{sum_by}
 use Rattle.std.specs.List.{list_any}
 use Rattle.std.proofs.lemmas.List.{length-map}
 use Rattle.std.proofs.lemmas.Result.{err_from_is_err_and}
-use Rattle.drm_links.specs.Told.{Tells}
+use Rattle.drm_links.specs.Told.{KnownThrough}
 use Rattle.drm_paths.specs.State.{PathState}
-use Rattle.drm_paths.specs.Closing.{Closes}
+use Rattle.drm_paths.specs.Closing.{BookCloses}
 use Rattle.cmd_paths.proofs.Listing.{written_back}
 use Rattle.cmd_paths.specs.declared.job.PathJob.{PathJob}
 use Rattle.cmd_paths.specs.Jobs.{IsReady, has_failed, has_run_out}
@@ -41,8 +41,8 @@ returns-then-failed-clause-closed g c =
     let ran : Ran g.D.L.Link.known (options_in c.args.request.now) links paths jobs after =
     ran_then g.D.L.Link.known (options_in c.args.request.now) links paths jobs c.as_mut_slice.result.now after (new_of jobs c.requires.new) c.as_mut_slice.ensures.value c.run_all.auto.jobs c.run_all.ensures in
     let same : c.as_slice.result.now ≡ after = written_back c.args.jobs.len after jobs c.as_slice.result.now (sym (c.run_all.auto.jobs ∙ c.as_mut_slice.ensures.len)) c.as_slice.ensures.value in
-    let gone : Tells (g.D.Dock.known c.args.dock.now) (g.D.Dock.known c.close_links-handed.new.dock) (IsClosed g.D.L.Link.known c.args.request.now.addresses (map (λ job. job.link) after)) =
-    subst (λ (js : List (PathJob g.row.G.Denot g.row.D-L.Denot)). Tells (g.D.Dock.known c.args.dock.now) (g.D.Dock.known c.close_links-handed.new.dock) (IsClosed g.D.L.Link.known c.args.request.now.addresses (map (λ job. job.link) js)))
+    let gone : KnownThrough (g.D.Dock.known c.args.dock.now) (g.D.Dock.known c.close_links-handed.new.dock) (IsClosed g.D.L.Link.known c.args.request.now.addresses (map (λ job. job.link) after)) =
+    subst (λ (js : List (PathJob g.row.G.Denot g.row.D-L.Denot)). KnownThrough (g.D.Dock.known c.args.dock.now) (g.D.Dock.known c.close_links-handed.new.dock) (IsClosed g.D.L.Link.known c.args.request.now.addresses (map (λ job. job.link) js)))
     (sym c.as_slice.ensures.value ∙ same) c.close_links-handed.ensures.closed in
     record {
       last = map (λ job. job.link) after;
@@ -72,8 +72,8 @@ returns-then-ran_out-clause-closed g c =
     ran_then g.D.L.Link.known (options_in c.args.request.now) links paths jobs c.as_mut_slice.result.now after (new_of jobs c.requires.new) c.as_mut_slice.ensures.value c.run_all.auto.jobs c.run_all.ensures in
     let same : c.as_slice.result.now ≡ after = written_back c.args.jobs.len after jobs c.as_slice.result.now (sym (c.run_all.auto.jobs ∙ c.as_mut_slice.ensures.len)) c.as_slice.ensures.value in
     let failed : list_any (λ job. has_failed job.ended) after ≡ c.some_failed-failed.result = ap (λ js. list_any (λ job. has_failed job.ended) js) (sym same) ∙ sym c.some_failed-failed.ensures in
-    let gone : Tells (g.D.Dock.known c.args.dock.now) (g.D.Dock.known c.close_links-handed.new.dock) (IsClosed g.D.L.Link.known c.args.request.now.addresses (map (λ job. job.link) after)) =
-    subst (λ (js : List (PathJob g.row.G.Denot g.row.D-L.Denot)). Tells (g.D.Dock.known c.args.dock.now) (g.D.Dock.known c.close_links-handed.new.dock) (IsClosed g.D.L.Link.known c.args.request.now.addresses (map (λ job. job.link) js)))
+    let gone : KnownThrough (g.D.Dock.known c.args.dock.now) (g.D.Dock.known c.close_links-handed.new.dock) (IsClosed g.D.L.Link.known c.args.request.now.addresses (map (λ job. job.link) after)) =
+    subst (λ (js : List (PathJob g.row.G.Denot g.row.D-L.Denot)). KnownThrough (g.D.Dock.known c.args.dock.now) (g.D.Dock.known c.close_links-handed.new.dock) (IsClosed g.D.L.Link.known c.args.request.now.addresses (map (λ job. job.link) js)))
     (sym c.as_slice.ensures.value ∙ same) c.close_links-handed.ensures.closed in
     record {
       last = map (λ job. job.link) after;
@@ -104,8 +104,8 @@ returns-in_err-paths-clause-closed g c =
     ran_then g.D.L.Link.known (options_in c.args.request.now) links paths jobs c.as_mut_slice.result.now after (new_of jobs c.requires.new) c.as_mut_slice.ensures.value c.run_all.auto.jobs c.run_all.ensures in
     let same : c.as_slice.result.now ≡ after = written_back c.args.jobs.len after jobs c.as_slice.result.now (sym (c.run_all.auto.jobs ∙ c.as_mut_slice.ensures.len)) c.as_slice.ensures.value in
     let failed : list_any (λ job. has_failed job.ended) after ≡ c.some_failed-failed.result = ap (λ js. list_any (λ job. has_failed job.ended) js) (sym same) ∙ sym c.some_failed-failed.ensures in
-    let gone : Tells (g.D.Dock.known c.args.dock.now) (g.D.Dock.known c.close_links-handed.new.dock) (IsClosed g.D.L.Link.known c.args.request.now.addresses (map (λ job. job.link) after)) =
-    subst (λ (js : List (PathJob g.row.G.Denot g.row.D-L.Denot)). Tells (g.D.Dock.known c.args.dock.now) (g.D.Dock.known c.close_links-handed.new.dock) (IsClosed g.D.L.Link.known c.args.request.now.addresses (map (λ job. job.link) js)))
+    let gone : KnownThrough (g.D.Dock.known c.args.dock.now) (g.D.Dock.known c.close_links-handed.new.dock) (IsClosed g.D.L.Link.known c.args.request.now.addresses (map (λ job. job.link) after)) =
+    subst (λ (js : List (PathJob g.row.G.Denot g.row.D-L.Denot)). KnownThrough (g.D.Dock.known c.args.dock.now) (g.D.Dock.known c.close_links-handed.new.dock) (IsClosed g.D.L.Link.known c.args.request.now.addresses (map (λ job. job.link) js)))
     (sym c.as_slice.ensures.value ∙ same) c.close_links-handed.ensures.closed in
     let p = err_from_is_err_and c.from_residual.result c.from_residual.ensures.1 in
     rw (p.1 ∙ ap Err p.2)
@@ -115,8 +115,8 @@ returns-in_err-paths-clause-closed g c =
       closed = gone;
     }
 
-pub close_paths-requires-clause-all : goal.close_paths-requires-clause-all
-close_paths-requires-clause-all g c =
+pub close_paths-requires-clause-each_part : goal.close_paths-requires-clause-each_part
+close_paths-requires-clause-each_part g c =
     let jobs : List (PathJob g.row.G.Denot g.row.D-L.Denot) = c.args.jobs.items in
     let after : List (PathJob g.row.G.Denot g.row.D-L.Denot) = c.run_all.new.jobs in
     let links : List g.row.D-L.Denot = map (λ job. job.link) jobs in
@@ -146,8 +146,8 @@ returns-clause-ends g c =
     rw c.closed.ensures
     (ends_by c.args.request.now g.D.L.Link.known links paths jobs after ran (failed ∙ c.if-failed.false) (out ∙ c.if-ran_out.false)
     c.close_paths.ensures.0 c.close_paths.result
-    (subst (λ ps. Closes (settings_in c.args.request.now) c.close_paths.ensures.0 ps c.close_paths.result) then_paths
-    (subst (λ by. Closes by c.close_paths.ensures.0 c.in_ok-paths.paths c.close_paths.result) (sym c.requires.settings) c.close_paths.ensures.1)))
+    (subst (λ ps. BookCloses (settings_in c.args.request.now) c.close_paths.ensures.0 ps c.close_paths.result) then_paths
+    (subst (λ by. BookCloses by c.close_paths.ensures.0 c.in_ok-paths.paths c.close_paths.result) (sym c.requires.settings) c.close_paths.ensures.1)))
 
 pub returns-clause-closed : goal.returns-clause-closed
 returns-clause-closed g c =
@@ -161,8 +161,8 @@ returns-clause-closed g c =
     let failed : list_any (λ job. has_failed job.ended) after ≡ c.some_failed-failed.result = ap (λ js. list_any (λ job. has_failed job.ended) js) (sym same) ∙ sym c.some_failed-failed.ensures in
     let again : c.as_slice-2.result.now ≡ after = c.as_slice-2.ensures.value ∙ sym c.as_slice.ensures.value ∙ same in
     let out : list_any (λ job. has_run_out job.ended) after ≡ c.some_ran_out-ran_out.result = ap (λ js. list_any (λ job. has_run_out job.ended) js) (sym again) ∙ sym c.some_ran_out-ran_out.ensures in
-    let gone : Tells (g.D.Dock.known c.args.dock.now) (g.D.Dock.known c.close_links-handed.new.dock) (IsClosed g.D.L.Link.known c.args.request.now.addresses (map (λ job. job.link) after)) =
-    subst (λ (js : List (PathJob g.row.G.Denot g.row.D-L.Denot)). Tells (g.D.Dock.known c.args.dock.now) (g.D.Dock.known c.close_links-handed.new.dock) (IsClosed g.D.L.Link.known c.args.request.now.addresses (map (λ job. job.link) js)))
+    let gone : KnownThrough (g.D.Dock.known c.args.dock.now) (g.D.Dock.known c.close_links-handed.new.dock) (IsClosed g.D.L.Link.known c.args.request.now.addresses (map (λ job. job.link) after)) =
+    subst (λ (js : List (PathJob g.row.G.Denot g.row.D-L.Denot)). KnownThrough (g.D.Dock.known c.args.dock.now) (g.D.Dock.known c.close_links-handed.new.dock) (IsClosed g.D.L.Link.known c.args.request.now.addresses (map (λ job. job.link) js)))
     (sym c.as_slice.ensures.value ∙ same) c.close_links-handed.ensures.closed in
     rw c.closed.ensures
     record {

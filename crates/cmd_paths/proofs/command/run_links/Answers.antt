@@ -29,10 +29,10 @@ read_links-requires-clause-new g c κs within =
     let links : List g.row.D-L.Denot = map (λ (j : PathJob g.row.G.Denot g.row.D-L.Denot). j.link) jobs in
     let ok = c.in-Ok.jobs.ok in
     let len = c.len.ensures in
-    let many = c.in-Ok.ensures.many in
+    let many = c.in-Ok.ensures.same_count in
     let size : length links ≡ length jobs = length-map jobs (λ (j : PathJob g.row.G.Denot g.row.D-L.Denot). j.link) in
     let new : AreNew links c.in_ok-shared.paths jobs =
-    are_new links c.in_ok-shared.paths jobs c.len.result (omega (arith, ok, len, many, size)) c.in_ok-shared.ensures.many c.in_ok-shared.ensures.new
+    are_new links c.in_ok-shared.paths jobs c.len.result (omega (arith, ok, len, many, size)) c.in_ok-shared.ensures.same_count c.in_ok-shared.ensures.new
     (c.in-Ok.ensures.paths ∙ c.in_ok-seats.ensures.paths) refl in
     each_new links c.in_ok-shared.paths jobs new
 
@@ -40,7 +40,7 @@ pub returns-in-Ok : goal.returns-in-Ok
 returns-in-Ok g c =
     let links : List g.row.D-L.Denot = map (λ (j : PathJob g.row.G.Denot g.row.D-L.Denot). j.link) c.in-Ok.jobs.items in
     let ok = c.in-Ok.jobs.ok in
-    let many = c.in-Ok.ensures.many in
+    let many = c.in-Ok.ensures.same_count in
     let size : length links ≡ length c.in-Ok.jobs.items = length-map c.in-Ok.jobs.items (λ (j : PathJob g.row.G.Denot g.row.D-L.Denot). j.link) in
     inr (inr (record {
       links = links;

@@ -1,6 +1,6 @@
 use Rattle.std.proofs.Common.{◌≡◌, ℕ, ◌+◌, ◌++◌, ◌<◌, ◌≤◌, All, vec_len, vec_capacity, slice_index_or, length, map}
 use Rattle.std.specs.Vec.Iter.{into_iter_items}
-use Rattle.drm_links.specs.Told.{Tells}
+use Rattle.drm_links.specs.Told.{KnownThrough}
 use Rattle.drm_links.specs.declared.dock.Address.{Address}
 use Rattle.drm_links.specs.Dock.{Docked, HasLink}
 use Rattle.link_group.proofs.OpeningLemmas.{Opened}
@@ -11,7 +11,7 @@ abbrev pub invariant-loop-seat : goal.invariant-loop-seat
 invariant-loop-seat g l =
     (vec_len l.jobs ≡ l.k) × (length l.jobs.items ≡ l.k)
     × ((g.D.Dock.known l.dock).faults ≡ (g.D.Dock.known l.fn.dock).faults)
-    × Tells (g.D.Dock.known l.fn.dock) (g.D.Dock.known l.dock) (Opened l.addresses l.k)
+    × KnownThrough (g.D.Dock.known l.fn.dock) (g.D.Dock.known l.dock) (Opened l.addresses l.k)
     × ((k : ℕ) (d : g.row.D-L.Denot) → k < l.k → (at : Address)
     → Docked (g.D.Dock.known l.fn.dock) (g.D.Dock.known l.dock) (λ told. HasLink g.D.L.Link.known told k (slice_index_or l.addresses k at) (slice_index_or (map (λ job. job.link) l.jobs.items) k d)))
     × (length l.addresses ≤ vec_capacity l.jobs)

@@ -1,6 +1,6 @@
 use Rattle.std.proofs.Common.{◌≡◌, ℕ, ◌+◌, ◌<◌, ◌≤◌, inl, inr, refl, sym, subst, slice_index_or, ◌∙◌, ap, arith, length, length-append, [], ◌∷◌, Err}
 use Rattle.std.proofs.lemmas.Result.{err_from_is_err_and}
-use Rattle.drm_links.specs.Told.{Known, Tells}
+use Rattle.drm_links.specs.Told.{Known, KnownThrough}
 use Rattle.drm_links.specs.Dock.{DockContents, Docked, HasLink}
 use Rattle.drm_links.specs.declared.dock.Address.{Address}
 use Rattle.drm_links.proofs.ToldLemmas.{counts_none, then_counts, Tells-nothing, Tells-weaker}
@@ -65,13 +65,13 @@ returns-in-Err-clause-stopped g c =
     let jobs = c.loop-k.jobs.items in
     let fault : Fault = c.in-Err.fault in
     let first : Docked a b (HaveFirst link_in known ats jobs k) = all_links link_in known ats jobs k a b (docked_any _ a b i.3) i.5 in
-    let by_memory : fault ≡ faults.NoMemory → Tells a e (StopsOpening ats fault) = λ memory.
+    let by_memory : fault ≡ faults.NoMemory → KnownThrough a e (StopsOpening ats fault) = λ memory.
     let still : d ≡ b = ap g.D.Dock.known (c.in-Err.ensures.untouched (ap Err memory)) in
     Tells-weaker (StopsBehind ats) (StopsOpening ats fault) a e
     (stopped_few link_in known ats jobs k i.1 a d e (omega (arith, within)) (subst (λ (m : Known DockContents). Docked a m (HaveFirst link_in known ats jobs k)) (sym still) first)
-    (subst (λ (m : Known DockContents). Tells a m (Opened ats k)) (sym still) i.3) c.close_all.ensures.closed)
+    (subst (λ (m : Known DockContents). KnownThrough a m (Opened ats k)) (sym still) i.3) c.close_all.ensures.closed)
     (λ x y stops. inl (memory, stops)) in
-    let by_link : fault ≡ faults.Link → Tells a e (StopsOpening ats fault) = λ link.
+    let by_link : fault ≡ faults.Link → KnownThrough a e (StopsOpening ats fault) = λ link.
     let told = c.in-Err.ensures.told (λ memory. let one : fault ≡ faults.NoMemory = cc in let other : faults.Link ≡ faults.NoMemory = sym link ∙ one in cc) in
     Tells-weaker (BindsFew ats) (StopsOpening ats fault) a e
     (failed_few link_in known ats jobs k i.1 a d e within (docked_still (HaveFirst link_in known ats jobs k) a b d first told)

@@ -3,7 +3,7 @@ use Rattle.drm_links.specs.declared.dock.Address.{Address}
 use Rattle.recv_report.specs.declared.job.Job.{Job}
 use Rattle.drm_links.specs.Dock.{Docked, HasLink}
 use Rattle.recv_report.specs.Jobs.{IsJob}
-use Rattle.drm_links.specs.Told.{Tells}
+use Rattle.drm_links.specs.Told.{KnownThrough}
 use Rattle.link_group.proofs.OpeningLemmas.{Opened}
 use Rattle.cmd_receive.proofs.receive_command.open_all.Given as goal
 
@@ -12,7 +12,7 @@ abbrev pub invariant-loop-k : goal.invariant-loop-k
 invariant-loop-k g l =
     (vec_len l.jobs ≡ l.k) × (length l.jobs.items ≡ l.k)
     × ((g.D.Dock.known l.dock).faults ≡ (g.D.Dock.known l.fn.dock).faults)
-    × Tells (g.D.Dock.known l.fn.dock) (g.D.Dock.known l.dock) (Opened l.addresses l.k)
+    × KnownThrough (g.D.Dock.known l.fn.dock) (g.D.Dock.known l.dock) (Opened l.addresses l.k)
     × ((k : ℕ) (d : Job g.row.D-L.Denot) → k < l.k → IsJob l.rules (k + 1) (slice_index_or l.jobs.items k d))
     × ((k : ℕ) (d : Job g.row.D-L.Denot) → k < l.k → (at : Address)
     → Docked (g.D.Dock.known l.fn.dock) (g.D.Dock.known l.dock) (λ told. HasLink g.D.L.Link.known told k (slice_index_or l.addresses k at) (slice_index_or l.jobs.items k d).link))

@@ -2,12 +2,12 @@ use Rattle.std.proofs.Common.{◌≡◌, ℕ, ◌<◌, ◌-◌, List, length, ve
 use Rattle.std.proofs.lemmas.Result.{err_from_is_err_and}
 use Rattle.recv_report.specs.declared.job.Job.{Job}
 use Rattle.recv_report.specs.Jobs.{HasEnded, IsJob, IsReady}
-use Rattle.recv_report.specs.Settling.{Settles}
+use Rattle.recv_report.specs.Settling.{ReceiversSettle}
 use Rattle.recv_report.proofs.JobLemmas.{job_ready, jobs_ready}
 use Rattle.std.specs.List.{All}
 use Rattle.std.proofs.lemmas.List.{get_or_default}
-use Rattle.drm_links.specs.Told.{WhileTold, Tells}
-use Rattle.drm_links.specs.Dock.{Closes}
+use Rattle.drm_links.specs.Told.{IfBothKnown, KnownThrough}
+use Rattle.drm_links.specs.Dock.{DockCloses}
 use Rattle.drm_links.proofs.ToldLemmas.{counts_as}
 use Rattle.cmd_faults.specs.declared.fault.Fault.TheVariants as faults
 use Rattle.cmd_faults.proofs.CauseLemmas.{inner_fault}
@@ -38,16 +38,16 @@ returns g c =
     let b = g.D.Dock.known c.open_all.new.dock in
     let e = g.D.Dock.known c.close_all.new.dock in
     let value : c.as_mut_slice.result.now ≡ before = c.as_mut_slice.ensures.value in
-    let size : length before ≡ length ats = ap length (sym value) ∙ c.as_mut_slice.ensures.len ∙ c.in_ok-jobs.ensures.many in
+    let size : length before ≡ length ats = ap length (sym value) ∙ c.as_mut_slice.ensures.len ∙ c.in_ok-jobs.ensures.same_count in
     let still : length after ≡ length before = c.run_all.auto.jobs ∙ ap length value in
     let E : List (Job g.row.D-L.Denot) → Type 0 = λ xs. (k : ℕ) (d : Job g.row.D-L.Denot) → k < length xs → HasEnded g.D.L.Link.known (slice_index_or xs k d) (slice_index_or after k d) in
     let ran : Ran g.D.L.Link.known c.args.rules.now (length ats) before after =
     record { size = size; still = still; jobs = c.in_ok-jobs.ensures.jobs; ended = subst E value c.run_all.ensures } in
     let same : c.as_slice.result.now ≡ after = written_back c.in_ok-jobs.jobs.len after before c.as_slice.result.now (sym (still ∙ ap length (sym value) ∙ c.as_mut_slice.ensures.len)) c.as_slice.ensures.value in
-    let settled : Settles after c.settle-settled.result g.O.Sink.known c.args.out.now c.settle-settled.new.out =
-    subst (λ (jobs : List (Job g.row.D-L.Denot)). Settles jobs c.settle-settled.result g.O.Sink.known c.args.out.now c.settle-settled.new.out) same c.settle-settled.ensures.settles in
-    let gone : Tells b e (Closed link_in g.D.L.Link.known ats after) =
-    subst (λ (jobs : List (Job g.row.D-L.Denot)). Tells b e (Closed link_in g.D.L.Link.known ats jobs))
+    let settled : ReceiversSettle after c.settle-settled.result g.O.Sink.known c.args.out.now c.settle-settled.new.out =
+    subst (λ (jobs : List (Job g.row.D-L.Denot)). ReceiversSettle jobs c.settle-settled.result g.O.Sink.known c.args.out.now c.settle-settled.new.out) same c.settle-settled.ensures.settles in
+    let gone : KnownThrough b e (Closed link_in g.D.L.Link.known ats after) =
+    subst (λ (jobs : List (Job g.row.D-L.Denot)). KnownThrough b e (Closed link_in g.D.L.Link.known ats jobs))
     (written_back c.in_ok-jobs.jobs.len after before _ (sym (still ∙ ap length (sym value) ∙ c.as_mut_slice.ensures.len)) refl) c.close_all.ensures.closed in
     let several : IsLive ats → ⊥ = λ one. c.if-len-eq1.false (c.len.ensures ∙ one) in
     record {
@@ -72,7 +72,7 @@ run_live-ended-requires g c =
     let jobs : List (Job g.row.D-L.Denot) = c.in_ok-jobs.jobs.items in
     let job : Job g.row.D-L.Denot = c.in-Some.job in
     let one : length c.args.addresses.now ≡ 1 = sym c.len.ensures ∙ c.if-len-eq1.true in
-    let many : vec_len c.in_ok-jobs.jobs ≡ 1 = c.in_ok-jobs.ensures.many ∙ one in
+    let many : vec_len c.in_ok-jobs.jobs ≡ 1 = c.in_ok-jobs.ensures.same_count ∙ one in
     let first : slice_index_or jobs 0 job ≡ job = only_one jobs (vec_len c.in_ok-jobs.jobs) job many (sym c.in-Some.is ∙ c.pop.ensures.value job (omega (arith, many))) in
     job_ready c.args.rules.now 0 job c.requires.rules (subst (λ (j : Job g.row.D-L.Denot). IsJob c.args.rules.now 1 j) first (c.in_ok-jobs.ensures.jobs 0 job (omega (arith, one))))
 
@@ -84,7 +84,7 @@ returns-then-len-eq1 g c =
     let b = g.D.Dock.known c.open_all.new.dock in
     let e = g.D.Dock.known c.close.new.self in
     let one : length ats ≡ 1 = sym c.len.ensures ∙ c.if-len-eq1.true in
-    let many : vec_len c.in_ok-jobs.jobs ≡ 1 = c.in_ok-jobs.ensures.many ∙ one in
+    let many : vec_len c.in_ok-jobs.jobs ≡ 1 = c.in_ok-jobs.ensures.same_count ∙ one in
     let first : slice_index_or jobs 0 job ≡ job = only_one jobs (vec_len c.in_ok-jobs.jobs) job many (sym c.in-Some.is ∙ c.pop.ensures.value job (omega (arith, many))) in
     let told = (g.D.L.Link.known c.run_live-ended.new.job.link).told in
     record {
@@ -93,7 +93,7 @@ returns-then-len-eq1 g c =
           g.D.Dock.known c.args.dock.now c.open_all.new.dock c.close.new.self g.D.L.Link.known g.O.Sink.known c.args.out.now c.run_live-ended.new.out
           one first c.in_ok-jobs.ensures.jobs c.in_ok-jobs.ensures.links c.in_ok-jobs.ensures.opened
           (c.close.ensures.cause ∙ c.in_ok-jobs.ensures.cause.same (λ failed. cc)) c.run_live-ended.ensures.ended c.run_live-ended.ensures.memory c.run_live-ended.ensures.write
-          (λ d. subst (λ x. WhileTold b e (Closes told x)) (c.get.ensures ∙ get_or_default ats 0 c.get.result.now d (omega (arith, one))) c.close.ensures.gone)
+          (λ d. subst (λ x. IfBothKnown b e (DockCloses told x)) (c.get.ensures ∙ get_or_default ats 0 c.get.result.now d (omega (arith, one))) c.close.ensures.gone)
           c.close.ensures.told);
     }
 
@@ -101,4 +101,4 @@ pub run_all-requires-after_bounds : goal.run_all-requires-after_bounds
 run_all-requires-after_bounds g c = λ lifetimes within.
     let jobs : List (Job g.row.D-L.Denot) = c.in_ok-jobs.jobs.items in
     subst (λ (xs : List (Job g.row.D-L.Denot)). All IsReady xs) (sym c.as_mut_slice.ensures.value)
-    (jobs_ready c.args.rules.now jobs (length c.args.addresses.now) c.requires.rules (ap length (sym c.as_mut_slice.ensures.value) ∙ c.as_mut_slice.ensures.len ∙ c.in_ok-jobs.ensures.many) c.in_ok-jobs.ensures.jobs)
+    (jobs_ready c.args.rules.now jobs (length c.args.addresses.now) c.requires.rules (ap length (sym c.as_mut_slice.ensures.value) ∙ c.as_mut_slice.ensures.len ∙ c.in_ok-jobs.ensures.same_count) c.in_ok-jobs.ensures.jobs)

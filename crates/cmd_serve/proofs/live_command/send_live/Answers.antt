@@ -1,6 +1,6 @@
 use Rattle.std.proofs.Common.{◌≡◌, ◌++◌, List, take, drop, length, vec_len, refl, ap, sym, ◌∙◌, subst, inl, inr, Err}
 use Rattle.std.proofs.lemmas.List.{take_at}
-use Rattle.drm_links.specs.Told.{Tells}
+use Rattle.drm_links.specs.Told.{KnownThrough}
 use Rattle.cmd_faults.proofs.CauseLemmas.{none_failed}
 use Rattle.cmd_faults.specs.declared.fault.Fault.TheVariants as faults
 use Rattle.drm_links.specs.Dock.{Docked, Over}
@@ -18,16 +18,16 @@ returns-in-Ok g c =
     let before : List (Member g.row.D-L.Denot) = c.as_mut_slice-links.result.now in
     let after : List (Member g.row.D-L.Denot) = c.send_live_over-sent.new.members in
     let value : before ≡ members = c.as_mut_slice-links.ensures.value in
-    let many : length before ≡ length to = c.as_mut_slice-links.ensures.len ∙ c.in-Ok.ensures.many in
-    let size : length after ≡ vec_len c.in-Ok.members = c.send_live_over-sent.ensures.many ∙ c.as_mut_slice-links.ensures.len in
+    let many : length before ≡ length to = c.as_mut_slice-links.ensures.len ∙ c.in-Ok.ensures.same_count in
+    let size : length after ≡ vec_len c.in-Ok.members = c.send_live_over-sent.ensures.same_count ∙ c.as_mut_slice-links.ensures.len in
     let back : take c.in-Ok.members.len (after ++ drop (length after) members) ≡ after = take_at after (drop (length after) members) c.in-Ok.members.len size in
     let a = g.D.Dock.known c.args.dock.now in
     let b = g.D.Dock.known c.reach_each.new.dock in
     let d = g.D.Dock.known c.close_each.new.dock in
     let x = g.I.Source.known c.args.input.now in
     let y = g.I.Source.known c.send_live_over-sent.new.input in
-    let shut : Tells b d (λ p q. (overs : List Over) → HaveGone known after overs → q ≡ after_closes overs to p) =
-    subst (λ ms. Tells b d (λ p q. (overs : List Over) → HaveGone known ms overs → q ≡ after_closes overs to p)) back c.close_each.ensures.closed in
+    let shut : KnownThrough b d (λ p q. (overs : List Over) → HaveGone known after overs → q ≡ after_closes overs to p) =
+    subst (λ ms. KnownThrough b d (λ p q. (overs : List Over) → HaveGone known ms overs → q ≡ after_closes overs to p)) back c.close_each.ensures.closed in
     let same : d.faults ≡ a.faults = c.close_each.ensures.cause ∙ c.in-Ok.ensures.cause.same (λ is. cc) in
     let links : Docked a b (λ told. HaveLinks known told to before) = subst (λ ms. Docked a b (λ told. HaveLinks known told to ms)) (sym value) c.in-Ok.ensures.links in
     let sent : LiveSendRun c.args.name.now to c.args.pace c.args.from c.args.live.now c.send_live_over-sent.result g.S.Shelf.known c.args.shelf.now c.send_live_over-sent.new.shelf g.I.Source.known c.args.input.now c.send_live_over-sent.new.input g.D.Dock.known c.args.dock.now c.close_each.new.dock =

@@ -41,7 +41,7 @@ returns-then-all_up-clause-run g c =
     let a = g.I.Source.known c.args.input.now in
     let b = g.I.Source.known c.serve_live_links-sent.new.input in
     live_up c.args.name.now c.args.pace c.args.from c.args.live.now g.S.Shelf.known c.args.shelf.now c.read_schedule.new.shelf g.L.Link.known members c.input_makes_a_schedule.ensures plan valid
-    c.in_ok-schedule.ensures.reads (c.in_ok-schedule.ensures.cause.same (λ is. cc)) after c.serve_live_links-sent.ensures.many a b c.serve_live_links-sent.result c.requires.some (c.all_up.ensures.0 c.if-all_up.true)
+    c.in_ok-schedule.ensures.reads (c.in_ok-schedule.ensures.cause.same (λ is. cc)) after c.serve_live_links-sent.ensures.same_count a b c.serve_live_links-sent.result c.requires.at_least_one (c.all_up.ensures.0 c.if-all_up.true)
     c.serve_live_links-sent.ensures.fault c.serve_live_links-sent.ensures.cause
     (subst (λ p. ServedLive c.args.live.now p (3 * c.args.from) c.args.pace c.serve_live_links-sent.result a b g.L.Link.known members after) same c.serve_live_links-sent.ensures.served)
 
@@ -55,6 +55,6 @@ returns-clause-run g c =
     let a = g.I.Source.known c.args.input.now in
     let b = g.I.Source.known c.serve_live_links-sent.new.input in
     live_down c.args.name.now c.args.pace c.args.from c.args.live.now g.S.Shelf.known c.args.shelf.now c.read_schedule.new.shelf g.L.Link.known members c.input_makes_a_schedule.ensures plan valid
-    c.in_ok-schedule.ensures.reads (c.in_ok-schedule.ensures.cause.same (λ is. cc)) after c.serve_live_links-sent.ensures.many a b c.serve_live_links-sent.result c.requires.some
+    c.in_ok-schedule.ensures.reads (c.in_ok-schedule.ensures.cause.same (λ is. cc)) after c.serve_live_links-sent.ensures.same_count a b c.serve_live_links-sent.result c.requires.at_least_one
     (λ up. let yes = c.all_up.ensures.1 up in let no = c.if-all_up.false in absurd cc) c.serve_live_links-sent.ensures.cause
     (subst (λ p. ServedLive c.args.live.now p (3 * c.args.from) c.args.pace c.serve_live_links-sent.result a b g.L.Link.known members after) same c.serve_live_links-sent.ensures.served)

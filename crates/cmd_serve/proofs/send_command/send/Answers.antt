@@ -1,6 +1,6 @@
 use Rattle.std.proofs.Common.{◌≡◌, ◌++◌, List, take, drop, length, vec_len, refl, ap, sym, ◌∙◌, subst, Err}
 use Rattle.std.proofs.lemmas.List.{take_at}
-use Rattle.drm_links.specs.Told.{Tells}
+use Rattle.drm_links.specs.Told.{KnownThrough}
 use Rattle.cmd_faults.specs.declared.fault.Fault.TheVariants as faults
 use Rattle.drm_links.specs.Dock.{Over}
 use Rattle.link_group.specs.Reaching.{HaveGone, after_closes}
@@ -19,15 +19,15 @@ returns-in-Ok g c =
     let before : List (Member g.row.D-L.Denot) = c.as_mut_slice.result.now in
     let after : List (Member g.row.D-L.Denot) = c.send_over-sent.new.members in
     let value : before ≡ members = c.as_mut_slice.ensures.value in
-    let many : length before ≡ length to = c.as_mut_slice.ensures.len ∙ c.in-Ok.ensures.many in
+    let many : length before ≡ length to = c.as_mut_slice.ensures.len ∙ c.in-Ok.ensures.same_count in
     let run = c.send_over-sent.ensures.run in
     let size : length after ≡ vec_len c.in-Ok.members = run.many ∙ c.as_mut_slice.ensures.len in
     let back : take c.in-Ok.members.len (after ++ drop (length after) members) ≡ after = take_at after (drop (length after) members) c.in-Ok.members.len size in
     let a = g.D.Dock.known c.args.dock.now in
     let b = g.D.Dock.known c.reach_each.new.dock in
     let d = g.D.Dock.known c.close_each.new.dock in
-    let shut : Tells b d (λ x y. (overs : List Over) → HaveGone known after overs → y ≡ after_closes overs to x) =
-    subst (λ ms. Tells b d (λ x y. (overs : List Over) → HaveGone known ms overs → y ≡ after_closes overs to x)) back c.close_each.ensures.closed in
+    let shut : KnownThrough b d (λ x y. (overs : List Over) → HaveGone known after overs → y ≡ after_closes overs to x) =
+    subst (λ ms. KnownThrough b d (λ x y. (overs : List Over) → HaveGone known ms overs → y ≡ after_closes overs to x)) back c.close_each.ensures.closed in
     let same : d.faults ≡ a.faults = c.close_each.ensures.cause ∙ c.in-Ok.ensures.cause.same (λ is. cc) in
     let sent : SendRun (schedule_named c.args.name.now) to c.args.pace c.args.from c.send_over-sent.result g.S.Shelf.known c.args.shelf.now c.send_over-sent.new.shelf g.D.Dock.known c.args.dock.now c.close_each.new.dock =
     over_links c.one_delivery.ensures c.first_ones_are_front.ensures (schedule_named c.args.name.now) to c.args.pace c.args.from c.send_over-sent.result g.S.Shelf.known c.args.shelf.now c.send_over-sent.new.shelf g.D.Dock.known c.args.dock.now c.close_each.new.dock

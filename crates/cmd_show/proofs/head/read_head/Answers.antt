@@ -10,13 +10,13 @@ pub loop-len-preserved : goal.loop-len-preserved
 loop-len-preserved g c =
     let size : length c.loop-len.bytes ≡ c.loop-len.len + (10 - c.loop-len.len) = omega (arith, c.loop-len.invariant.1, c.loop-len.invariant.2) in
     let same : length c.read.new.buf ≡ length (take (10 - c.loop-len.len) (drop c.loop-len.len c.loop-len.bytes)) = c.read.auto.buf in
-    let within : c.in-Got.n ≤ length c.read.new.buf = omega (arith, same, c.in-Got.ensures.some.1) in
+    let within : c.in-Got.n ≤ length c.read.new.buf = omega (arith, same, c.in-Got.ensures.moves_bytes.1) in
     let room : length (take (10 - c.loop-len.len) (drop c.loop-len.len c.loop-len.bytes)) ≡ 10 - c.loop-len.len = grind (arith, common_steps, c.loop-len.invariant.1) in (
-      got_more (g.I.Source.known c.args.input.now) (g.I.Source.known c.loop-len.input) (g.I.Source.known c.read.new.self) c.loop-len.len c.in-Got.n (10 - c.loop-len.len) c.loop-len.bytes c.read.new.buf size c.in-Got.ensures.some.0 within (c.in-Got.ensures.cause.same (λ failed. cc)) c.loop-len.invariant.0 c.in-Got.ensures.bytes c.in-Got.ensures.told,
+      got_more (g.I.Source.known c.args.input.now) (g.I.Source.known c.loop-len.input) (g.I.Source.known c.read.new.self) c.loop-len.len c.in-Got.n (10 - c.loop-len.len) c.loop-len.bytes c.read.new.buf size c.in-Got.ensures.moves_bytes.0 within (c.in-Got.ensures.cause.same (λ failed. cc)) c.loop-len.invariant.0 c.in-Got.ensures.bytes c.in-Got.ensures.told,
       grind (arith, common_steps, c.loop-len.invariant.1, same, room),
       omega (arith, same, within, room, c.loop-len.invariant.2),
       c.in-Got.ensures.cause.same (λ failed. cc) ∙ c.loop-len.invariant.3,
-      asks_more c.loop-len.len (c.loop-len.len + c.in-Got.n) (g.I.Source.known c.args.input.now) (g.I.Source.known c.loop-len.input) (g.I.Source.known c.read.new.self) (omega (arith, c.in-Got.ensures.some.0)) c.loop-len.invariant.4 c.in-Got.ensures.told,
+      asks_more c.loop-len.len (c.loop-len.len + c.in-Got.n) (g.I.Source.known c.args.input.now) (g.I.Source.known c.loop-len.input) (g.I.Source.known c.read.new.self) (omega (arith, c.in-Got.ensures.moves_bytes.0)) c.loop-len.invariant.4 c.in-Got.ensures.told,
     )
 
 pub returns-clause-read : goal.returns-clause-read

@@ -14,7 +14,7 @@ use Rattle.cmd_unpack.proofs.reading.take_items.Goals as goal
 pub items-init : goal.items-init
 items-init g c = (
   loop_none (options_of c.args.collector.now (capture_bounds c.args.told)) _ (Taking c.args.taker.now c.args.taker.now c.new-feed.result.calls (g.O.Sink.known c.args.out.now) (g.O.Sink.known c.args.out.now))
-      c.new-reading.result c.args.collector.now (capture_usable c.args.told c.args.collector.now c.requires.window.0 c.requires.some c.requires.few)
+      c.new-reading.result c.args.collector.now (capture_usable c.args.told c.args.collector.now c.requires.window.0 c.requires.at_least_one c.requires.within_limit)
       (c.new-reading.ensures ∙ ap new_reading c.of_capture.ensures) c.requires.collector (read_none (g.I.Source.known c.args.input.now) c.args.packets.now c.requires.packets)
       (none_taken c.args.taker.now c.new-feed.result.calls c.args.collector.now (g.O.Sink.known c.args.out.now) (ap (λ (s : State). s.next) c.requires.collector)
       (ap (λ (f : TrackerState). f.calls) c.new-feed.ensures) c.requires.ready c.requires.none),

@@ -7,8 +7,8 @@ pub code_chunks-requires-clause-size : goal.code_chunks-requires-clause-size
 code_chunks-requires-clause-size c =
     let has = has_code (length c.args.packet.now) c.args.shape.now c.in-Some.rs c.requires.shape c.in-Some.is in omega (arith, has.size)
 
-pub code_chunks-requires-clause-few : goal.code_chunks-requires-clause-few
-code_chunks-requires-clause-few c =
+pub code_chunks-requires-clause-within_limit : goal.code_chunks-requires-clause-within_limit
+code_chunks-requires-clause-within_limit c =
     let has = has_code (length c.args.packet.now) c.args.shape.now c.in-Some.rs c.requires.shape c.in-Some.is in omega (arith, has.chunks, c.requires.room)
 
 pub returns-in-Some : goal.returns-in-Some

@@ -31,20 +31,20 @@ part-chunk-requires c =
     let product : c.loop-i.i * c.from-k.result ≤ 2 ^ 32 * 255 = mul-le-mul few_chunks small in
     omega (arith, product, small)
 
-pub take_chunk-next-requires-clause-few : goal.take_chunk-next-requires-clause-few
-take_chunk-next-requires-clause-few c = omega (arith, ap length c.part-chunk_parity.ensures, length-take 48 (drop (c.loop-i.i * 48) c.args.parity.now))
+pub take_chunk-next-requires-clause-within_limit : goal.take_chunk-next-requires-clause-within_limit
+take_chunk-next-requires-clause-within_limit c = omega (arith, ap length c.part-chunk_parity.ensures, length-take 48 (drop (c.loop-i.i * 48) c.args.parity.now))
 
 pub loop-i-preserved : goal.loop-i-preserved
 loop-i-preserved c = record {
   within = c.take_chunk-next.ensures.within;
-  small = c.take_chunk-next.ensures.small;
+  small = c.take_chunk-next.ensures.in_range;
   all = λ n z whole long.
       let i : ℕ = c.loop-i.i in
       let k : ℕ = c.from-k.result in
       let packet : List ℕ = c.args.packet.now in
       let parity : List ℕ = c.args.parity.now in
       let rest : List ℕ = coded (n - (i + 1)) k (drop ((i + 1) * k) (packet ++ replicate z 0)) (drop ((i + 1) * 48) parity) in
-      c.take_chunk-next.ensures.all rest
+      c.take_chunk-next.ensures.written rest
       ∙ (ap₂ (λ (p q : List ℕ). payload_with c.args.count c.loop-i.next c.loop-i.into (p ++ replicate (k - length p) 0 ++ q ++ rest)) c.part-chunk.ensures c.part-chunk_parity.ensures
       ∙ (ap (payload_with c.args.count c.loop-i.next c.loop-i.into) (sym (next_chunk n k z i packet parity whole (omega (arith, long, c.loop-i-test.true))))
       ∙ c.loop-i.invariant.all n z whole long));

@@ -6,7 +6,7 @@ use Rattle.dcp_pft.proofs.interleave.take_every.Goals.{then-loop-at-test+else-wr
 use Rattle.dcp_pft.proofs.interleave.take_every.Goals as goal
 
 pub loop-at-init : goal.loop-at-init
-loop-at-init c = record { within = c.requires.within; small = c.requires.small; all = λ rest. refl }
+loop-at-init c = record { within = c.requires.within; small = c.requires.in_range; all = λ rest. refl }
 
 pub loop-at-smaller : goal.loop-at-smaller
 loop-at-smaller c = omega (arith, length-set c.loop-at.into c.loop-at.written (get_or c.args.bytes.now c.loop-at.at 0))
@@ -30,11 +30,11 @@ loop-at-preserved c =
 pub returns-clause-within : goal.returns-clause-within
 returns-clause-within c = c.loop-at.invariant.within
 
-pub returns-clause-small : goal.returns-clause-small
-returns-clause-small c = omega (arith, c.loop-at.invariant.small, c.saturating_sub.ensures)
+pub returns-clause-in_range : goal.returns-clause-in_range
+returns-clause-in_range c = omega (arith, c.loop-at.invariant.small, c.saturating_sub.ensures)
 
-pub returns-clause-all : goal.returns-clause-all
-returns-clause-all c = λ rest.
+pub returns-clause-written : goal.returns-clause-written
+returns-clause-written c = λ rest.
     let into : List ℕ = c.loop-at.into in
     let written : ℕ = c.loop-at.written in
     let at : ℕ = c.loop-at.at in

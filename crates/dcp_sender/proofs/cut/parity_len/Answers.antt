@@ -5,5 +5,5 @@ use Rattle.dcp_sender.proofs.cut.parity_len.Goals as goal
 pub chunks-requires : goal.chunks-requires
 chunks-requires c = omega (arith, (taken c.all_taken.ensures c.args.len c.args.shape.now c.requires).bytes)
 
-pub returns-clause-few : goal.returns-clause-few
-returns-clause-few c = omega (arith, c.chunks.ensures, (taken c.all_taken.ensures c.args.len c.args.shape.now c.requires).chunks)
+pub returns-clause-within_limit : goal.returns-clause-within_limit
+returns-clause-within_limit c = omega (arith, c.chunks.ensures, (taken c.all_taken.ensures c.args.len c.args.shape.now c.requires).chunks)

@@ -2,7 +2,7 @@ use Rattle.std.proofs.Common.{◌≡◌, ◌∙◌, ◌+◌, ℕ, ◌∷◌, [],
 use Rattle.std.proofs.lemmas.Result.{err_from_is_err_and}
 use Rattle.dcp_pft.specs.Limits.{most_fragments}
 use Rattle.drm_links.specs.Link.{Traffic}
-use Rattle.drm_links.specs.Transmission.{Transmits, Waits}
+use Rattle.drm_links.specs.Transmission.{LinkTransmits, WaitsBetween}
 use Rattle.drm_links.proofs.ToldLemmas.{counts_one, done_counts, failed_counts, once_then}
 use Rattle.drm_links.proofs.ManyCallsLemmas.{no_calls, more_calls, at_most}
 use Rattle.drm_links.proofs.TransmissionLemmas.{Transmits-nothing}
@@ -77,13 +77,13 @@ returns-clause-whole g c =
     let all : c.loop-i.i ≡ c.args.shape.now.count = omega (arith, c.loop-i-test.false, c.loop-i.auto.i-end) in
     (i.0, i.1, omega (arith, i.2, all), omega (arith, i.2, all, c.from.ensures), i.3)
 
-pub returns-clause-some : goal.returns-clause-some
-returns-clause-some g c =
+pub returns-clause-at_least_one : goal.returns-clause-at_least_one
+returns-clause-at_least_one g c =
     let some = (taken c.all_taken.ensures (length c.args.packet.now) c.args.shape.now c.requires.shaped).some in
     omega (arith, some, c.from.ensures)
 
-pub returns-clause-few : goal.returns-clause-few
-returns-clause-few g c =
+pub returns-clause-within_limit : goal.returns-clause-within_limit
+returns-clause-within_limit g c =
     let few = (taken c.all_taken.ensures (length c.args.packet.now) c.args.shape.now c.requires.shaped).few in
     omega (arith, few, c.from.ensures)
 
@@ -96,9 +96,9 @@ returns-clause-calls g c =
 pub returns-clause-counted : goal.returns-clause-counted
 returns-clause-counted g c =
     let all : c.loop-i.i ≡ c.from.result = omega (arith, c.loop-i-test.false, c.loop-i.auto.i-end, c.from.ensures) in
-    subst (λ k. Transmits (g.L.Link.known c.args.link.now) (g.L.Link.known c.loop-i.link) (MadeCalls k)) all c.loop-i.invariant.7
+    subst (λ k. LinkTransmits (g.L.Link.known c.args.link.now) (g.L.Link.known c.loop-i.link) (MadeCalls k)) all c.loop-i.invariant.7
 
 pub returns-clause-waits : goal.returns-clause-waits
 returns-clause-waits g c =
     let all : c.loop-i.i ≡ c.from.result = omega (arith, c.loop-i-test.false, c.loop-i.auto.i-end, c.from.ensures) in
-    subst (λ k. Transmits (g.L.Link.known c.args.link.now) (g.L.Link.known c.loop-i.link) (Waits (replicate k 0) 0)) all c.loop-i.invariant.8
+    subst (λ k. LinkTransmits (g.L.Link.known c.args.link.now) (g.L.Link.known c.loop-i.link) (WaitsBetween (replicate k 0) 0)) all c.loop-i.invariant.8

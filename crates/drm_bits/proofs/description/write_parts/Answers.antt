@@ -17,7 +17,7 @@ pub put_u16-requires-in-loop-part-clause-fits : goal.put_u16-requires-in-loop-pa
 put_u16-requires-in-loop-part-clause-fits c = (part_fits c.args.parts.now c.loop-part.part-index (record { a = 0; b = 0 }) c.loop-part-test.true c.requires.fits).1
 
 pub put_u16-requires-in-loop-part-clause-room : goal.put_u16-requires-in-loop-part-clause-room
-put_u16-requires-in-loop-part-clause-room c = omega (arith, c.loop-part.invariant.left, c.loop-part-test.true, c.requires.room, c.put_u16.ensures.left)
+put_u16-requires-in-loop-part-clause-room c = omega (arith, c.loop-part.invariant.left, c.loop-part-test.true, c.requires.room, c.put_u16.ensures.remaining)
 
 pub loop-part-init : goal.loop-part-init
 loop-part-init c = record { wrote = wrote_none c.args.sink.now; left = omega arith }
@@ -26,7 +26,7 @@ pub loop-part-preserved : goal.loop-part-preserved
 loop-part-preserved c =
     record {
       wrote = wrote_more part_bits c.args.parts.now c.loop-part.part-index (record { a = 0; b = 0 }) c.loop-part-test.true c.loop-part.invariant.wrote (then c.put_u16.ensures.wrote c.put_u16-in-loop-part.ensures.wrote);
-      left = omega (arith, c.loop-part.invariant.left, c.put_u16.ensures.left, c.put_u16-in-loop-part.ensures.left);
+      left = omega (arith, c.loop-part.invariant.left, c.put_u16.ensures.remaining, c.put_u16-in-loop-part.ensures.remaining);
     }
 
 pub returns-clause-wrote : goal.returns-clause-wrote

@@ -12,7 +12,7 @@ pub write-requires-clause-room : goal.write-requires-clause-room
 write-requires-clause-room c = omega (arith, ap length c.new-sink.ensures.unwritten, length-bits_of c.args.into.now, c.told-into)
 
 pub write-requires-2-clause-room : goal.write-requires-2-clause-room
-write-requires-2-clause-room c = omega (arith, ap length c.new-sink.ensures.unwritten, length-bits_of c.args.into.now, c.told-into, c.write.ensures.left)
+write-requires-2-clause-room c = omega (arith, ap length c.new-sink.ensures.unwritten, length-bits_of c.args.into.now, c.told-into, c.write.ensures.remaining)
 
 pub returns-clause-bytes : goal.returns-clause-bytes
 returns-clause-bytes c = c.write-2.new.sink.octets

@@ -31,5 +31,5 @@ returns-clause-one g c =
     sent_whole c.args.sender.now c.args.first c.args.index c.sequence.result c.send-sent.result c.args.bytes.now c.args.tally.now _ (targets g.K.Link.known c.args.to.now) (targets g.K.Link.known c.send-sent.new.links)
     (c.is_af.ensures.yes c.if-not-is_af.false) (sym c.is_large.ensures ∙ c.if-is_large.false) c.sequence.ensures (same_many g.K.Link.known c.args.to.now c.send-sent.new.links c.send-sent.auto.links)
     (each_of g.K.Link.known (SentTo c.args.sender.now c.sequence.result c.args.bytes.now c.send-sent.result) c.args.to.now c.send-sent.new.links c.send-sent.auto.links c.send-sent.ensures.each)
-    (some_up g.K.Link.known c.send-sent.new.links (λ down. let yes = c.none_up.ensures.1 down in let no = c.if-none_up.false in cc)) c.send-sent.ensures.few
+    (some_up g.K.Link.known c.send-sent.new.links (λ down. let yes = c.none_up.ensures.1 down in let no = c.if-none_up.false in cc)) c.send-sent.ensures.within_limit
     (λ datagrams many. one_given c.args.tally.now c.send-sent.result datagrams many)

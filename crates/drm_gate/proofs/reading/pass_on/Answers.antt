@@ -68,8 +68,8 @@ returns-then-has_ended-clause-ends g c =
     loop_over _ _ _ _ _ _ _ _ (loop_rests _ _ _ _ _ c.answers.invariant.0 c.gives.result c.gives.new.self c.gives.ensures.gives c.if-gives.false)
     (sym c.has_ended.ensures ∙ c.if-has_ended.true) (rests_over c.gives.result c.answers.reading c.answers.collector c.gives.new.self c.gives.ensures.gives c.if-gives.false)
 
-pub returns-then-has_ended-clause-few : goal.returns-then-has_ended-clause-few
-returns-then-has_ended-clause-few g c = let s = sent_limit _ _ _ _ _ _ _ _ c.answers.invariant.0 in omega (arith, s)
+pub returns-then-has_ended-clause-within_limit : goal.returns-then-has_ended-clause-within_limit
+returns-then-has_ended-clause-within_limit g c = let s = sent_limit _ _ _ _ _ _ _ _ c.answers.invariant.0 in omega (arith, s)
 
 pub read_on-requires-clause-waits : goal.read_on-requires-clause-waits
 read_on-requires-clause-waits g c =

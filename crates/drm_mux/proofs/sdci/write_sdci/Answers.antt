@@ -19,7 +19,7 @@ pub write-requires-clause-fits : goal.write-requires-clause-fits
 write-requires-clause-fits c = description_fit c.args.desc.now c.requires.description c.requires.fits
 
 pub write-requires-clause-room : goal.write-requires-clause-room
-write-requires-clause-room c = omega (arith, ap length c.new-sink.ensures.unwritten, length-bits_of c.args.into.now, c.told-into, c.put_u8.ensures.left, c.requires.description.count)
+write-requires-clause-room c = omega (arith, ap length c.new-sink.ensures.unwritten, length-bits_of c.args.into.now, c.told-into, c.put_u8.ensures.remaining, c.requires.description.count)
 
 -- what is written in the end
 all : (c : goal.After-len) → Wrote (spelled (sdci_fields c.args.desc.now)) c.new-sink.result c.write.new.sink

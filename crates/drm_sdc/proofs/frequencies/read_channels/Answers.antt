@@ -18,5 +18,5 @@ pub loop-preserved : goal.loop-preserved
 loop-preserved c =
     record {
       list = step c.loop.list c.push.new.self c.loop.bits c.read_channel.new.bits c.read_channel.result c.loop.counter c.args.count c.loop-test.true c.in_ok-push.ensures.pushed c.read_channel.ensures.channel c.read_channel.ensures.rest ∙ c.loop.invariant.list;
-      left = omega (arith, c.loop.invariant.left, c.read_channel.ensures.left);
+      left = omega (arith, c.loop.invariant.left, c.read_channel.ensures.remaining);
     }

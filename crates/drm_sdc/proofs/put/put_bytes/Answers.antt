@@ -13,7 +13,7 @@ pub loop-byte-preserved : goal.loop-byte-preserved
 loop-byte-preserved c =
     record {
       wrote = wrote_more (digits 8) c.args.bytes.now c.loop-byte.byte-index 0 c.loop-byte-test.true c.loop-byte.invariant.wrote c.put_u8.ensures.wrote;
-      left = omega (arith, c.loop-byte.invariant.left, c.put_u8.ensures.left);
+      left = omega (arith, c.loop-byte.invariant.left, c.put_u8.ensures.remaining);
     }
 
 pub returns-clause-wrote : goal.returns-clause-wrote

@@ -12,7 +12,7 @@ pub loop-preserved : goal.loop-preserved
 loop-preserved c =
     record {
       wrote = subst (λ (l : List Bool). Wrote l c.args.sink.now c.put_u8.new.self) (zeros_more c.loop.counter) (then c.loop.invariant.wrote c.put_u8.ensures.wrote);
-      left = omega (arith, c.loop.invariant.left, c.put_u8.ensures.left);
+      left = omega (arith, c.loop.invariant.left, c.put_u8.ensures.remaining);
     }
 
 pub returns-clause-wrote : goal.returns-clause-wrote

@@ -14,6 +14,6 @@ pub returns-else-bits-eq0-clause-open : goal.returns-else-bits-eq0-clause-open
 returns-else-bits-eq0-clause-open c =
     let all : List Bool = take c.args.bits (bits_of c.args.value.now) in
     record {
-      few = c.in-Some.ensures.some.0;
-      form = inl (first_form_only all c.args.bits c.in-Some.room (length-value c.args.value.now c.args.bits c.requires) c.if-bits-eq0.false c.in-Some.ensures.some.1);
+      few = c.in-Some.ensures.found.0;
+      form = inl (first_form_only all c.args.bits c.in-Some.room (length-value c.args.value.now c.args.bits c.requires) c.if-bits-eq0.false c.in-Some.ensures.found.1);
     }

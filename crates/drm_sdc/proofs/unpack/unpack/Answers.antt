@@ -15,6 +15,6 @@ loop-byte-preserved c =
     record {
       size = length-set bytes i n ∙ c.loop-byte.invariant.size;
       taken = byte_taken bytes c.args.bits.now c.loop-byte.bits c.take_u8.new.self i n within enough c.take_u8.ensures.number c.take_u8.ensures.rest c.loop-byte.invariant.taken;
-      left = omega (arith, c.loop-byte.invariant.left, c.take_u8.ensures.left);
+      left = omega (arith, c.loop-byte.invariant.left, c.take_u8.ensures.remaining);
       octets = small_set bytes i n within below c.loop-byte.invariant.octets;
     }

@@ -10,7 +10,7 @@ take_u16-stands-requires-clause-enough c =
     let all : List Bool = take c.args.bits (bits_of c.args.value.now) in
     let rest : length c.behind_front-rest.result ≡ 8 * length c.args.field.now + 20 =
     open_length all c.behind_front-rest.result c.args.bits (length c.args.field.now) (sym (length-value c.args.value.now c.args.bits c.requires.length)) c.requires.open c.behind_front-rest.ensures.second c.behind_front-rest.ensures.first in
-    omega (arith, rest, c.take_u8-afs.ensures.left, ap length c.unpack.ensures.bytes, length-append (bits_of c.unpack.new.bytes) c.unpack.new.bits, length-bits_of c.unpack.new.bytes, c.unpack.auto.bytes)
+    omega (arith, rest, c.take_u8-afs.ensures.remaining, ap length c.unpack.ensures.bytes, length-append (bits_of c.unpack.new.bytes) c.unpack.new.bits, length-bits_of c.unpack.new.bytes, c.unpack.auto.bytes)
 
 pub returns-then-stands-computed-clause-fault : goal.returns-then-stands-computed-clause-fault
 returns-then-stands-computed-clause-fault c =

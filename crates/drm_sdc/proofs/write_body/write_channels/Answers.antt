@@ -15,7 +15,7 @@ pub put_u16-requires-clause-fits : goal.put_u16-requires-clause-fits
 put_u16-requires-clause-fits c = channel_fits c.args.channels.now c.loop-channel.channel-index (record { first = false; number = 0 }) c.loop-channel-test.true c.requires.fits
 
 pub put_u16-requires-clause-room : goal.put_u16-requires-clause-room
-put_u16-requires-clause-room c = omega (arith, c.loop-channel.invariant.left, c.loop-channel-test.true, c.requires.room, c.put_flag.ensures.left)
+put_u16-requires-clause-room c = omega (arith, c.loop-channel.invariant.left, c.loop-channel-test.true, c.requires.room, c.put_flag.ensures.remaining)
 
 pub loop-channel-init : goal.loop-channel-init
 loop-channel-init c = record { wrote = wrote_none c.args.sink.now; left = omega arith }
@@ -24,7 +24,7 @@ pub loop-channel-preserved : goal.loop-channel-preserved
 loop-channel-preserved c =
     record {
       wrote = wrote_more channel_bits c.args.channels.now c.loop-channel.channel-index (record { first = false; number = 0 }) c.loop-channel-test.true c.loop-channel.invariant.wrote (then c.put_flag.ensures.wrote c.put_u16.ensures.wrote);
-      left = omega (arith, c.loop-channel.invariant.left, c.put_flag.ensures.left, c.put_u16.ensures.left);
+      left = omega (arith, c.loop-channel.invariant.left, c.put_flag.ensures.remaining, c.put_u16.ensures.remaining);
     }
 
 pub returns-clause-wrote : goal.returns-clause-wrote

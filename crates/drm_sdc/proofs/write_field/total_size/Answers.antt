@@ -11,7 +11,7 @@ more c =
     omega (arith, before, c.size-total.ensures, size_here c.args.entities.now c.loop-entity.entity-index c.entity-item.result c.loop-entity-test.true c.entity-item.is)
 
 pub overflow_add-total : goal.overflow_add-total
-overflow_add-total c = omega (arith, more c, size_front c.args.entities.now (c.loop-entity.entity-index + 1), c.requires.small)
+overflow_add-total c = omega (arith, more c, size_front c.args.entities.now (c.loop-entity.entity-index + 1), c.requires.in_range)
 
 pub loop-entity-preserved : goal.loop-entity-preserved
 loop-entity-preserved c = more c

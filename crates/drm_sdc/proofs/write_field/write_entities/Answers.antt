@@ -21,7 +21,7 @@ loop-entity-preserved c =
     let more = subst (λ (x : Entity). Wrote (bits_of_entity x) c.loop-entity.sink c.write_entity.new.sink) c.entity-item.is c.write_entity.ensures.wrote in
     record {
       wrote = wrote_more bits_of_entity c.args.entities.now i e c.loop-entity-test.true c.loop-entity.invariant.wrote more;
-      left = omega (arith, c.loop-entity.invariant.left, c.write_entity.ensures.left, size_here c.args.entities.now i e c.loop-entity-test.true c.entity-item.is);
+      left = omega (arith, c.loop-entity.invariant.left, c.write_entity.ensures.remaining, size_here c.args.entities.now i e c.loop-entity-test.true c.entity-item.is);
     }
 
 pub returns-clause-wrote : goal.returns-clause-wrote

@@ -14,7 +14,7 @@ write_entities-requires-clause-room c = omega (arith, ap length c.new-sink.ensur
 
 pub put_zeros-requires : goal.put_zeros-requires
 put_zeros-requires c =
-    omega (arith, ap length c.new-sink.ensures.unwritten, length-bits_of c.args.field.now, c.told-field, c.requires.needed, c.requires.room, c.write_entities.ensures.left)
+    omega (arith, ap length c.new-sink.ensures.unwritten, length-bits_of c.args.field.now, c.told-field, c.requires.needed, c.requires.room, c.write_entities.ensures.remaining)
 
 pub returns-clause-field : goal.returns-clause-field
 returns-clause-field c =

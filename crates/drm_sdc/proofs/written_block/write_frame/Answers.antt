@@ -11,15 +11,15 @@ pub put_u8-requires-clause-room : goal.put_u8-requires-clause-room
 put_u8-requires-clause-room c = omega (arith, ap length c.new-sink.ensures.unwritten, length-bits_of c.args.into.now, c.told-into)
 
 pub put_bytes-requires : goal.put_bytes-requires
-put_bytes-requires c = omega (arith, ap length c.new-sink.ensures.unwritten, length-bits_of c.args.into.now, c.told-into, c.put_u8.ensures.left, c.requires.room)
+put_bytes-requires c = omega (arith, ap length c.new-sink.ensures.unwritten, length-bits_of c.args.into.now, c.told-into, c.put_u8.ensures.remaining, c.requires.room)
 
 pub put_u16-requires-clause-room : goal.put_u16-requires-clause-room
 put_u16-requires-clause-room c =
-    omega (arith, ap length c.new-sink.ensures.unwritten, length-bits_of c.args.into.now, c.told-into, c.put_u8.ensures.left, c.put_bytes.ensures.left, c.requires.room)
+    omega (arith, ap length c.new-sink.ensures.unwritten, length-bits_of c.args.into.now, c.told-into, c.put_u8.ensures.remaining, c.put_bytes.ensures.remaining, c.requires.room)
 
 pub put_u8-requires-2-clause-room : goal.put_u8-requires-2-clause-room
 put_u8-requires-2-clause-room c =
-    omega (arith, ap length c.new-sink.ensures.unwritten, length-bits_of c.args.into.now, c.told-into, c.put_u8.ensures.left, c.put_bytes.ensures.left, c.put_u16.ensures.left, c.requires.room)
+    omega (arith, ap length c.new-sink.ensures.unwritten, length-bits_of c.args.into.now, c.told-into, c.put_u8.ensures.remaining, c.put_bytes.ensures.remaining, c.put_u16.ensures.remaining, c.requires.room)
 
 pub returns-clause-frame : goal.returns-clause-frame
 returns-clause-frame c =

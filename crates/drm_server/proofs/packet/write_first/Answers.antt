@@ -6,5 +6,5 @@ use Rattle.drm_server.proofs.packet.write_first.Goals as goal
 pub returns-clause-written : goal.returns-clause-written
 returns-clause-written c =
     let w = c.write_payload in
-    let all : w.result ≤ length w.new.into = omega (arith, w.ensures.small, w.ensures.long) in
+    let all : w.result ≤ length w.new.into = omega (arith, w.ensures.in_range, w.ensures.length) in
     subst (IsPayloadWith c.args.live.now c.args.piece.now c.args.plan.now c.args.t) (sym (take-append-le w.result w.new.into _ all)) w.ensures.written

@@ -1,5 +1,5 @@
 use Rattle.std.proofs.Common.{◌+◌, ℕ, Bool, refl, sym, subst}
-use Rattle.drm_links.specs.Transmission.{Transmits}
+use Rattle.drm_links.specs.Transmission.{LinkTransmits}
 use Rattle.drm_server.specs.OneFrame.{SentFrame, SendsPartOfFrame}
 use Rattle.drm_server.specs.Several.{ServedBy, SentFrames}
 use Rattle.drm_server.specs.Serving.{Serving}
@@ -36,7 +36,7 @@ returns-in-Err-clause-step g c = λ plan first start has within at before.
     let a = g.L.Link.known c.send_frame.new.link in
     let P : Bool → Type 0 = λ up. ServedBy up plan first pace n start b in
     let so_far : SentFrames plan first pace n start b = subst P c.if-member.true before in
-    let F : ℕ → Type 0 = λ f. Transmits m a (SendsPartOfFrame plan f) in
+    let F : ℕ → Type 0 = λ f. LinkTransmits m a (SendsPartOfFrame plan f) in
     let r = c.rest_between.ensures in
     cut_off plan first pace n start b m a so_far (record { none = r.none; waits = r.waits; counted = r.rests; calls = r.calls; same = r.cause }) within
     (subst F at (same_part server plan has m a c.in-Err.ensures.part)) (c.in-Err.ensures.cause.once refl) c.in-Err.ensures.calls

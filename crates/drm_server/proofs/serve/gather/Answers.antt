@@ -16,7 +16,7 @@ returns-clause-gathered g c =
     let room : List ℕ = put_mid at more c.args.room.now w.new.into in
     let datagram : List ℕ = take w.result w.new.into in
     let waits : take (at + w.result) room ≡ take at c.args.room.now ++ datagram =
-    front_more at w.result more c.args.room.now w.new.into (omega (arith, c.requires.room)) (omega (arith, w.ensures.small, w.ensures.long, c.requires.room)) in
+    front_more at w.result more c.args.room.now w.new.into (omega (arith, c.requires.room)) (omega (arith, w.ensures.in_range, w.ensures.same_length, c.requires.room)) in
     let a = g.O.Sink.known c.args.out.now in
     let b = g.O.Sink.known c.pass_on.new.out in
     IfOk-weaker c.pass_on.result
@@ -37,7 +37,7 @@ returns-clause-front g c =
     let room : List ℕ = put_mid at more c.args.room.now w.new.into in
     let datagram : List ℕ = take w.result w.new.into in
     let waits : take (at + w.result) room ≡ take at c.args.room.now ++ datagram =
-    front_more at w.result more c.args.room.now w.new.into (omega (arith, c.requires.room)) (omega (arith, w.ensures.small, w.ensures.long, c.requires.room)) in
+    front_more at w.result more c.args.room.now w.new.into (omega (arith, c.requires.room)) (omega (arith, w.ensures.in_range, w.ensures.same_length, c.requires.room)) in
     let a = g.O.Sink.known c.args.out.now in
     let b = g.O.Sink.known c.pass_on.new.out in
     on_err_weaker c.pass_on.result

@@ -32,8 +32,8 @@ loop-i-preserved g c =
       next_datagram c.args.loaded.now.plan c.args.loaded.now.frame c.loop-i.i i.0 d.0 i.1 d.1,
       gathers_datagram (take c.args.waiting c.args.room.now) i.0 d.0 (take c.loop-i.waiting c.loop-i.room) (take c.in_ok-waiting.waiting c.gather.new.room)
           (g.O.Sink.known c.args.out.now) (g.O.Sink.known c.loop-i.out) (g.O.Sink.known c.gather.new.out) i.2 d.2,
-      c.in_ok-waiting.ensures.left,
-      c.gather.ensures.long ∙ i.4,
+      c.in_ok-waiting.ensures.remaining,
+      c.gather.ensures.same_length ∙ i.4,
       c.in_ok-waiting.ensures.cause.same (λ failed. cc) ∙ i.5,
     )
 

@@ -2,14 +2,14 @@ use Rattle.std.proofs.Common.{◌≡◌, ◌+◌, ◌≤◌, ℕ, List, length, 
 use Rattle.std.specs.List.{concat}
 use Rattle.dcp_pft.specs.Limits.{most_packet}
 use Rattle.drm_server.specs.Datagrams.{AreFirst}
-use Rattle.drm_server.specs.Gathering.{Gathers}
+use Rattle.drm_server.specs.Gathering.{GathersDatagrams}
 use Rattle.drm_server.proofs.serve.gather_frame.Given as goal
 
 -- the datagrams before this one were written, or wait
 abbrev pub invariant-loop-i : goal.invariant-loop-i
 invariant-loop-i g l =
     (datagrams : List (List ℕ)) × AreFirst l.fn.loaded.plan l.fn.loaded.frame l.i datagrams
-    × Gathers (take l.fn.waiting l.fn.room) (concat datagrams) (take l.waiting l.room) (g.O.Sink.known l.fn.out) (g.O.Sink.known l.out)
+    × GathersDatagrams (take l.fn.waiting l.fn.room) (concat datagrams) (take l.waiting l.room) (g.O.Sink.known l.fn.out) (g.O.Sink.known l.out)
     × (l.waiting + most_packet l.fn.loaded.plan.carry ≤ length l.room)
     × (length l.room ≡ length l.fn.room)
     × ((g.O.Sink.known l.out).faults ≡ (g.O.Sink.known l.fn.out).faults)

@@ -42,13 +42,13 @@ loop-n-preserved g c =
       i.0 ++ w.0,
       next_frame plan first n i.0 w.0 i.1 w.1,
       gathers_frame i.0 w.0 then_waits waits (g.O.Sink.known c.args.out.now) (g.O.Sink.known c.loop-n.out) (g.O.Sink.known c.gather_frame.new.out) i.2 w.2,
-      (λ some. one_or_more plan first n w.1.0 (omega (arith, c.loop-n-test.true, c.saturating_sub-n-end.ensures, c.frames.ensures.frames)) (omega (arith, count, c.fragments.ensures.some)) i.0 w.0 i.1 w.1.2),
-      subst (λ (s : Serving). c.in_ok-waiting.waiting + most_packet s.plan.carry ≤ length c.gather_frame.new.room) loaded c.in_ok-waiting.ensures.left,
-      c.gather_frame.ensures.long ∙ i.5,
+      (λ some. one_or_more plan first n w.1.0 (omega (arith, c.loop-n-test.true, c.saturating_sub-n-end.ensures, c.frames.ensures.frames)) (omega (arith, count, c.fragments.ensures.at_least_one)) i.0 w.0 i.1 w.1.2),
+      subst (λ (s : Serving). c.in_ok-waiting.waiting + most_packet s.plan.carry ≤ length c.gather_frame.new.room) loaded c.in_ok-waiting.ensures.remaining,
+      c.gather_frame.ensures.same_length ∙ i.5,
       c.in_ok-waiting.ensures.cause.same (λ failed. cc) ∙ i.6,
       ap (λ (s : Serving). s.base) loaded,
       omega (arith, i.8, size, long, c.from-written.ensures),
-      omega (arith, i.9, c.from-written.ensures, c.fragments.ensures.few),
+      omega (arith, i.9, c.from-written.ensures, c.fragments.ensures.within_limit),
       ap (λ (s : Serving). s.plan.carry) loaded ∙ sym (ap (λ (s : Serving). s.base.carry) loaded),
     )
 

@@ -3,14 +3,14 @@ use Rattle.std.specs.List.{concat}
 use Rattle.dcp_pft.specs.Limits.{most_packet, most_fragments}
 use Rattle.drm_server.specs.Datagrams.{AreOfFrames}
 use Rattle.drm_server.specs.Capture.{IsFrontOfCapture}
-use Rattle.drm_server.specs.Gathering.{Gathers}
+use Rattle.drm_server.specs.Gathering.{GathersDatagrams}
 use Rattle.drm_server.proofs.serve.serve.Given as goal
 
 -- the datagrams of the frames before this one were written, or wait
 abbrev pub invariant-loop-n : goal.invariant-loop-n
 invariant-loop-n g l =
     (datagrams : List (List ℕ)) × AreOfFrames l.fn.loaded.base l.fn.first l.n datagrams
-    × Gathers [] (concat datagrams) (take l.waiting l.room) (g.O.Sink.known l.fn.out) (g.O.Sink.known l.out)
+    × GathersDatagrams [] (concat datagrams) (take l.waiting l.room) (g.O.Sink.known l.fn.out) (g.O.Sink.known l.out)
     × (0 < l.waiting → IsFrontOfCapture l.fn.loaded.base l.fn.first (concat datagrams))
     × (l.waiting + most_packet l.fn.loaded.base.carry ≤ length l.room)
     × (length l.room ≡ length l.fn.room)

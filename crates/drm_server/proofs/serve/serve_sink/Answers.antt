@@ -13,5 +13,5 @@ invariant_of-server g c =
     ap most_packet (c.serve.ensures.carry ∙ ap (λ (p : Plan). p.carry) c.serve.ensures.schedule ∙ sym v.0) in (
       c.serve.ensures.carry,
       omega (arith, same, v.1),
-      omega (arith, same, v.2, c.serve.ensures.long, ap length c.deref_mut.ensures.value, waiting.ok.0, length-append room rest, length-take waiting.len (room ++ rest)),
+      omega (arith, same, v.2, c.serve.ensures.same_length, ap length c.deref_mut.ensures.value, waiting.ok.0, length-append room rest, length-take waiting.len (room ++ rest)),
     )

@@ -14,7 +14,7 @@ returns-in_err-write_all-clause-front g c =
     let count : w.1.0 ≡ c.fragments-count.result = one_count plan t w.1.0 c.fragments-count.result w.1.1 c.fragments-count.ensures.datagrams in
     rw p.1 (frame_front plan t w.1.0 w.0 (take c.in_ok-waiting.waiting c.gather_frame.new.room)
     (g.O.Sink.known c.args.out.now) (g.O.Sink.known c.gather_frame.new.out) (g.O.Sink.known c.write_all.new.out)
-    (omega (arith, count, c.fragments-count.ensures.some)) w.1.2 w.2 c.in_err-write_all.ensures.front)
+    (omega (arith, count, c.fragments-count.ensures.at_least_one)) w.1.2 w.2 c.in_err-write_all.ensures.front)
 
 pub returns-clause-whole : goal.returns-clause-whole
 returns-clause-whole g c =

@@ -17,4 +17,4 @@ write_entities-requires-clause-fit c = subst (All EntityFits) (sym c.entities_in
 pub returns : goal.returns
 returns c =
     wrote_told c.args.config.now c.args.sf c.description-desc.result c.entities_in_force.result.now c.args.sink.now c.write_entity.new.sink c.write_entities.new.sink c.write_clock.new.sink
-    c.requires.fits c.description-desc.ensures c.entities_in_force.ensures c.write_entity.ensures.wrote c.write_entity.ensures.left c.write_entities.ensures.wrote c.write_entities.ensures.left c.write_clock.ensures
+    c.requires.fits c.description-desc.ensures c.entities_in_force.ensures c.write_entity.ensures.wrote c.write_entity.ensures.remaining c.write_entities.ensures.wrote c.write_entities.ensures.remaining c.write_clock.ensures

@@ -1,6 +1,6 @@
 use Rattle.std.proofs.Common.{◌≡◌, ◌∙◌, inl, true, false, [], ◌∷◌, Err, refl, sym, ap, subst}
 use Rattle.drm_schedule.specs.Live.{is_any}
-use Rattle.drm_links.specs.Told.{WhileTold}
+use Rattle.drm_links.specs.Told.{IfBothKnown}
 use Rattle.link_group.specs.Reaching.{NothingSent}
 use Rattle.drm_links.proofs.ToldLemmas.{counts_none}
 use Rattle.cmd_faults.specs.Fault.{whole_of}
@@ -248,7 +248,7 @@ returns-in-Gate g c =
       link = λ e. rw c.in-Gate.is tt;
       lacking = λ e. rw c.in-Gate.is tt;
       unsent = λ e.
-          subst (λ d. WhileTold (g.D.Dock.known c.args.dock.now) (g.D.Dock.known d) NothingSent)
+          subst (λ d. IfBothKnown (g.D.Dock.known c.args.dock.now) (g.D.Dock.known d) NothingSent)
           (sym (no_gate c.options_of-options-in-Gate.result c.in-Gate.carry c.in-Gate.from c.in-Gate.to _ _ _ _ _ _ _ e run.run).0) (dock_still (g.D.Dock.known c.args.dock.now));
       dock = λ none. absurd (none (rw c.in-Gate.is tt));
     }

@@ -1,6 +1,6 @@
 use Rattle.std.proofs.Common.{◌≡◌, ◌≤◌, List, length, drop}
 use Rattle.std.specs.Vec.Iter.{into_iter_items}
-use Rattle.drm_links.specs.Told.{Tells}
+use Rattle.drm_links.specs.Told.{KnownThrough}
 use Rattle.drm_links.specs.Dock.{Over}
 use Rattle.link_group.specs.Reaching.{HaveGone, after_closes}
 use Rattle.link_group.proofs.closing.close_each.Given as goal
@@ -8,7 +8,7 @@ use Rattle.link_group.proofs.closing.close_each.Given as goal
 -- what the dock tells once the other links are closed, too
 abbrev pub invariant-loop-member : goal.invariant-loop-member
 invariant-loop-member g l =
-    Tells (g.D.Dock.known l.fn.dock) (g.D.Dock.known l.dock) (λ before after.
+    KnownThrough (g.D.Dock.known l.fn.dock) (g.D.Dock.known l.dock) (λ before after.
     (overs : List Over) → HaveGone g.D.L.Link.known l.fn.members.items overs
     → after_closes (drop l.k overs) (drop l.k l.addresses) after ≡ after_closes overs l.addresses before)
     × (into_iter_items l.member-iterator ≡ drop l.k l.fn.members.items)

@@ -1,5 +1,5 @@
 use Rattle.std.proofs.Common.{◌≡◌, ℕ, ◌<◌, ◌≤◌, vec_len, vec_capacity, slice_index_or, length}
-use Rattle.drm_links.specs.Told.{Tells}
+use Rattle.drm_links.specs.Told.{KnownThrough}
 use Rattle.drm_links.specs.declared.dock.Address.{Address}
 use Rattle.drm_links.specs.Dock.{Docked, HasLink}
 use Rattle.link_group.specs.Reaching.{AreUp}
@@ -14,6 +14,6 @@ invariant-loop-k g l =
     × (length l.addresses ≤ vec_capacity l.members)
     × AreUp l.members.items
     × ((g.D.Dock.known l.dock).faults ≡ (g.D.Dock.known l.fn.dock).faults)
-    × Tells (g.D.Dock.known l.fn.dock) (g.D.Dock.known l.dock) (Reached l.addresses l.k)
+    × KnownThrough (g.D.Dock.known l.fn.dock) (g.D.Dock.known l.dock) (Reached l.addresses l.k)
     × ((k : ℕ) (d : Member g.row.D-L.Denot) → k < l.k → (at : Address)
     → Docked (g.D.Dock.known l.fn.dock) (g.D.Dock.known l.dock) (λ told. HasLink g.D.L.Link.known told k (slice_index_or l.addresses k at) (slice_index_or l.members.items k d).link))

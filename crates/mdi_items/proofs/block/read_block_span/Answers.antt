@@ -16,4 +16,4 @@ unfolding IsTold
 returns-in-Ok-clause-value c =
     let found : Found = c.in-Some.found in
     let told : IsTold found c.in-Ok.info (bytes_at c.args.payload.now found) = subst (IsTold found c.in-Ok.info) c.bytes_at.ensures.value c.in-Ok.ensures.right in
-    (found, told.0, c.in-Some.ensures.some.0, c.in-Some.ensures.some.1, told.1, ap (λ (i : BlockInfo). record { at = found.at; bits = found.bits; info = i }) told.2)
+    (found, told.0, c.in-Some.ensures.found.0, c.in-Some.ensures.found.1, told.1, ap (λ (i : BlockInfo). record { at = found.at; bits = found.bits; info = i }) told.2)

@@ -1,6 +1,6 @@
 use Rattle.std.proofs.Common.{refl}
 use Rattle.std.proofs.lemmas.Result.{err_from_is_err_and}
-use Rattle.dcp_tag.specs.Reading.{Gives}
+use Rattle.dcp_tag.specs.Reading.{GivesItem}
 use Rattle.mdi_items.specs.Items.{known_of}
 use Rattle.mdi_items.proofs.PayloadLemmas.{known_inside}
 use Rattle.mdi_items.proofs.WalkLemmas.{walk_start, walk_step, walk_end, walk_cut, walk_twice}
@@ -12,13 +12,13 @@ loop-item-init c = walk_start c.args.payload.now c.new-items.result _ c.new-item
 
 pub loop-item-preserved : goal.loop-item-preserved
 loop-item-preserved c =
-    let given : Gives c.in-Ok-Some.item c.loop-item.items c.next_item.new.self = rw c.in-Ok-Some.field-0-is at c.in-Ok-Some.ensures.answer in
+    let given : GivesItem c.in-Ok-Some.item c.loop-item.items c.next_item.new.self = rw c.in-Ok-Some.field-0-is at c.in-Ok-Some.ensures.answer in
     walk_step c.args.payload.now c.loop-item.items c.next_item.new.self c.loop-item.known c.note.new.known c.in-Ok-Some.item c.loop-item.invariant given c.in_ok-note-in-Ok-Some.ensures.noted
 
 pub returns-in_err-note-in-Ok-Some-clause-fault : goal.returns-in_err-note-in-Ok-Some-clause-fault
 returns-in_err-note-in-Ok-Some-clause-fault c =
     let p = err_from_is_err_and c.from_residual.result c.from_residual.ensures.1 in
-    let given : Gives c.in-Ok-Some.item c.loop-item.items c.next_item.new.self = rw c.in-Ok-Some.field-0-is at c.in-Ok-Some.ensures.answer in
+    let given : GivesItem c.in-Ok-Some.item c.loop-item.items c.next_item.new.self = rw c.in-Ok-Some.field-0-is at c.in-Ok-Some.ensures.answer in
     rw (p.1, p.2) (walk_twice c.args.payload.now c.loop-item.items c.next_item.new.self c.loop-item.known c.in-Ok-Some.item _ c.loop-item.invariant given c.in_err-note-in-Ok-Some.ensures.twice)
 
 pub returns-in-Ok-None-clause-known : goal.returns-in-Ok-None-clause-known

@@ -1,6 +1,6 @@
 use Rattle.std.proofs.Common.{◌∙◌, ap, subst}
 use Rattle.std.proofs.lemmas.Result.{err_from_is_err_and}
-use Rattle.drm_links.specs.Sink.{Writes}
+use Rattle.drm_links.specs.Sink.{WritesWhole}
 use Rattle.text_output.proofs.TextLemmas.{next_broken}
 use Rattle.recv_report.specs.Jobs.{text_of}
 use Rattle.recv_report.specs.declared.job.Job.{Job}
@@ -15,4 +15,4 @@ returns-in_err-write_all g c =
     rw p.1
     (next_broken (λ job. text_of job) c.args.jobs.now c.loop-job.job-index d c.loop-job-test.true (g.O.Sink.known c.args.out.now) b e c.write_all.result c.in_err-write_all.field-0.0 p.0
     c.loop-job.invariant.0 c.loop-job.invariant.1 c.in_err-write_all.was
-    (subst (λ bytes. Writes c.write_all.result b e bytes) (c.bytes.ensures ∙ ap (λ job. text_of job) c.job-item.is) c.write_all.ensures))
+    (subst (λ bytes. WritesWhole c.write_all.result b e bytes) (c.bytes.ensures ∙ ap (λ job. text_of job) c.job-item.is) c.write_all.ensures))

@@ -2,7 +2,7 @@ use Rattle.std.proofs.Common.{◌≡◌, ◌*◌, ◌++◌, ℕ, List, [], ◌�
 use Rattle.std.specs.Prelude.{codes, slice_index}
 use Rattle.std.proofs.lemmas.Result.{err_from_is_err_and}
 use Rattle.hex.specs.Hex.{lower_digits}
-use Rattle.drm_links.specs.Sink.{Writes}
+use Rattle.drm_links.specs.Sink.{WritesWhole}
 use Rattle.drm_links.proofs.WritingLemmas.{Writes-cut, Writes-then}
 use Rattle.report_text.specs.HexBits.{hex_of_bits}
 use Rattle.report_dump.specs.Lines.{kind_text}
@@ -47,7 +47,7 @@ returns-in_err-write_digits-clause-written g c =
     (Writes-then (kind_text h.kind h.version) (digit ++ (body ++ codes "\n")) a b e c.write_kind.result _ _ c.in_ok-write_kind.was c.write_kind.ensures
     (Writes-then digit (body ++ codes "\n") b d e c.write_all.result _ _ c.in_ok-write_all.was (rw is at c.write_all.ensures)
     (Writes-cut body (codes "\n") d e c.write_digits.result c.in_err-write_digits.field-0.0 p.0 c.in_err-write_digits.was
-    (subst (λ n. Writes c.write_digits.result d e (hex_of_bits (take n c.args.bits.now))) many c.write_digits.ensures.written))))
+    (subst (λ n. WritesWhole c.write_digits.result d e (hex_of_bits (take n c.args.bits.now))) many c.write_digits.ensures.written))))
 
 pub returns-clause-written : goal.returns-clause-written
 returns-clause-written g c =
@@ -64,5 +64,5 @@ returns-clause-written g c =
     Writes-then (kind_text h.kind h.version) (digit ++ (body ++ codes "\n")) a b f c.write_kind.result _ _ c.in_ok-write_kind.was c.write_kind.ensures
     (Writes-then digit (body ++ codes "\n") b d f c.write_all.result _ _ c.in_ok-write_all.was (rw is at c.write_all.ensures)
     (Writes-then body (codes "\n") d e f c.write_digits.result c.write_all-2.result _ c.in_ok-write_digits.was
-    (subst (λ n. Writes c.write_digits.result d e (hex_of_bits (take n c.args.bits.now))) many c.write_digits.ensures.written)
+    (subst (λ n. WritesWhole c.write_digits.result d e (hex_of_bits (take n c.args.bits.now))) many c.write_digits.ensures.written)
     c.write_all-2.ensures))

@@ -1,8 +1,8 @@
 use Rattle.report_journal.proofs.Printing.{prints_all}
 use Rattle.report_journal.proofs.lines.give_ready.Goals as goal
 
-pub returns-clause-all : goal.returns-clause-all
-returns-clause-all g c =
+pub returns-clause-prints_all : goal.returns-clause-whole_length
+returns-clause-prints_all g c =
     let printed = c.in_ok-print_ready.ensures in
     let (more, gives) = c.skip_ready.ensures in
     prints_all c.args.told c.args.collector.now c.print_ready.new.collector c.args.feed.now c.print_ready.new.feed c.args.counts.now c.print_ready.new.counts

@@ -9,7 +9,7 @@ pub items-init : goal.items-init
 items-init g c = (none_printed c.args.collector.now c.args.feed.now c.args.counts.now (g.O.Sink.known c.args.out.now), c.requires.fed)
 
 pub is_full-requires : goal.is_full-requires
-is_full-requires g c = full_fits c.args.told c.items.collector.next c.items.feed c.items.counts c.requires.few c.items.invariant.1
+is_full-requires g c = full_fits c.args.told c.items.collector.next c.items.feed c.items.counts c.requires.within_limit c.items.invariant.1
 
 pub items-preserved : goal.items-preserved
 items-preserved g c =

@@ -1,5 +1,5 @@
 use Rattle.std.proofs.Common.{◌∙◌, [], ◌∷◌, ◌++◌, refl, sym, subst}
-use Rattle.dcp_collect.specs.Runs.{Gives}
+use Rattle.dcp_collect.specs.Runs.{CollectorGives}
 use Rattle.dcp_collect.specs.View.{item_of}
 use Rattle.law_collect.specs.Laws.{Given}
 use Rattle.law_collect.proofs.Runs.{given_more, given_all}
@@ -19,4 +19,4 @@ pub returns : goal.returns
 returns c =
     let (items, given) = c.past.invariant in
     let none = c.in_default.ensures.out in
-    (items, subst (λ d. Gives c.args.collector.now items d) (sym (c.next.follows.holds-at-none ∙ rw none refl)) (given_all items c.args.collector.now c.past.collector given none))
+    (items, subst (λ d. CollectorGives c.args.collector.now items d) (sym (c.next.follows.holds-at-none ∙ rw none refl)) (given_all items c.args.collector.now c.past.collector given none))

@@ -32,7 +32,7 @@ loop-preserved g c =
       bits =
           c.take_u8-n.ensures.rest
           ∙ (ap (drop 4) c.loop.invariant.bits ∙ (drop-drop 4 (4 * c.loop.counter) c.args.bits.now ∙ ap (λ k. drop k c.args.bits.now) four));
-      left = omega (arith, c.loop.invariant.left, c.take_u8-n.ensures.left);
+      left = omega (arith, c.loop.invariant.left, c.take_u8-n.ensures.remaining);
       written =
           Writes-more all (c.digit.result ∷ []) rest a b (g.O.Sink.known c.write_all.new.out) c.write_all.result _
           (subst (λ l. Outputs a b (λ text. text ++ l ≡ all)) next c.loop.invariant.written) c.in_ok-write_all.was c.write_all.ensures;

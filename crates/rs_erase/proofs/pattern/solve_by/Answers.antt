@@ -1,7 +1,7 @@
 use Rattle.std.proofs.Common.{All, List, ℕ, ◌≡◌, ◌-◌, drop, length, take, ◌∙◌, sym, subst, refl, arith, rules}
 use Rattle.std.proofs.lemmas.List.{length-drop, length-take-le, take_all}
 use Rattle.rs_erase.specs.Code.{HasCodeWord}
-use Rattle.rs_erase.specs.Equations.{Solves, locators_of}
+use Rattle.rs_erase.specs.Equations.{ValuesSolve, locators_of}
 use Rattle.rs_erase.specs.Prepared.{IsFoundOf}
 use Rattle.rs_erase.specs.Rows.{listed}
 use Rattle.rs_erase.proofs.Elements.{elements_of}
@@ -64,8 +64,8 @@ returns c =
     let zeros : All (λ a. a ≡ 0) (drop (length xs) row) =
     subst (λ (k : ℕ). All (λ a. a ≡ 0) (drop k row)) (sym lx)
     (subst (λ (zs : List ℕ). All (λ a. a ≡ 0) zs) whole_rest (c.if-not-are_zero.ensures.0 refl)) in
-    let solves : Solves xs (take p.count row) s =
-    subst (λ (k : ℕ). Solves xs (take k row) s) lx
+    let solves : ValuesSolve xs (take p.count row) s =
+    subst (λ (k : ℕ). ValuesSolve xs (take k row) s) lx
     (found_solve xs s row (are_locators 0 es rise) (value_of_elements w s hw c.found_by.ensures.long sy.each) c.to_bytes-found.ensures.elements
     c.found_by.ensures.long (omega arith) found zeros) in
     let inside =

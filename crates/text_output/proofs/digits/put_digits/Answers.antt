@@ -16,7 +16,7 @@ loop-i-preserved c =
     let i : ℕ = c.loop-i.i in
     let bytes : List ℕ = c.args.bytes.now in
     record {
-      long = omega (arith, c.put_sixteen.ensures.long, c.loop-i.invariant.long);
+      long = omega (arith, c.put_sixteen.ensures.same_length, c.loop-i.invariant.long);
       put =
           ap (λ (n : ℕ). take n c.put_sixteen.new.digits) (let e : 32 * (i + 1) ≡ 2 * (16 * i) + 32 = omega arith in e)
           ∙ (c.put_sixteen.ensures.put

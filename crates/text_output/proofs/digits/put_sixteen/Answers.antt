@@ -9,5 +9,5 @@ returns-clause-put c =
     let at : ℕ = c.args.at in
     let old : List ℕ = c.args.digits.now in
     ap (take (2 * at + 32)) (c.write_lanes-2.ensures ∙ ap (λ (l : List ℕ). put_chunk (2 * at + 16) l c.digits_of.result.1) c.write_lanes.ensures)
-    ∙ (two_written at old c.digits_of.result.0 c.digits_of.result.1 c.digits_of.ensures.long.0 c.digits_of.ensures.long.1 (omega (arith, c.requires.within, c.requires.room))
+    ∙ (two_written at old c.digits_of.result.0 c.digits_of.result.1 c.digits_of.ensures.length.0 c.digits_of.ensures.length.1 (omega (arith, c.requires.within, c.requires.room))
     ∙ ap (λ l. take (2 * at) old ++ l) (c.digits_of.ensures.digits ∙ ap encode_lower c.lanes_from-lanes.ensures))

@@ -6,12 +6,12 @@ use Rattle.dcp_sender.specs.Targets.{target}
 use Rattle.dcp_sender.proofs.OverLinks.{small_enough, over_carry, few_datagrams}
 use Rattle.dcp_sender.proofs.sender.PacketSender.send.Goals as goal
 
-pub cut_for-cut-requires-clause-small : goal.cut_for-cut-requires-clause-small
-cut_for-cut-requires-clause-small g c =
-    small_enough c.self.inside.carry (length c.args.packet.now) (subst (λ (k : Carry). is_large k (length c.args.packet.now) ≡ false) (sym c.self.view_is) c.requires.small)
+pub cut_for-cut-requires-clause-in_range : goal.cut_for-cut-requires-clause-in_range
+cut_for-cut-requires-clause-in_range g c =
+    small_enough c.self.inside.carry (length c.args.packet.now) (subst (λ (k : Carry). is_large k (length c.args.packet.now) ≡ false) (sym c.self.view_is) c.requires.in_range)
 
-pub returns-clause-few : goal.returns-clause-few
-returns-clause-few g c =
+pub returns-clause-within_limit : goal.returns-clause-within_limit
+returns-clause-within_limit g c =
     few_datagrams c.all_taken.ensures c.self.inside.carry (length c.args.packet.now) c.from.result c.cut_for-cut.result (sym c.cut_for-cut.ensures.cut) c.cut_for-cut.ensures.shape
     (c.from.ensures ∙ c.datagrams.ensures c.self.inside.carry (length c.args.packet.now) c.cut_for-cut.ensures.cut)
 

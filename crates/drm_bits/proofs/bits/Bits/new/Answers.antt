@@ -4,8 +4,8 @@ use Rattle.drm_bits.specs.Bits.{bits_of}
 use Rattle.drm_bits.proofs.BitsLemmas.{length-bits_of}
 use Rattle.drm_bits.proofs.bits.Bits.new.Goals as goal
 
-pub returns-clause-left : goal.returns-clause-left
-returns-clause-left c = length-take-le c.args.bits (bits_of c.args.bytes.now) (omega (arith, length-bits_of c.args.bytes.now, c.requires))
+pub returns-clause-remaining : goal.returns-clause-remaining
+returns-clause-remaining c = length-take-le c.args.bits (bits_of c.args.bytes.now) (omega (arith, length-bits_of c.args.bytes.now, c.requires))
 
 pub returns-clause-whole : goal.returns-clause-whole
 returns-clause-whole c = λ whole. take_all c.args.bits (bits_of c.args.bytes.now) (omega (arith, length-bits_of c.args.bytes.now, whole))

@@ -40,13 +40,13 @@ loop-k-init c =
 pub loop-k-preserved : goal.loop-k-preserved
 loop-k-preserved c =
     let k : ℕ = c.loop-k.k in
-    let within : k < length c.loop-k.parts = omega (arith, c.loop-k.invariant.size, c.loop-k-test.true, c.from-k-end.ensures, c.requires.few) in
+    let within : k < length c.loop-k.parts = omega (arith, c.loop-k.invariant.size, c.loop-k-test.true, c.from-k-end.ensures, c.requires.within_limit) in
     let below : k < 4 = omega (arith, c.loop-k.invariant.size) in
     record {
       size = length-set c.loop-k.parts k c.read_part.result ∙ c.loop-k.invariant.size;
       parts = step c.loop-k.parts c.loop-k.bits c.read_part.new.bits c.read_part.result k c.from-k-end.result within c.loop-k-test.true c.read_part.ensures.part c.read_part.ensures.rest ∙ c.loop-k.invariant.parts;
       rest = left c.loop-k.parts c.read_part.result k 4 below c.loop-k.invariant.rest;
-      left = omega (arith, c.loop-k.invariant.left, c.read_part.ensures.left);
+      left = omega (arith, c.loop-k.invariant.left, c.read_part.ensures.remaining);
       fits = All-set (λ (p : Part). (p.a < 2 ^ 12) × (p.b < 2 ^ 12)) c.loop-k.parts k c.read_part.result c.read_part.ensures.fits c.loop-k.invariant.fits;
     }
 
@@ -76,4 +76,4 @@ returns-clause-is c = read c
 pub returns-clause-fields : goal.returns-clause-fields
 returns-clause-fields c = λ size.
     let P : MuxDesc → Type 0 = λ d. AreFields (description_fields d) c.args.bits.now in
-    subst P (sym (read c)) (description_made c.args.count c.args.bits.now c.requires.few size)
+    subst P (sym (read c)) (description_made c.args.count c.args.bits.now c.requires.within_limit size)

@@ -18,8 +18,8 @@ returns-clause-len c =
     let given : Given = only_at s.frame (take s.piece_len s.piece.items) in
     rw (← c.self.view_is) (size c ∙ c.self.invariant.5 ∙ sym (same_packet_size s.live given s.plan.now s.frame))
 
-pub returns-clause-small : goal.returns-clause-small
-returns-clause-small c =
+pub returns-clause-in_range : goal.returns-clause-in_range
+returns-clause-in_range c =
     let s = c.self.inside in
     let given : Given = only_at s.frame (take s.piece_len s.piece.items) in
     rw (← c.self.view_is) (omega (arith, size c, c.self.invariant.10, ap most_packet (same_carry s.live given s.plan.now)))

@@ -48,14 +48,14 @@ write_front-requires c =
     let room = subst (λ (s : Serving). most_packet s.plan.carry ≤ length c.args.into.now) (sym c.self.view_is) c.requires.room in
     omega (arith, room, ap (λ l. length (take s.len l)) c.deref.ensures.value, long, v.10, ap most_packet (same_carry s.live given s.plan.now))
 
-pub returns-in-Some-clause-small : goal.returns-in-Some-clause-small
-returns-in-Some-clause-small c =
+pub returns-in-Some-clause-in_range : goal.returns-in-Some-clause-in_range
+returns-in-Some-clause-in_range c =
     let s = c.self.inside in
     let given : Given = only_at s.frame (take s.piece_len s.piece.items) in
-    rw (← c.self.view_is) (omega (arith, c.write_cut.ensures.small, (limit_is (live_schedule s.live given s.plan.now).carry).0))
+    rw (← c.self.view_is) (omega (arith, c.write_cut.ensures.in_range, (limit_is (live_schedule s.live given s.plan.now).carry).0))
 
-pub returns-in-None-clause-small : goal.returns-in-None-clause-small
-returns-in-None-clause-small c =
+pub returns-in-None-clause-in_range : goal.returns-in-None-clause-in_range
+returns-in-None-clause-in_range c =
     let s = c.self.inside in
     let v = c.self.invariant in
     let given : Given = only_at s.frame (take s.piece_len s.piece.items) in

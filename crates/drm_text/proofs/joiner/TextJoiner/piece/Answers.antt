@@ -1,5 +1,5 @@
 use Rattle.std.proofs.Common.{ℕ, List, take, Some, None, refl}
-use Rattle.drm_text.specs.Joining.{Gives}
+use Rattle.drm_text.specs.Joining.{GivesMessage}
 use Rattle.drm_text.specs.Rooms.{front_of}
 use Rattle.drm_text.specs.Taking.{text_of}
 use Rattle.drm_text.proofs.Joinings.{full_leaves, full_tells, gives_text}
@@ -9,7 +9,7 @@ pub returns-in-Some : goal.returns-in-Some
 returns-in-Some c =
     let text : List ℕ = c.take_segment.new.message.text in
     let bytes : List ℕ = take c.in-Full.len c.take.new.self.bytes in
-    let gives : Gives (front_of text (Some c.in-Some.len)) (text_of c.as_text.result) =
+    let gives : GivesMessage (front_of text (Some c.in-Some.len)) (text_of c.as_text.result) =
     gives_text (take c.in-Some.len text) c.front.result.now c.as_text.result c.front.ensures c.as_text.ensures.utf8 c.as_text.ensures.text in (
       (
         refl,

@@ -20,8 +20,8 @@ pub returns-in-Deliver-clause-steps : goal.returns-in-Deliver-clause-steps
 returns-in-Deliver-clause-steps c = λ form read.
     adds c.args.plan.now c.args.self.now c.add.new.self c.args.n c.in-Deliver.delivers form c.add.result c.requires.counted
     (read_is c.args.plan.now form c.args.line c.in-Ok.line (lines.Deliver c.in-Deliver.delivers) read c.in-Ok.is c.in-Deliver.is)
-    (record { without = c.add.ensures.none; within = c.add.ensures.some })
+    (record { without = c.add.ensures.none; within = c.add.ensures.open })
 
 pub returns-in-Deliver-clause-counted : goal.returns-in-Deliver-clause-counted
 returns-in-Deliver-clause-counted c =
-    adds_counted c.args.plan.now c.args.self.now c.add.new.self c.args.n c.in-Deliver.delivers c.add.result c.requires.counted (record { without = c.add.ensures.none; within = c.add.ensures.some })
+    adds_counted c.args.plan.now c.args.self.now c.add.new.self c.args.n c.in-Deliver.delivers c.add.result c.requires.counted (record { without = c.add.ensures.none; within = c.add.ensures.open })

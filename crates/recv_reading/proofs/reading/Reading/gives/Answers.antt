@@ -14,4 +14,4 @@ pub returns-clause-less : goal.returns-clause-less
 returns-clause-less c = λ given.
     let (options, answers, taken, during, more, z) = c.requires.reached in
     subst (λ s. ahead s (after_item c.args.collector.now) < ahead c.args.self.now c.args.collector.now) (sym (ap one_given c.self.view_is))
-    (less_given options answers taken during more c.args.self.now c.args.collector.now z (c.ready.ensures.small c.if-not-ready.false))
+    (less_given options answers taken during more c.args.self.now c.args.collector.now z (c.ready.ensures.in_range c.if-not-ready.false))

@@ -4,7 +4,7 @@ use Rattle.law_collect.proofs.Fit.{fit_taken}
 use Rattle.recv_reading.proofs.Reaching.{takes_next, takes_end}
 use Rattle.report_text.specs.Tallies.{Tallied, items_in}
 use Rattle.report_text.proofs.TakenLemmas.{noted_items}
-use Rattle.report_journal.specs.Journal.{JournalState, entry_of, datagrams, IsKept, Enters}
+use Rattle.report_journal.specs.Journal.{JournalState, entry_of, datagrams, IsKept, JournalEnters}
 use Rattle.report_journal.proofs.Keeping.{refused_few, has_fed, as_many, entered, enters, goes_on}
 use Rattle.report_journal.proofs.journal.Journal.enter.Goals as goal
 
@@ -56,5 +56,5 @@ returns-clause-took c =
     let after = enters j.settings es (map entry_of c.push_entry.new.entries.items) c.args.path c.args.datagram.now j.collector c.take-taken.new.self w.collector j.feed w.feed j.counts c.note.new.self w.counts j.text.items w.text.items c.take-taken.result c.len-number.result
     (c.self.invariant.kept.whole c.if-self.false) c.in-Ok.ensures.pushed number c.take-taken.ensures.takes c.note.ensures r c.write_ready-written.ensures.written c.write_ready-written.ensures.none c.write_ready-written.ensures.first in
     let was : before ≡ c.args.self.now = ap (λ b. record before { stopped = b }) (sym c.if-self.false) ∙ c.self.view_is in
-    subst (λ (x : JournalState). Enters x (c.args.path, c.args.datagram.now) c.take-taken.result s) was
-    (subst (λ b. Enters before (c.args.path, c.args.datagram.now) c.take-taken.result (record s { stopped = b })) (sym c.is_err-self-inside.ensures.value) after)
+    subst (λ (x : JournalState). JournalEnters x (c.args.path, c.args.datagram.now) c.take-taken.result s) was
+    (subst (λ b. JournalEnters before (c.args.path, c.args.datagram.now) c.take-taken.result (record s { stopped = b })) (sym c.is_err-self-inside.ensures.value) after)
