@@ -24,7 +24,7 @@ returns-in-Ok-clause-step g c = λ plan first start has within at before.
     let s = c.in-Ok.ensures in
     subst Q (sym c.if-member.true)
     (one_more_frame plan first pace n start b m a so_far (record { none = r.none; waits = r.waits; counted = r.rests; calls = r.calls; same = r.cause }) sent
-    (record { whole = subst F at (same_sent server plan has sent m a s.whole); waited = s.waits; some = s.some; counted = s.counted; same = s.cause.same (λ failed. cc); calls = s.calls }))
+    (record { whole = subst F at (same_sent server plan has sent m a s.whole); waited = s.waits; some = s.at_least_one; counted = s.counted; same = s.cause.same (λ failed. cc); calls = s.calls }))
 
 pub returns-in-Err-clause-step : goal.returns-in-Err-clause-step
 returns-in-Err-clause-step g c = λ plan first start has within at before.

@@ -34,8 +34,8 @@ loop-k-preserved-then-has c =
     let all = written c.args.writer.now ++ left_with live c.args.frame 0 c.args.piece.now streams in
     rw w.rest (
       live_written live c.args.frame streams k s c.loop-k-test.true c.index-streams-k.is left (written c.loop-k.writer) (written c.write_live-left.new.writer) all lives (stream_length c.args.frame s long) i.0 w.written,
-      omega (arith, items, same, w.left, i.1),
-      omega (arith, items, same, w.left, i.2),
+      omega (arith, items, same, w.remaining, i.1),
+      omega (arith, items, same, w.remaining, i.2),
       omega (arith, w.next, i.3, i.4),
       omega (arith, w.next),
       w.same_reference ∙ i.5,

@@ -20,7 +20,7 @@ returns-in-Some c =
     let inside : j < length xs = c.in-Some.ensures.within in
     let is : get_or xs j 0 ≡ y = c.in-Some.ensures.found ∙ c.power-locator.ensures in
     let r = c.row_with_one.ensures in
-    symbol_erased xs (listed c.row_with_one.result) y j (power-lt (47 - c.args.p)) few inside is r.long r.one r.others
+    symbol_erased xs (listed c.row_with_one.result) y j (power-lt (47 - c.args.p)) few inside is r.length r.one r.others
 
 pub returns-in-None : goal.returns-in-None
 returns-in-None c =

@@ -26,8 +26,8 @@ send_packet-requires g c =
     record {
       shaped = rw (is, long) v.7;
       stands = rw (is, c.deref-2.ensures.value) v.9;
-      all = rw c.deref-2.ensures.value v.8;
-      small = rw (is, long) (omega (arith, v.2));
+      whole_length = rw c.deref-2.ensures.value v.8;
+      in_range = rw (is, long) (omega (arith, v.2));
       room = omega (arith, room, limit.0);
     }
 

@@ -12,7 +12,7 @@ returns-then-is_whole c = (
   record {
     after = tt;
     datagram = rw (← c.self.view_is) (c.is_whole.ensures c.if-is_whole.true c.packet.result.now c.args.i c.packet.ensures.packet (subst (Within c.args.i) (sym c.self.view_is) c.requires.within));
-    small = rw (← c.self.view_is) c.packet.ensures.in_range;
+    in_range = rw (← c.self.view_is) c.packet.ensures.in_range;
     within = c.packet.ensures.within;
   },
 )
