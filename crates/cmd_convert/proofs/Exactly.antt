@@ -6,7 +6,7 @@ use Rattle.std.proofs.lemmas.Bool.{true≢false, cases_lt}
 use Rattle.std.proofs.lemmas.List.{append-nil}
 use Rattle.dcp_af.proofs.Answered.{no_fault}
 use Rattle.dcp_pft.specs.declared.carry.Carry.{Carry}
-use Rattle.recv_reading.proofs.Common.{State, made, Taken, Item, Packet, Lost, Damaged, Takes, Steps, Known, Input, Inputs}
+use Rattle.recv_reading.proofs.Common.{State, made, Taken, Item, Packet, Lost, Damaged, CollectorTakes, CollectorSteps, Known, Input, Inputs}
 use Rattle.recv_reading.proofs.Common.{Output, first_of}
 use Rattle.drm_links.specs.Told.{HasCause}
 use Rattle.drm_links.proofs.ToldLemmas.{counts_none, Inputs-nothing, Inputs-weaker}
@@ -113,7 +113,7 @@ module _ (one_way : ReadOneWay) (some_way : ReadSomeWay) (in_front : PacketsInFr
           not_among carry items item is.items number (all_small carry (first_of is.run.mid) is.items parts is.converts) cut large
 
       -- where it comes behind a packet, and more of them are converted
-      not_behind : (bytes : List ℕ) (answer : Taken) → leads.at.later ≡ bytes ∷ [] → Takes leads.at.mid bytes answer leads.at.state
+      not_behind : (bytes : List ℕ) (answer : Taken) → leads.at.later ≡ bytes ∷ [] → CollectorTakes leads.at.mid bytes answer leads.at.state
           → (packets later : List (List ℕ)) (parts : List Part) → packets ≡ leads.packets ++ later → IsConversion terms carry packets parts → ⊥
       not_behind bytes answer later_is takes packets later parts are is =
           not_given packets parts is
@@ -153,7 +153,7 @@ module _ (one_way : ReadOneWay) (some_way : ReadSomeWay) (in_front : PacketsInFr
               let same : packets ≡ leads.packets = (one_way left packets leads.packets End End of (all_of_it leads.at.later leads.packets none leads.are)).0 in
               not_given packets parts is
               (finished_starts terms leads.packets items item last leads.at none finished is.taken is.run.during is.run.rest is.run.mid is.run.after
-              (subst (λ l. Steps new l is.taken is.run.during is.run.mid) same is.run.steps) is.run.gives)
+              (subst (λ l. CollectorSteps new l is.taken is.run.during is.run.mid) same is.run.steps) is.run.gives)
 
       not_broken : (packets : List (List ℕ)) (parts : List Part) (why : Ending) → IsCaptureOf left packets why → (why ≡ End → ⊥) → IsBroken terms carry packets parts → ⊥
       not_broken packets parts why of faulty is = by leads.at.comes

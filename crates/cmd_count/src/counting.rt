@@ -26,7 +26,7 @@ pub(crate) fn count_all<F, R: Datagrams<F>>(
     requires nothing_came { R.so_far from.old room.old from.old [] }
     ensures counted { IfOk result (Counted options.now (R.so_far from.old room.new from.new)) }
     ensures broken { IfErr result (λ fault. Broken options.now 1 (R.until from.old fault from.new) (unseen tt) (unseen tt)) }
-    ensures cause { told.Counts (R.faults from.old) (R.faults from.new) (IsReadFailed result) }
+    ensures cause { told.RisesWhere (R.faults from.old) (R.faults from.new) (IsReadFailed result) }
 {
     let mut reading = Reading::new(options.bounds());
     let mut feed = Feed::new();

@@ -2,7 +2,7 @@
 use Rattle.std.proofs.Common.{◌≡◌, ℕ, List, [], ◌∷◌, ◌++◌, Option, Some, sym, subst, ap, ap₂, ◌∙◌, refl, inl, inr, arith, append_assoc, length-append, IfSome}
 use Rattle.std.proofs.lemmas.List.{append-nil}
 use Rattle.std.proofs.lemmas.List.Elements.{filter_map-append}
-use Rattle.recv_reading.proofs.Common.{Answer, Datagram, datagram_of, Taken, State, made, after_finish, Item, Takes, Gives, Steps}
+use Rattle.recv_reading.proofs.Common.{Answer, Datagram, datagram_of, Taken, State, made, after_finish, Item, CollectorTakes, CollectorGives, CollectorSteps}
 use Rattle.recv_reading.proofs.Common.{up_to, datagrams, GoesOn, EndsBy, MayBeFirst, first_of}
 use Rattle.recv_reading.specs.declared.reason.EndWord.{EndWord}
 use Rattle.recv_reading.specs.declared.options.ReceiveOptions.{ReceiveOptions}
@@ -68,7 +68,7 @@ no_more one rules answers more word ending goes_on ends other =
 
 -- ---- the first sequence number
 
-may_steps : (c d : State) (ds : List (List ℕ)) (taken : List Taken) (items : List Item) (first : ℕ) → Steps c ds taken items d → MayBeFirst d first → MayBeFirst c first
+may_steps : (c d : State) (ds : List (List ℕ)) (taken : List Taken) (items : List Item) (first : ℕ) → CollectorSteps c ds taken items d → MayBeFirst d first → MayBeFirst c first
 may_steps c d [] [] items first steps may = subst (λ (s : State). MayBeFirst s first) steps.1 may
 may_steps c d [] (a ∷ taken) items first steps may = absurd steps
 may_steps c d (b ∷ ds) [] items first steps may = absurd steps
@@ -102,14 +102,14 @@ module _ (rules : ReceiveOptions) (carry : Carry) (answers : List Answer) (sent 
         front_of carry first before o.items s.item s.fates fates s.datagrams sent items (s.become first may) (s.begins first may) s.sent_is o.become
 
     -- behind a datagram that was taken
-    taken_case : (bytes : List ℕ) (answer : Taken) → s.later ≡ Datagram bytes ∷ [] → Takes s.mid bytes answer s.state → IsFrontOf (sent_of fates) sent
+    taken_case : (bytes : List ℕ) (answer : Taken) → s.later ≡ Datagram bytes ∷ [] → CollectorTakes s.mid bytes answer s.state → IsFrontOf (sent_of fates) sent
     unfolding comes_at
     taken_case bytes answer is takes =
         let all : datagrams (answers ++ more) ≡ datagrams answers ++ datagrams more = of_answers answers more in
         let begins : Starts before s.item o.run.during =
         taken_starts (terms_of rules) (datagrams answers) before s.item s.last comes_at bytes answer (ap datagrams is) takes (datagrams (answers ++ more)) (datagrams more) o.taken o.run.during o.run.mid all o.run.steps in
         let (mid, replies, more_replies, now, then_given, front, back, are_answers, are_given) =
-        steps_part new o.run.mid (datagrams answers) (datagrams more) o.taken o.run.during (subst (λ (l : List (List ℕ)). Steps new l o.taken o.run.during o.run.mid) all o.run.steps) in
+        steps_part new o.run.mid (datagrams answers) (datagrams more) o.taken o.run.during (subst (λ (l : List (List ℕ)). CollectorSteps new l o.taken o.run.during o.run.mid) all o.run.steps) in
         let known : mid.first ≡ s.last.first = taken_first (terms_of rules) (datagrams answers) before s.item s.last comes_at bytes answer (ap datagrams is) takes replies now mid front in
         let may : MayBeFirst mid first = may_steps mid o.run.mid (datagrams more) more_replies then_given first back (first_itself o.run.mid) in
         among (starts_more before s.item o.run.during o.run.rest begins) (subst (λ (v : Option ℕ). IfSome v (λ n. n ≡ first)) known may)
@@ -118,12 +118,12 @@ module _ (rules : ReceiveOptions) (carry : Carry) (answers : List Answer) (sent 
     finished_case : s.later ≡ [] → s.state ≡ after_finish s.mid rules.frames → answers ++ more ≡ answers → IsFrontOf (sent_of fates) sent
     unfolding comes_at
     finished_case none is same =
-        let steps : Steps new (datagrams answers) o.taken o.run.during o.run.mid = subst (λ (l : List Answer). Steps new (datagrams l) o.taken o.run.during o.run.mid) same o.run.steps in
+        let steps : CollectorSteps new (datagrams answers) o.taken o.run.during o.run.mid = subst (λ (l : List Answer). CollectorSteps new (datagrams l) o.taken o.run.during o.run.mid) same o.run.steps in
         let begins : Starts before s.item (o.run.during ++ o.run.rest) =
         finished_starts (terms_of rules) (datagrams answers) before s.item s.last comes_at (ap datagrams none) is o.taken o.run.during o.run.rest o.run.mid o.run.after steps o.run.gives in
         let all : datagrams answers ≡ datagrams s.before = ap datagrams (s.are ∙ (ap (λ l. s.before ++ l) none ∙ append-nil s.before)) in
         let mids : o.run.mid ≡ s.mid =
-        (one_way new s.mid o.run.mid (datagrams s.before) s.taken o.taken s.during o.run.during s.gave (subst (λ (l : List (List ℕ)). Steps new l o.taken o.run.during o.run.mid) all steps)).2 in
+        (one_way new s.mid o.run.mid (datagrams s.before) s.taken o.taken s.during o.run.during s.gave (subst (λ (l : List (List ℕ)). CollectorSteps new l o.taken o.run.during o.run.mid) all steps)).2 in
         let known : s.last.first ≡ o.run.mid.first = given_first s.more s.state s.last s.gives ∙ (ap (λ (v : State). v.first) is ∙ sym (ap (λ (v : State). v.first) mids)) in
         among begins (subst (λ (v : Option ℕ). IfSome v (λ n. n ≡ first)) (sym known) (first_itself o.run.mid))
 
@@ -139,7 +139,7 @@ module _ (rules : ReceiveOptions) (carry : Carry) (answers : List Answer) (sent 
 pub one_onward : (rules : ReceiveOptions) (carry : Carry) (ds : List (List ℕ)) (fs gs : List Fate) → IsOnward rules carry ds fs → IsOnward rules carry ds gs → sent_of fs ≡ sent_of gs
 one_onward rules carry ds fs gs a b =
     let steps = one_way (made rules.window rules.reach rules.first) a.run.mid b.run.mid ds a.taken b.taken a.run.during b.run.during a.run.steps b.run.steps in
-    let gives : Gives (after_finish a.run.mid rules.frames) b.run.rest b.run.after = subst (λ (s : State). Gives (after_finish s rules.frames) b.run.rest b.run.after) steps.2 b.run.gives in
+    let gives : CollectorGives (after_finish a.run.mid rules.frames) b.run.rest b.run.after = subst (λ (s : State). CollectorGives (after_finish s rules.frames) b.run.rest b.run.after) steps.2 b.run.gives in
     let rest = one_giving one_decoding (after_finish a.run.mid rules.frames) a.run.after b.run.after a.run.rest b.run.rest a.run.gives gives in
     let items : b.items ≡ a.items = b.run.are ∙ (ap₂ (λ x y. up_to rules.frames (x ++ y)) steps.1 rest.0 ∙ sym a.run.are) in
     let become : BecomeAll carry (first_of a.run.mid) b.items gs = subst (λ (s : State). BecomeAll carry (first_of s) b.items gs) steps.2 b.become in

@@ -62,11 +62,11 @@ not_else fault memory write (inl is) = memory is
 not_else fault memory write (inr is) = write is
 
 -- a conversion ends neither by its words nor by a link
-pub not_convert : (terms : Terms) (carry : Carry) (ending : Result Bool Fault) (told : Bool) (a b : Known Input) (x y z w : Known Output) → convert.Ends terms carry ending told a b x y z w → ending ≡ Err faults.Words → ⊥
-not_convert terms carry ending told a b x y z w ends is = let P : Result Bool Fault → Type 0 = λ e. convert.Ends terms carry e told a b x y z w in subst P is ends
+pub not_convert : (terms : Terms) (carry : Carry) (ending : Result Bool Fault) (told : Bool) (a b : Known Input) (x y z w : Known Output) → convert.ConvertEnds terms carry ending told a b x y z w → ending ≡ Err faults.Words → ⊥
+not_convert terms carry ending told a b x y z w ends is = let P : Result Bool Fault → Type 0 = λ e. convert.ConvertEnds terms carry e told a b x y z w in subst P is ends
 
-pub not_a_link : (terms : Terms) (carry : Carry) (ending : Result Bool Fault) (told : Bool) (a b : Known Input) (x y z w : Known Output) → convert.Ends terms carry ending told a b x y z w → ending ≡ Err faults.Link → ⊥
-not_a_link terms carry ending told a b x y z w ends is = let P : Result Bool Fault → Type 0 = λ e. convert.Ends terms carry e told a b x y z w in subst P is ends
+pub not_a_link : (terms : Terms) (carry : Carry) (ending : Result Bool Fault) (told : Bool) (a b : Known Input) (x y z w : Known Output) → convert.ConvertEnds terms carry ending told a b x y z w → ending ≡ Err faults.Link → ⊥
+not_a_link terms carry ending told a b x y z w ends is = let P : Result Bool Fault → Type 0 = λ e. convert.ConvertEnds terms carry e told a b x y z w in subst P is ends
 
 -- a gateway ends for want of memory, by a failed link or by a failed write
 pub not_gate : (fault : Fault) → (fault ≡ faults.NoMemory → ⊥) → (fault ≡ faults.Link → ⊥) → (fault ≡ faults.Write → ⊥)

@@ -3,7 +3,7 @@ use Rattle.std.proofs.Common.{◌≡◌, ℕ, ◌+◌, ◌^◌, ◌<◌, ◌≤�
 use Rattle.std.proofs.lemmas.Bool.{true≢false}
 use Rattle.std.proofs.lemmas.Bool.Decides.{nat_tests}
 use Rattle.std.proofs.lemmas.List.{append-nil, take_all, take_at}
-use Rattle.recv_reading.proofs.Common.{Answer, Datagram, Taken, State, made, ready, after_finish, Item, Gives, Run, up_to, IsFit}
+use Rattle.recv_reading.proofs.Common.{Answer, Datagram, Taken, State, made, ready, after_finish, Item, CollectorGives, Run, up_to, IsFit}
 use Rattle.recv_reading.proofs.Common.{Given, ReceiveOptions, EndWord, datagrams, Gave, HasGiven, IsFinished, ReadingState}
 use Rattle.recv_reading.proofs.Common.{is_full, has_enough, has_ended, word_of, Reached, Waits}
 use Rattle.dcp_collect.proofs.Decoded.{decoded_or_none}
@@ -99,7 +99,7 @@ module _ (options : ReceiveOptions) (answers : List Answer) (taken : List Taken)
   full_of h = full_is options answers taken during more r c z ∙ h
 
   -- what is left is given to its end, and it is no more than is asked for
-  left : IsOver r c → (rest : List Item) × (last : State) × Gives c rest last × (up_to options.frames (items ++ rest) ≡ items)
+  left : IsOver r c → (rest : List Item) × (last : State) × CollectorGives c rest last × (up_to options.frames (items ++ rest) ≡ items)
   left (inl enough) =
       let more = giving c z.fit.0 z.fit.1 in
       (more.0, more.1, more.2, up_to_full options.frames items more.0 below (full_of enough))

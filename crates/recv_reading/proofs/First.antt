@@ -1,6 +1,6 @@
 -- What is known of the first sequence number stays.
 use Rattle.std.proofs.Common.{◌≡◌, ℕ, true, List, [], ◌∷◌, Option, None, Some, sym, subst, ap, refl, IfSome, unwrap_or, ◌==◌, not, filter}
-use Rattle.recv_reading.proofs.Common.{Taken, State, after_item, Item, Packet, IsItem, Takes, Given, MayBeFirst, KnowsFirst}
+use Rattle.recv_reading.proofs.Common.{Taken, State, after_item, Item, Packet, IsItem, CollectorTakes, Given, MayBeFirst, KnowsFirst}
 use Rattle.recv_reading.proofs.Common.{first_of}
 use Rattle.dcp_collect.specs.Fragments.{Fragment, suffice, of_packet}
 use Rattle.dcp_collect.specs.Reading.{Incoming, Read, Unread, Brings}
@@ -18,7 +18,7 @@ may_read : (c : State) (read : Read) (first : ℕ) → MayBeFirst (after_take c 
 may_read c (Unread field) first may = may
 may_read c (Brings incoming) first may = may_by c incoming 0 c.first refl first may
 
-pub may_taken : (c k : State) (bytes : List ℕ) (a : Taken) (first : ℕ) → Takes c bytes a k → MayBeFirst k first → MayBeFirst c first
+pub may_taken : (c k : State) (bytes : List ℕ) (a : Taken) (first : ℕ) → CollectorTakes c bytes a k → MayBeFirst k first → MayBeFirst c first
 may_taken c k bytes a first takes may = may_read c takes.read first (subst (λ (s : State). MayBeFirst s first) takes.after_is may)
 
 knows_read : (c : State) (read : Read) → KnowsFirst c → KnowsFirst (after_take c read)
@@ -27,7 +27,7 @@ knows_read c (Brings incoming) knows =
     after_by KnowsFirst c (number_of c incoming) incoming (answer c (Brings incoming)) knows
     (λ m e. absurd (let clash : Some (unwrap_or c.first incoming.sequence) ≡ None = e in cc))
 
-pub knows_taken : (c k : State) (bytes : List ℕ) (a : Taken) → Takes c bytes a k → KnowsFirst c → KnowsFirst k
+pub knows_taken : (c k : State) (bytes : List ℕ) (a : Taken) → CollectorTakes c bytes a k → KnowsFirst c → KnowsFirst k
 knows_taken c k bytes a takes knows = subst KnowsFirst (sym takes.after_is) (knows_read c takes.read knows)
 
 pub knows_item : (c : State) → KnowsFirst c → KnowsFirst (after_item c)

@@ -2,7 +2,7 @@
 use Rattle.std.proofs.Common.{◌≡◌, ℕ, ◌<◌, List, [], ◌∷◌, ◌++◌, length, Option, None, Some, refl, sym, ◌∙◌, ap, subst, arith}
 use Rattle.std.proofs.lemmas.List.{append-nil}
 use Rattle.std.proofs.lemmas.List.Elements.{filter_map-append}
-use Rattle.recv_reading.proofs.Common.{Answer, Datagram, Idle, End, datagram_of, Taken, State, made, Item, Takes, Gives, Steps}
+use Rattle.recv_reading.proofs.Common.{Answer, Datagram, Idle, End, datagram_of, Taken, State, made, Item, CollectorTakes, CollectorGives, CollectorSteps}
 use Rattle.recv_reading.proofs.Common.{ReceiveOptions, datagrams, Gave, HasGiven}
 use Rattle.law_collect.specs.Laws.{OneRun}
 use Rattle.law_collect.proofs.Runs.{steps_more}
@@ -11,19 +11,19 @@ pub gave_none : (rules : ReceiveOptions) → Gave rules [] [] [] (made rules.win
 gave_none rules = (refl, refl)
 
 pub gave_datagram : (rules : ReceiveOptions) (xs : List Answer) (taken : List Taken) (items now : List Item) (c kept d : State) (bytes : List ℕ) (answer : Taken)
-    → Gave rules xs taken items c → Takes c bytes answer kept → Gives kept now d
+    → Gave rules xs taken items c → CollectorTakes c bytes answer kept → CollectorGives kept now d
     → Gave rules (xs ++ Datagram bytes ∷ []) (taken ++ answer ∷ []) (items ++ now) d
 gave_datagram rules xs taken items now c kept d bytes answer gave takes gives =
-    subst (λ v. Steps (made rules.window rules.reach rules.first) v (taken ++ answer ∷ []) (items ++ now) d) (sym (filter_map-append datagram_of xs (Datagram bytes ∷ [])))
+    subst (λ v. CollectorSteps (made rules.window rules.reach rules.first) v (taken ++ answer ∷ []) (items ++ now) d) (sym (filter_map-append datagram_of xs (Datagram bytes ∷ [])))
     (steps_more (datagrams xs) taken items now (made rules.window rules.reach rules.first) c kept d bytes answer gave takes gives)
 
 pub gave_idle : (rules : ReceiveOptions) (xs : List Answer) (taken : List Taken) (items : List Item) (c : State) → Gave rules xs taken items c → Gave rules (xs ++ Idle ∷ []) taken items c
 gave_idle rules xs taken items c gave =
-    subst (λ v. Steps (made rules.window rules.reach rules.first) v taken items c) (sym (filter_map-append datagram_of xs (Idle ∷ []) ∙ append-nil (datagrams xs))) gave
+    subst (λ v. CollectorSteps (made rules.window rules.reach rules.first) v taken items c) (sym (filter_map-append datagram_of xs (Idle ∷ []) ∙ append-nil (datagrams xs))) gave
 
 pub gave_end : (rules : ReceiveOptions) (xs : List Answer) (taken : List Taken) (items : List Item) (c : State) → Gave rules xs taken items c → Gave rules (xs ++ End ∷ []) taken items c
 gave_end rules xs taken items c gave =
-    subst (λ v. Steps (made rules.window rules.reach rules.first) v taken items c) (sym (filter_map-append datagram_of xs (End ∷ []) ∙ append-nil (datagrams xs))) gave
+    subst (λ v. CollectorSteps (made rules.window rules.reach rules.first) v taken items c) (sym (filter_map-append datagram_of xs (End ∷ []) ∙ append-nil (datagrams xs))) gave
 
 pub none_given : (rules : ReceiveOptions) (answers : List Answer) (told : Option ℕ) (taken : List Taken) (items : List Item) (c : State) → OneRun
     → Gave rules answers taken items c → ((n : ℕ) → told ≡ Some n → length items < n) → HasGiven rules answers told → ⊥
@@ -34,7 +34,7 @@ none_given rules answers (Some n) taken items c one gave few (taken', other, end
     let s : length items ≡ length other = ap length same in
     omega (arith, l, s, enough)
 
-pub steps_many : (c d : State) (ds : List (List ℕ)) (taken : List Taken) (items : List Item) → Steps c ds taken items d → length taken ≡ length ds
+pub steps_many : (c d : State) (ds : List (List ℕ)) (taken : List Taken) (items : List Item) → CollectorSteps c ds taken items d → length taken ≡ length ds
 steps_many c d [] [] items s = refl
 steps_many c d [] (a ∷ taken) items s = absurd s
 steps_many c d (b ∷ ds) [] items s = absurd s

@@ -1,7 +1,7 @@
 -- What a journal keeps, as it grows.
 use Rattle.std.proofs.Common.{◌≡◌, ℕ, zero, suc, ◌+◌, ◌-◌, ◌≤◌, nat_le, min, IfSome, Bool, true, false, if◌then◌else◌, List, [], ◌∷◌, ◌++◌, map, length, take, Option, None, Some, Result, Ok, Err, OnOk, OnErr, is_err, IsTrue, ◌↔◌, refl, sym, ◌∙◌, ap, subst, arith, append_assoc}
 use Rattle.std.proofs.lemmas.List.{append-nil, map-append, length-map, length-take}
-use Rattle.recv_reading.proofs.Common.{Taken, State, made, ready, after_item, after_finish, Item, Takes, up_to, IsFit, Given}
+use Rattle.recv_reading.proofs.Common.{Taken, State, made, ready, after_item, after_finish, Item, CollectorTakes, up_to, IsFit, Given}
 use Rattle.recv_reading.proofs.Common.{is_full}
 use Rattle.recv_reading.specs.declared.reason.EndWord.{EndWord}
 use Rattle.law_collect.proofs.Runs.{steps_more, steps_count, gives_given}
@@ -140,7 +140,7 @@ module _ (by : Settings) (ds : List (List ℕ)) (c : State) (f : TrackerState) (
       is ∙ ap (λ l. l ++ steps_text ss) r.text_is ∙ append_assoc (feed_line 1) (steps_text r.steps) (steps_text ss)
       ∙ ap (λ l. feed_line 1 ++ l) (sym (text_more r.steps ss))
 
-  module _ (bytes : List ℕ) (answer : Taken) (kept : State) (takes : Takes c bytes answer kept) where
+  module _ (bytes : List ℕ) (answer : Taken) (kept : State) (takes : CollectorTakes c bytes answer kept) where
     -- a datagram was taken, and what it made ready was written
     pub so_far_more : (d : State) (g : TrackerState) (u v : Tallied) (after : List ℕ) → u ≡ noted t (length ds) answer
         → WritesAll by.frames kept d f g u v text after → IsReportSoFar by (ds ++ bytes ∷ []) d g v after
@@ -232,7 +232,7 @@ pub as_many : (es : List (ℕ × List ℕ)) → length (datagrams es) ≡ length
 as_many es = length-map es (λ (e : ℕ × List ℕ). e.1)
 
 module _ (by : Settings) (es es' : List (ℕ × List ℕ)) (path : ℕ) (bytes : List ℕ) (c kept d : State) (f g : TrackerState) (t u v : Tallied) (text after : List ℕ) (answer : Taken) (number : ℕ)
-    (r : IsReportSoFar by (datagrams es) c f t text) (more : es' ≡ es ++ (path, bytes) ∷ []) (is : number ≡ length es) (takes : Takes c bytes answer kept) (notes : u ≡ noted t number answer) where
+    (r : IsReportSoFar by (datagrams es) c f t text) (more : es' ≡ es ++ (path, bytes) ∷ []) (is : number ≡ length es) (takes : CollectorTakes c bytes answer kept) (notes : u ≡ noted t number answer) where
   notes_as : u ≡ noted t (length (datagrams es)) answer
   notes_as = notes ∙ ap (λ n. noted t n answer) (is ∙ sym (as_many es))
 

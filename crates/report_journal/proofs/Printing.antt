@@ -3,7 +3,7 @@ use Rattle.std.proofs.Common.{◌≡◌, ℕ, ◌+◌, ◌-◌, ◌^◌, ◌<◌
 use Rattle.std.proofs.lemmas.Bool.{true≢false}
 use Rattle.std.proofs.lemmas.Bool.Decides.{nat_tests}
 use Rattle.std.proofs.lemmas.List.{append-nil, take_all, take_at}
-use Rattle.recv_reading.proofs.Common.{Known, Output, Outputs, State, ready, after_item, Item, Gives, up_to, Given, is_full}
+use Rattle.recv_reading.proofs.Common.{Known, Output, Outputs, State, ready, after_item, Item, CollectorGives, up_to, Given, is_full}
 use Rattle.drm_links.proofs.ToldLemmas.{Outputs-then, Outputs-nothing}
 use Rattle.law_collect.proofs.Runs.{given_more, gives_after, gives_given}
 use Rattle.drm_reconfiguration.specs.Tracker.{TrackerState}
@@ -71,7 +71,7 @@ cut (Some n) m k items more is within (inr none) =
     let w : k ≤ n = within in
     ap (λ l. take (n - m) (items ++ l)) none ∙ (ap (take (n - m)) (append-nil items) ∙ take_all (n - m) items (omega (arith, is, w)))
 
-none_more : (items : List Item) (c d : State) → ready c ≡ false → Gives c items d → items ≡ []
+none_more : (items : List Item) (c d : State) → ready c ≡ false → CollectorGives c items d → items ≡ []
 none_more [] c d none gives = refl
 none_more (item ∷ items) c d none gives = absurd (true≢false (sym gives.0 ∙ none))
 
@@ -90,7 +90,7 @@ module _ (told : Option ℕ) (c d : State) (f g : TrackerState) (t u : Tallied) 
   }
 
   -- what is past the told number was given, too
-  pub prints_all : (e : State) (more : List Item) → (is_full told (items_in u.sums) ≡ true) ⊎ (ready d ≡ false) → Gives d more e → PrintsAll told c e f g t u a b
+  pub prints_all : (e : State) (more : List Item) → (is_full told (items_in u.sums) ≡ true) ⊎ (ready d ≡ false) → CollectorGives d more e → PrintsAll told c e f g t u a b
   prints_all e more over gives = record {
     items = p.items ++ more;
     gives = gives_after p.items more c d e p.gives gives;
