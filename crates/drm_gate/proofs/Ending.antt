@@ -2,7 +2,7 @@
 use Rattle.std.proofs.Common.{◌≡◌, ℕ, ◌+◌, ◌*◌, ◌≤◌, true, false, List, [], ◌∷◌, ◌++◌, Option, length, sym, subst, ap, ◌∙◌, refl, inl, inr, arith, append_assoc, IfSome, Ok, Err, slice_index_or}
 use Rattle.std.proofs.lemmas.List.{append-nil}
 use Rattle.recv_reading.proofs.Common.{Answer, Failed, Known, Taken, State, ready, Item, IsItem, MayBeFirst, KeepsFirst, first_of}
-use Rattle.recv_reading.proofs.Common.{ReadingState, has_enough, has_ended, word_of, Reached, Waits, ReadsOn}
+use Rattle.recv_reading.proofs.Common.{ReadingState, has_enough, has_ended, word_of, Reached, ReadingWaits, ReadsOn}
 use Rattle.recv_reading.specs.declared.options.ReceiveOptions.{ReceiveOptions}
 use Rattle.drm_links.specs.Link.{Traffic}
 use Rattle.drm_links.specs.Hearing.{Heard}
@@ -162,7 +162,7 @@ module _ (rules : ReceiveOptions) (carry : Carry) (came : List Answer → Type 0
       })
 
   -- no more can be had
-  pub loop_broken : (came' : List Answer → Type 0) (breaks : SourceFault → List Answer → Type 0) (why : SourceFault) (s : ReadingState) (d : State) → KeepsFirst c d → Waits r c
+  pub loop_broken : (came' : List Answer → Type 0) (breaks : SourceFault → List Answer → Type 0) (why : SourceFault) (s : ReadingState) (d : State) → KeepsFirst c d → ReadingWaits r c
       → ReadsOn came' breaks rules i.answers i.taken (i.during ++ i.more) (Err why) s d → BreaksOff rules carry (breaks why) x y
   loop_broken came' breaks why s d keeps waits (heard, broken, gave) = record {
     answers = i.answers ++ Failed ∷ [];

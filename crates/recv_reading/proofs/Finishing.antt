@@ -5,7 +5,7 @@ use Rattle.std.proofs.lemmas.Bool.Decides.{nat_tests}
 use Rattle.std.proofs.lemmas.List.{append-nil, take_all, take_at}
 use Rattle.recv_reading.proofs.Common.{Answer, Datagram, Taken, State, made, ready, after_finish, Item, CollectorGives, Run, up_to, IsFit}
 use Rattle.recv_reading.proofs.Common.{Given, ReceiveOptions, EndWord, datagrams, Gave, HasGiven, IsFinished, ReadingState}
-use Rattle.recv_reading.proofs.Common.{is_full, has_enough, has_ended, word_of, Reached, Waits}
+use Rattle.recv_reading.proofs.Common.{is_full, has_enough, has_ended, word_of, Reached, ReadingWaits}
 use Rattle.dcp_collect.proofs.Decoded.{decoded_or_none}
 use Rattle.law_collect.specs.Laws.{GivingEnds}
 use Rattle.law_collect.proofs.Ending.{giving_ends}
@@ -62,7 +62,7 @@ gives_none true r c s gives is = absurd (let clash : true ≡ false = is in cc)
 gives_none false r c s gives is = gives
 
 -- what gives nothing and hasn't ended waits
-pub waits_now : (r : ReadingState) (c : State) → IsOver r c → has_ended r ≡ false → Waits r c
+pub waits_now : (r : ReadingState) (c : State) → IsOver r c → has_ended r ≡ false → ReadingWaits r c
 waits_now r c (inr none) open_ = record { is_open = open_; none_ready = none }
 waits_now r c (inl enough) open_ = absurd (true≢false (sym (by r.end) ∙ open_))
   where

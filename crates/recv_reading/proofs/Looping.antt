@@ -2,7 +2,7 @@
 use Rattle.std.proofs.Common.{◌≡◌, ℕ, ◌≤◌, Bool, false, List, [], ◌∷◌, ◌++◌, length, Option, None, Some, IfSome, Ok, sym, ◌∙◌, ap, subst, arith}
 use Rattle.std.proofs.lemmas.List.{append-nil}
 use Rattle.recv_reading.proofs.Common.{Answer, Datagram, Taken, State, made, Item, ReceiveOptions, AreUsable, bounds_of}
-use Rattle.recv_reading.proofs.Common.{capture_bounds, options_of, ReadingState, new_reading, has_ended, Reached, Waits, ReadsOn}
+use Rattle.recv_reading.proofs.Common.{capture_bounds, options_of, ReadingState, new_reading, has_ended, Reached, ReadingWaits, ReadsOn}
 use Rattle.recv_reading.specs.Reached.{GivesNext}
 use Rattle.recv_reading.proofs.Reaching.{reached_none}
 use Rattle.recv_reading.proofs.Finishing.{IsOver, gives_none, waits_now}
@@ -38,7 +38,7 @@ capture_usable told c window some few = record { window = window; frames = some;
 pub rests_over : (b : Bool) (r : ReadingState) (c : State) (s : ReadingState) → GivesNext b r c s → b ≡ false → IsOver s c
 rests_over b r c s gives none = let (over, same) = gives_none b r c s gives none in subst (λ k. IsOver k c) (sym same) over
 
-pub rests_waiting : (b : Bool) (r : ReadingState) (c : State) (s : ReadingState) → GivesNext b r c s → b ≡ false → has_ended s ≡ false → Waits s c
+pub rests_waiting : (b : Bool) (r : ReadingState) (c : State) (s : ReadingState) → GivesNext b r c s → b ≡ false → has_ended s ≡ false → ReadingWaits s c
 rests_waiting b r c s gives none goes = waits_now s c (rests_over b r c s gives none) goes
 
 -- what was answered, with an answer more where one was

@@ -5,7 +5,7 @@ use Rattle.std.proofs.lemmas.Bool.Decides.{nat_tests}
 use Rattle.std.proofs.lemmas.List.{append-nil, append_cancel_right, length-map, length-take, take-map, take-append-le}
 use Rattle.std.proofs.lemmas.List.Elements.{All-head, All-tail, filter_map-append}
 use Rattle.recv_reading.proofs.Common.{Known, Answer, Datagram, Failed, End, datagram_of, Input, Inputs, Taken, State, made}
-use Rattle.recv_reading.proofs.Common.{ready, Item, IsItem, Steps, ReceiveOptions, EndWord, datagrams, Gave, HasGiven, HaveEnded}
+use Rattle.recv_reading.proofs.Common.{ready, Item, IsItem, CollectorSteps, ReceiveOptions, EndWord, datagrams, Gave, HasGiven, HaveEnded}
 use Rattle.recv_reading.proofs.Common.{EndsBy, GoesOn, IsBroken, ReadingState, is_full, has_enough, Reached}
 use Rattle.capture_reader.specs.declared.packets.CaptureStop.{CaptureStop}
 use Rattle.capture_reader.specs.Front.{IsWhole, Af, Pft, Other}
@@ -55,7 +55,7 @@ module _ (options : ReceiveOptions) where
     where
       by : (frames : Option ℕ) → is_full frames (length items) ≡ true → HasGiven options answers frames
       by None full = absurd (let clash : false ≡ true = full in cc)
-      by (Some n) full = (taken, items, end, subst (λ l. Steps (made options.window options.reach options.first) l taken items end) (sym are) steps, (let f : nat_le n (length items) ≡ true = full in grind (arith, nat_tests)))
+      by (Some n) full = (taken, items, end, subst (λ l. CollectorSteps (made options.window options.reach options.first) l taken items end) (sym are) steps, (let f : nat_le n (length items) ≡ true = full in grind (arith, nat_tests)))
 
   given_enough : (packets : List (List ℕ)) (answers : List Answer) → datagrams answers ≡ packets → HasGiven options answers options.frames → HasEnough (terms_of options) packets
   given_enough packets answers are given = by options.frames refl given
@@ -66,7 +66,7 @@ module _ (options : ReceiveOptions) where
         taken,
         items,
         end,
-        subst (λ l. Steps (made options.window options.reach options.first) l taken items end) are steps,
+        subst (λ l. CollectorSteps (made options.window options.reach options.first) l taken items end) are steps,
         ap (λ o. is_full o (length items)) is ∙ (let m : n ≤ length items = many in grind (arith, nat_tests)),
       )
 
@@ -226,7 +226,7 @@ gives_until options answers taken items c stop before after (packets, whole, sto
         shorter = none_shorter options packets [] (subst (GoesOn options) (same ∙ sym (append-nil (map Datagram packets))) broken.goes_on);
         taken = taken;
         mid = c;
-        steps = subst (λ l. Steps (made options.window options.reach options.first) l taken items c) those gave;
+        steps = subst (λ l. CollectorSteps (made options.window options.reach options.first) l taken items c) those gave;
       },
       refl,
     )

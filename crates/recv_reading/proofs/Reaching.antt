@@ -4,9 +4,9 @@ use Rattle.std.proofs.Math.Nat.{mul-le-mul_right, suc-mul}
 use Rattle.std.proofs.lemmas.Bool.{true≢false}
 use Rattle.std.proofs.lemmas.List.{append-nil, length_push}
 use Rattle.recv_reading.proofs.Common.{Answer, Datagram, Idle, Failed, End, Taken, State, made, ready, after_item, after_finish}
-use Rattle.recv_reading.proofs.Common.{Item, IsItem, Takes, Gives, IsFit, ReceiveOptions, EndWord, AreUsable, bounds_of}
+use Rattle.recv_reading.proofs.Common.{Item, IsItem, CollectorTakes, CollectorGives, IsFit, ReceiveOptions, EndWord, AreUsable, bounds_of}
 use Rattle.recv_reading.proofs.Common.{datagrams, Gave, HasGiven, HaveEnded, EndsBy, GoesOn, IsBroken, KnowsFirst, ReadingState}
-use Rattle.recv_reading.proofs.Common.{new_reading, is_full, has_enough, Reached, Waits}
+use Rattle.recv_reading.proofs.Common.{new_reading, is_full, has_enough, Reached, ReadingWaits}
 use Rattle.dcp_collect.proofs.Decoded.{one_decoding}
 use Rattle.law_collect.specs.Laws.{OneRun}
 use Rattle.law_collect.proofs.OneReading.{one_reading as one_datagram}
@@ -27,10 +27,10 @@ use Rattle.recv_reading.proofs.Giving.{gave_none, gave_datagram, gave_idle, gave
 pub one_way : OneRun
 one_way = one_run one_datagram one_decoding
 
-pub takes_next : (c after : State) (bytes : List ℕ) (a : Taken) → Takes c bytes a after → after.next ≡ c.next
+pub takes_next : (c after : State) (bytes : List ℕ) (a : Taken) → CollectorTakes c bytes a after → after.next ≡ c.next
 takes_next c after bytes a t = ap (λ (s : State). s.next) t.after_is ∙ take_next c t.read
 
-pub takes_end : (c after : State) (bytes : List ℕ) (a : Taken) → Takes c bytes a after → after.end ≡ c.end
+pub takes_end : (c after : State) (bytes : List ℕ) (a : Taken) → CollectorTakes c bytes a after → after.end ≡ c.end
 takes_end c after bytes a t = ap (λ (s : State). s.end) t.after_is ∙ take_end c t.read
 
 -- ---- numbers
@@ -107,7 +107,7 @@ reached_none options c usable is = record {
 
 -- what was given of all that the last datagram made ready
 pub amid_gave : (options : ReceiveOptions) (answers : List Answer) (taken : List Taken) (during more now : List Item) (c d : State) → (a : IsAmid options answers taken during more c)
-    → Gives a.kept now d → Gave options answers taken (during ++ now) d
+    → CollectorGives a.kept now d → Gave options answers taken (during ++ now) d
 amid_gave options answers taken during more now c d a gives =
     subst (λ l. Gave options l taken (during ++ now) d) (sym a.are)
     (subst (λ l. Gave options (a.before ++ Datagram a.bytes ∷ []) l (during ++ now) d) (sym a.taken_are)
@@ -176,7 +176,7 @@ module _ (options : ReceiveOptions) (answers : List Answer) (taken : List Taken)
   unfolding ahead
   less_given small = omega (arith, small)
 
-  module _ (w : Waits r c) where
+  module _ (w : ReadingWaits r c) where
     no_end : r.end ≡ None
     no_end = open_end r.end (has_enough r) w.is_open
 
@@ -245,7 +245,7 @@ module _ (options : ReceiveOptions) (answers : List Answer) (taken : List Taken)
         omega (arith, long, most, n.few, n.fewer)
 
     -- a datagram was taken
-    pub reached_taken : (d : State) (bytes : List ℕ) (answer : Taken) → r.taken < r.bounds.limit → Takes c bytes answer d → IsFit d
+    pub reached_taken : (d : State) (bytes : List ℕ) (answer : Taken) → r.taken < r.bounds.limit → CollectorTakes c bytes answer d → IsFit d
         → Reached options (answers ++ Datagram bytes ∷ []) (taken ++ answer ∷ []) items [] (one_taken r) d
     reached_taken d bytes answer lower takes fit =
         let below : r.taken < options.limit = omega (arith, lower, limit_is) in

@@ -5,7 +5,7 @@ use Rattle.std.proofs.lemmas.Bool.{true≢false, cases_lt}
 use Rattle.std.proofs.lemmas.Bool.Decides.{nat_tests}
 use Rattle.std.proofs.lemmas.List.{append-nil}
 use Rattle.recv_reading.proofs.Common.{Taken, State, made, ready, after_item, after_finish, Item, Packet, Lost, Damaged, IsItem}
-use Rattle.recv_reading.proofs.Common.{Takes, Gives, Steps, up_to, Given, is_full}
+use Rattle.recv_reading.proofs.Common.{CollectorTakes, CollectorGives, CollectorSteps, up_to, Given, is_full}
 use Rattle.dcp_collect.proofs.Decoded.{one_decoding}
 use Rattle.law_collect.proofs.OneReading.{one_reading}
 use Rattle.law_collect.proofs.Runs.{steps_part}
@@ -98,11 +98,11 @@ one_item c x y is also =
     cc
 
 -- the first one that is given is the one that is next
-one_next : (c e : State) (x y : Item) (now : List Item) → Gives c (x ∷ now) e → IsItem c y → x ≡ y
+one_next : (c e : State) (x y : Item) (now : List Item) → CollectorGives c (x ∷ now) e → IsItem c y → x ≡ y
 one_next c e x y now gives is = one_item c x y gives.1 is
 
 -- what is given starts with what can be given
-pub starts : (more : List Item) (item : Item) (c last e : State) (now : List Item) → Given c more last → ready last ≡ true → IsItem last item → Gives c now e → Starts more item now
+pub starts : (more : List Item) (item : Item) (c last e : State) (now : List Item) → Given c more last → ready last ≡ true → IsItem last item → CollectorGives c now e → Starts more item now
 starts [] item c last e [] given is_ready is gives = absurd (true≢false (sym is_ready ∙ (ap ready given ∙ gives.0)))
 starts [] item c last e (x ∷ now) given is_ready is gives =
     (now, ap (λ i. i ∷ now) (one_next c e x item now gives (subst (λ s. IsItem s item) given is)))
@@ -123,20 +123,20 @@ given_agree (x' ∷ xs) (y' ∷ ys) x y c d e given is given' also =
 
 -- what is given behind a datagram that was taken does so, too
 pub step_starts : (c d state last : State) (bytes : List ℕ) (after : List (List ℕ)) (answer : Taken) (answers : List Taken) (given more : List Item) (item : Item)
-    → Steps c (bytes ∷ after) answers given d → Takes c bytes answer state → Given state more last → ready last ≡ true → IsItem last item → Starts more item given
+    → CollectorSteps c (bytes ∷ after) answers given d → CollectorTakes c bytes answer state → Given state more last → ready last ≡ true → IsItem last item → Starts more item given
 step_starts c d state last bytes after answer [] given more item steps takes gives is_ready is = absurd steps
 step_starts c d state last bytes after answer (a ∷ answers) given more item (now, later, kept, mid, takes', gives', steps, are) takes gives is_ready is =
     let same : kept ≡ state = (one_taking one_reading c state kept bytes answer a takes takes').1 in
-    let (rest, begins) = starts more item state last mid now gives is_ready is (subst (λ s. Gives s now mid) same gives') in
+    let (rest, begins) = starts more item state last mid now gives is_ready is (subst (λ s. CollectorGives s now mid) same gives') in
     (rest ++ later, are ∙ (ap (λ l. l ++ later) begins ∙ append_assoc more (item ∷ rest) later))
 
 -- ---- on the way along packets
 
-pub gives_first : (items : List Item) (c d : State) → Gives c items d → d.first ≡ c.first
+pub gives_first : (items : List Item) (c d : State) → CollectorGives c items d → d.first ≡ c.first
 gives_first [] c d gives = ap (λ s. s.first) gives.1
 gives_first (item ∷ items) c d gives = gives_first items (after_item c) d gives.2
 
-step_first : (c d state : State) (bytes : List ℕ) (answer : Taken) (answers : List Taken) (given : List Item) → Steps c (bytes ∷ []) answers given d → Takes c bytes answer state → d.first ≡ state.first
+step_first : (c d state : State) (bytes : List ℕ) (answer : Taken) (answers : List Taken) (given : List Item) → CollectorSteps c (bytes ∷ []) answers given d → CollectorTakes c bytes answer state → d.first ≡ state.first
 step_first c d state bytes answer [] given steps takes = absurd steps
 step_first c d state bytes answer (a ∷ []) given (now, later, kept, mid, takes', gives, steps, are) takes =
     let same : kept ≡ state = (one_taking one_reading c state kept bytes answer a takes takes').1 in
@@ -149,16 +149,16 @@ module _ (terms : Terms) where
 
   module _ (packets : List (List ℕ)) (items : List Item) (item : Item) (last : State) (at : ComesAt terms packets items item last) where
     -- where it comes behind a packet, it is among what these packets give, and more of them
-    pub taken_starts : (bytes : List ℕ) (answer : Taken) → at.later ≡ bytes ∷ [] → Takes at.mid bytes answer at.state
-        → (all later : List (List ℕ)) (answers : List Taken) (given : List Item) (after : State) → all ≡ packets ++ later → Steps new all answers given after → Starts items item given
+    pub taken_starts : (bytes : List ℕ) (answer : Taken) → at.later ≡ bytes ∷ [] → CollectorTakes at.mid bytes answer at.state
+        → (all later : List (List ℕ)) (answers : List Taken) (given : List Item) (after : State) → all ≡ packets ++ later → CollectorSteps new all answers given after → Starts items item given
     taken_starts bytes answer is takes all later answers given after are steps =
         let parts : all ≡ at.before ++ bytes ∷ later = are ∙ (ap (λ l. l ++ later) (at.are ∙ ap (λ l. at.before ++ l) is) ∙ append_assoc at.before (bytes ∷ []) later) in
         let (mid, replies, more_replies, now, then_given, front, back, are_answers, are_given) =
-        steps_part new after at.before (bytes ∷ later) answers given (subst (λ l. Steps new l answers given after) parts steps) in
+        steps_part new after at.before (bytes ∷ later) answers given (subst (λ l. CollectorSteps new l answers given after) parts steps) in
         let (told, same, there) = one_way new at.mid mid at.before at.taken replies at.during now at.steps front in
         let begins : Starts at.more item then_given =
         step_starts at.mid after at.state last bytes later answer more_replies then_given at.more item
-        (subst (λ s. Steps s (bytes ∷ later) more_replies then_given after) there back) takes at.gives at.is_ready at.is_next in
+        (subst (λ s. CollectorSteps s (bytes ∷ later) more_replies then_given after) there back) takes at.gives at.is_ready at.is_next in
         let whole : given ≡ at.during ++ then_given = are_given ∙ ap (λ l. l ++ then_given) same in
         subst (λ l. Starts l item given) (sym at.items_are) (subst (Starts (at.during ++ at.more) item) (sym whole) (starts_behind at.during at.more item then_given begins))
 
@@ -167,9 +167,9 @@ module _ (terms : Terms) where
 
     -- where it comes when the collector is finished, it is among what these packets give, and the end
     pub finished_starts : at.later ≡ [] → at.state ≡ after_finish at.mid terms.told
-        → (answers : List Taken) (during rest : List Item) (mid after : State) → Steps new packets answers during mid → Gives (after_finish mid terms.told) rest after → Starts items item (during ++ rest)
+        → (answers : List Taken) (during rest : List Item) (mid after : State) → CollectorSteps new packets answers during mid → CollectorGives (after_finish mid terms.told) rest after → Starts items item (during ++ rest)
     finished_starts none is answers during rest mid after steps gives =
-        let (told, same, there) = one_way new at.mid mid at.before at.taken answers at.during during at.steps (subst (λ l. Steps new l answers during mid) (all_before none) steps) in
+        let (told, same, there) = one_way new at.mid mid at.before at.taken answers at.during during at.steps (subst (λ l. CollectorSteps new l answers during mid) (all_before none) steps) in
         let finished : at.state ≡ after_finish mid terms.told = is ∙ ap (λ s. after_finish s terms.told) (sym there) in
         let begins : Starts at.more item rest =
         starts at.more item (after_finish mid terms.told) last after rest (subst (λ s. Given s at.more last) finished at.gives) at.is_ready at.is_next gives in
@@ -177,14 +177,14 @@ module _ (terms : Terms) where
         subst (λ l. Starts l item (during ++ rest)) (sym front) (starts_behind during at.more item rest begins)
 
     -- behind the packet the first sequence number is that of the collector that gives it
-    pub taken_first : (bytes : List ℕ) (answer : Taken) → at.later ≡ bytes ∷ [] → Takes at.mid bytes answer at.state
-        → (answers : List Taken) (given : List Item) (after : State) → Steps new packets answers given after → after.first ≡ last.first
+    pub taken_first : (bytes : List ℕ) (answer : Taken) → at.later ≡ bytes ∷ [] → CollectorTakes at.mid bytes answer at.state
+        → (answers : List Taken) (given : List Item) (after : State) → CollectorSteps new packets answers given after → after.first ≡ last.first
     taken_first bytes answer is takes answers given after steps =
         let parts : packets ≡ at.before ++ bytes ∷ [] = at.are ∙ ap (λ l. at.before ++ l) is in
         let (mid, replies, more_replies, now, then_given, front, back, are_answers, are_given) =
-        steps_part new after at.before (bytes ∷ []) answers given (subst (λ l. Steps new l answers given after) parts steps) in
+        steps_part new after at.before (bytes ∷ []) answers given (subst (λ l. CollectorSteps new l answers given after) parts steps) in
         let (told, same, there) = one_way new at.mid mid at.before at.taken replies at.during now at.steps front in
-        step_first at.mid after at.state bytes answer more_replies then_given (subst (λ s. Steps s (bytes ∷ []) more_replies then_given after) there back) takes
+        step_first at.mid after at.state bytes answer more_replies then_given (subst (λ s. CollectorSteps s (bytes ∷ []) more_replies then_given after) there back) takes
         ∙ sym (given_first at.more at.state last at.gives)
 
     -- the packets before it aren't enough
@@ -204,24 +204,24 @@ module _ (terms : Terms) where
     -- where both come out of one state
     from_one : a.before ≡ b.before → (a.mid ≡ b.mid → a.state ≡ b.state) → Agree items item given next
     from_one same both =
-        let (told, during, mid) = one_way new b.mid a.mid b.before b.taken a.taken b.during a.during b.steps (subst (λ l. Steps new l a.taken a.during a.mid) same a.steps) in
+        let (told, during, mid) = one_way new b.mid a.mid b.before b.taken a.taken b.during a.during b.steps (subst (λ l. CollectorSteps new l a.taken a.during a.mid) same a.steps) in
         let more : Agree a.more item b.more next =
         given_agree a.more b.more item next b.state last end (subst (λ s. Given s a.more last) (both mid) a.gives) a.is_next b.gives b.is_next in
         let front : items ≡ b.during ++ a.more = a.items_are ∙ ap (λ l. l ++ a.more) during in
         subst (λ l. Agree l item given next) (sym front) (subst (λ l. Agree (b.during ++ a.more) item l next) (sym b.items_are) (agree_behind b.during a.more b.more item next more))
 
     -- where the first one comes behind a packet, and the second one behind more
-    earlier : (bytes : List ℕ) (answer : Taken) → a.later ≡ bytes ∷ [] → Takes a.mid bytes answer a.state → (later : List (List ℕ)) → b.before ≡ packets ++ later → Agree items item given next
+    earlier : (bytes : List ℕ) (answer : Taken) → a.later ≡ bytes ∷ [] → CollectorTakes a.mid bytes answer a.state → (later : List (List ℕ)) → b.before ≡ packets ++ later → Agree items item given next
     earlier bytes answer is takes later are =
         let begins : Starts items item b.during = taken_starts packets items item last a bytes answer is takes b.before later b.taken b.during b.mid are b.steps in
         inr (inl (subst (Starts items item) (sym b.items_are) (starts_more items item b.during b.more begins)))
 
     -- where both come behind the same packet
-    together : (bytes other : List ℕ) (answer reply : Taken) → Takes a.mid bytes answer a.state → Takes b.mid other reply b.state → a.before ≡ b.before → bytes ≡ other → Agree items item given next
+    together : (bytes other : List ℕ) (answer reply : Taken) → CollectorTakes a.mid bytes answer a.state → CollectorTakes b.mid other reply b.state → a.before ≡ b.before → bytes ≡ other → Agree items item given next
     together bytes other answer reply takes takes' before same =
         from_one before (λ mid.
         (one_taking one_reading b.mid b.state a.state other reply answer takes'
-        (subst (λ l. Takes b.mid l answer a.state) same (subst (λ s. Takes s bytes answer a.state) mid takes))).1)
+        (subst (λ l. CollectorTakes b.mid l answer a.state) same (subst (λ s. CollectorTakes s bytes answer a.state) mid takes))).1)
 
     -- where both come when the collector is finished
     pub both_finished : a.later ≡ [] → b.later ≡ [] → a.state ≡ after_finish a.mid terms.told → b.state ≡ after_finish b.mid terms.told → packets ≡ others → Agree items item given next
@@ -230,7 +230,7 @@ module _ (terms : Terms) where
         (λ mid. is ∙ (ap (λ s. after_finish s terms.told) mid ∙ sym is'))
 
     -- where the second one does
-    pub then_finished : (bytes : List ℕ) (answer : Taken) → a.later ≡ bytes ∷ [] → Takes a.mid bytes answer a.state → b.later ≡ [] → (later : List (List ℕ)) → others ≡ packets ++ later → Agree items item given next
+    pub then_finished : (bytes : List ℕ) (answer : Taken) → a.later ≡ bytes ∷ [] → CollectorTakes a.mid bytes answer a.state → b.later ≡ [] → (later : List (List ℕ)) → others ≡ packets ++ later → Agree items item given next
     then_finished bytes answer is takes none later are = earlier bytes answer is takes later (sym (all_before others given next end b none) ∙ are)
 
   swapped : (xs ys : List Item) (x y : Item) → Agree xs x ys y → Agree ys y xs x
@@ -240,12 +240,12 @@ module _ (terms : Terms) where
 
   module _ (packets others : List (List ℕ)) (items given : List Item) (item next : Item) (last end : State)
       (a : ComesAt terms packets items item last) (b : ComesAt terms others given next end) where
-    pub finished_then : a.later ≡ [] → (bytes : List ℕ) (answer : Taken) → b.later ≡ bytes ∷ [] → Takes b.mid bytes answer b.state → (later : List (List ℕ)) → packets ≡ others ++ later → Agree items item given next
+    pub finished_then : a.later ≡ [] → (bytes : List ℕ) (answer : Taken) → b.later ≡ bytes ∷ [] → CollectorTakes b.mid bytes answer b.state → (later : List (List ℕ)) → packets ≡ others ++ later → Agree items item given next
     finished_then none bytes answer is takes later are =
         swapped given items next item (then_finished others packets given items next item end last b a bytes answer is takes none later are)
 
     -- where both come behind a packet
-    pub both_taken : (bytes other : List ℕ) (answer reply : Taken) → a.later ≡ bytes ∷ [] → b.later ≡ other ∷ [] → Takes a.mid bytes answer a.state → Takes b.mid other reply b.state
+    pub both_taken : (bytes other : List ℕ) (answer reply : Taken) → a.later ≡ bytes ∷ [] → b.later ≡ other ∷ [] → CollectorTakes a.mid bytes answer a.state → CollectorTakes b.mid other reply b.state
         → (us vs : List (List ℕ)) → packets ++ us ≡ others ++ vs → Agree items item given next
     both_taken bytes other answer reply is is' takes takes' us vs same =
         let here : packets ++ us ≡ a.before ++ bytes ∷ us = place_of packets items item last a bytes us is in

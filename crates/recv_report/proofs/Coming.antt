@@ -2,7 +2,7 @@
 use Rattle.std.proofs.Common.{◌≡◌, ℕ, ◌+◌, ◌≤◌, inl, inr, true, List, [], ◌∷◌, ◌++◌, length, Option, None, Some, Ok, Err, refl, sym, ◌∙◌, ap, subst, arith, append_assoc}
 use Rattle.std.proofs.lemmas.List.{append-nil}
 use Rattle.recv_reading.proofs.Common.{Known, Answer, Failed, Output, Outputs, IsFront, IsFrontBehind, Taken, State, ready, Item}
-use Rattle.recv_reading.proofs.Common.{ReadingState, has_ended, word_of, Reached, Waits, ReadsOn}
+use Rattle.recv_reading.proofs.Common.{ReadingState, has_ended, word_of, Reached, ReadingWaits, ReadsOn}
 use Rattle.recv_reading.specs.declared.options.ReceiveOptions.{ReceiveOptions}
 use Rattle.drm_links.proofs.ToldLemmas.{Outputs-then, Outputs-nothing, Outputs-weaker}
 use Rattle.drm_reconfiguration.specs.Tracker.{TrackerState, new_tracker}
@@ -206,7 +206,7 @@ module _ (options : ReceiveOptions) (came : List Answer → Type 0) (a b : Known
 
     -- no more can be had
     pub breaks_off : (came' : List Answer → Type 0) (breaks : SourceFault → List Answer → Type 0) (why : SourceFault) (s : ReadingState) (d : State)
-        → Waits r c → ReadsOn came' breaks options p.answers p.taken (p.during ++ p.more) (Err why) s d → ReadsBroken options (breaks why) a b
+        → ReadingWaits r c → ReadsOn came' breaks options p.answers p.taken (p.during ++ p.more) (Err why) s d → ReadsBroken options (breaks why) a b
     breaks_off came' breaks why s d waits (heard, broken, gave) = record {
       answers = p.answers ++ Failed ∷ [];
       heard = heard;
