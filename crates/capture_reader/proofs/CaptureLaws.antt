@@ -8,12 +8,12 @@ use Rattle.capture_reader.specs.declared.fault.CaptureField.{CaptureField}
 use Rattle.capture_reader.specs.declared.fault.CaptureField.TheVariants.{HeadCut}
 use Rattle.capture_reader.specs.declared.fault.CaptureFault.{CaptureFault}
 use Rattle.capture_reader.specs.Front.{Front, Packet, Wrong, Cut, BytesBegin, Other, Af, Pft, IsWhole}
-use Rattle.capture_reader.specs.Capture.{Ending, End, Fault, TooLong, EndsWith, IsCaptureOf, most_bytes}
+use Rattle.capture_reader.specs.Capture.{CaptureEnding, End, Fault, TooLong, EndsWith, IsCaptureOf, most_bytes}
 use Rattle.capture_reader.specs.Laws.{ReadOneWay}
 use Rattle.capture_reader.proofs.FrontLaws.{one_front, packet_in_front, packet_alone, packet_size}
 
 -- bytes from a place of a capture on, which are these packets and end so
-pub record Behind (at : ℕ) (bytes : List ℕ) (packets : List (List ℕ)) (ending : Ending) : Type 0 where
+pub record Behind (at : ℕ) (bytes : List ℕ) (packets : List (List ℕ)) (ending : CaptureEnding) : Type 0 where
   pub whole : All IsWhole packets
   pub few : at + length (concat packets) ≤ most_bytes
   pub rest : List ℕ
@@ -79,7 +79,7 @@ same_fields size at rest f g is (inr a) (inl b) = absurd (wrong_and_cut size at 
 same_fields size at rest f g is (inr a) (inr b) = same_cut rest f g a.2 b.2
 
 -- what bytes end with behind the last packet
-one_ending : (size at : ℕ) (rest : List ℕ) (e f : Ending) → size ≡ at + length rest → EndsWith size at rest e → EndsWith size at rest f → e ≡ f
+one_ending : (size at : ℕ) (rest : List ℕ) (e f : CaptureEnding) → size ≡ at + length rest → EndsWith size at rest e → EndsWith size at rest f → e ≡ f
 one_ending size at rest End End is a b = refl
 one_ending size at rest End TooLong is a b = absurd (omega (arith, a.1, b.0))
 one_ending size at rest TooLong End is a b = absurd (omega (arith, b.1, a.0))
@@ -91,7 +91,7 @@ one_ending size at rest (Fault f) TooLong is a b = absurd (too_long size at rest
 one_ending size at rest (Fault f) (Fault g) is a b = fault_with f g at a.0 b.0 (same_fields size at rest f.field g.field is a.1 b.1)
 
 -- no ending where a packet is
-no_ending : (size at n : ℕ) (rest : List ℕ) (e : Ending) → at + n ≤ most_bytes → BytesBegin rest (Packet n) → EndsWith size at rest e → ⊥
+no_ending : (size at n : ℕ) (rest : List ℕ) (e : CaptureEnding) → at + n ≤ most_bytes → BytesBegin rest (Packet n) → EndsWith size at rest e → ⊥
 no_ending size at n rest End few packet ends =
     let some = packet_size rest n packet in
     omega (arith, some.0, some.2, ap length ends.0)
@@ -106,7 +106,7 @@ no_ending size at n rest TooLong few packet ends =
     packet_cut (take (most_bytes - at) rest) n ends.1.0 front ends.1.1
 
 -- the first packet is at the front
-first_packet : (at : ℕ) (bytes p : List ℕ) (ps : List (List ℕ)) (e : Ending) → Behind at bytes (p ∷ ps) e → BytesBegin bytes (Packet (length p)) × (at + length p ≤ most_bytes) × (bytes ≡ p ++ drop (length p) bytes) × Behind (at + length p) (drop (length p) bytes) ps e
+first_packet : (at : ℕ) (bytes p : List ℕ) (ps : List (List ℕ)) (e : CaptureEnding) → Behind at bytes (p ∷ ps) e → BytesBegin bytes (Packet (length p)) × (at + length p ≤ most_bytes) × (bytes ≡ p ++ drop (length p) bytes) × Behind (at + length p) (drop (length p) bytes) ps e
 first_packet at bytes p ps e b =
     let is : bytes ≡ p ++ (concat ps ++ b.rest) = b.is ∙ append_assoc p (concat ps) b.rest in
     let front : take (length p) bytes ≡ p = ap (λ l. take (length p) l) is ∙ take_at p (concat ps ++ b.rest) (length p) refl in
@@ -130,20 +130,20 @@ first_packet at bytes p ps e b =
     )
 
 -- no packet on either side
-last_ending : (at : ℕ) (bytes : List ℕ) (e f : Ending) → Behind at bytes [] e → Behind at bytes [] f → e ≡ f
+last_ending : (at : ℕ) (bytes : List ℕ) (e f : CaptureEnding) → Behind at bytes [] e → Behind at bytes [] f → e ≡ f
 last_ending at bytes e f a b =
     let P : List ℕ → Type 0 = λ l. EndsWith (at + length bytes) (at + 0) l f in
     let same : b.rest ≡ a.rest = sym b.is ∙ a.is in
     one_ending (at + length bytes) (at + 0) a.rest e f (omega (arith, ap length a.is)) a.ends (subst P same b.ends)
 
 -- a packet on one side alone
-more_packets : (at : ℕ) (bytes p : List ℕ) (ps : List (List ℕ)) (e f : Ending) → Behind at bytes (p ∷ ps) e → Behind at bytes [] f → ⊥
+more_packets : (at : ℕ) (bytes p : List ℕ) (ps : List (List ℕ)) (e f : CaptureEnding) → Behind at bytes (p ∷ ps) e → Behind at bytes [] f → ⊥
 more_packets at bytes p ps e f a b =
     let x = first_packet at bytes p ps e a in
     let P : List ℕ → Type 0 = λ l. EndsWith (at + length bytes) (at + 0) l f in
     no_ending (at + length bytes) (at + 0) (length p) bytes f (omega (arith, x.1)) x.0 (subst P (sym b.is) b.ends)
 
-one_behind : (at : ℕ) (bytes : List ℕ) (packets others : List (List ℕ)) (e f : Ending) → Behind at bytes packets e → Behind at bytes others f → (packets ≡ others) × (e ≡ f)
+one_behind : (at : ℕ) (bytes : List ℕ) (packets others : List (List ℕ)) (e f : CaptureEnding) → Behind at bytes packets e → Behind at bytes others f → (packets ≡ others) × (e ≡ f)
 one_behind at bytes [] [] e f a b = (refl, last_ending at bytes e f a b)
 one_behind at bytes (p ∷ ps) [] e f a b = absurd (more_packets at bytes p ps e f a b)
 one_behind at bytes [] (q ∷ qs) e f a b = absurd (more_packets at bytes q qs f e b a)
@@ -156,7 +156,7 @@ one_behind at bytes (p ∷ ps) (q ∷ qs) e f a b =
     let rest = one_behind (at + length p) (drop (length p) bytes) ps qs e f x.3 (subst P (sym size) y.3) in
     (ap₂ (λ (l : List ℕ) (ls : List (List ℕ)). l ∷ ls) same rest.0, rest.1)
 
-from_start : (bytes : List ℕ) (packets : List (List ℕ)) (e : Ending) → IsCaptureOf bytes packets e → Behind 0 bytes packets e
+from_start : (bytes : List ℕ) (packets : List (List ℕ)) (e : CaptureEnding) → IsCaptureOf bytes packets e → Behind 0 bytes packets e
 from_start bytes packets e c =
     let P : ℕ → Type 0 = λ n. EndsWith n (0 + length (concat packets)) c.rest e in
     let Q : ℕ → Type 0 = λ n. EndsWith (length bytes) n c.rest e in

@@ -6,12 +6,12 @@ use Rattle.std.proofs.lemmas.Bool.Decides.{nat_tests}
 use Rattle.std.proofs.lemmas.List.{take-take, drop-take, length-take}
 use Rattle.drm_bits.specs.Crc.{IsCheckOf}
 use Rattle.dcp_pft.specs.Head.{sync}
-use Rattle.dcp_pft.specs.Faults.{marks, has_code, has_addresses, described, checked_size, head_size, checked_bytes, check_value, NoneOf, IsFirst}
+use Rattle.dcp_pft.specs.Faults.{marks, has_code, has_addresses, described, checked_size, head_size, checked_bytes, check_value, NoneOf, IsFirstRow}
 use Rattle.dcp_pft.specs.Reading.{head_rows}
 use Rattle.dcp_pft.specs.declared.fault.PftFault.{PftFault}
 use Rattle.dcp_pft.specs.declared.fault.PftFault.TheVariants as refused
 use Rattle.capture_reader.specs.declared.fault.CaptureField.TheVariants.{HeadCrc, HeadCut, BodyCut}
-use Rattle.capture_reader.specs.Front.{Front, PftFront, Packet, Wrong, Cut, IsChecked, fragment_size}
+use Rattle.capture_reader.specs.Front.{Front, PftFront, Packet, Wrong, Cut, IsHeadChecked, fragment_size}
 use Rattle.capture_reader.specs.Looking.{IsFrontPart, front_of, front_within, found_by}
 
 -- a part that lies in the front
@@ -67,13 +67,13 @@ pub same_head : (bytes : List ℕ) → IsSameHead (take 20 bytes) bytes
 same_head bytes = same_head_in bytes 20 (omega arith) (omega (arith, checked_size_small bytes))
 
 -- the check value is right in the front where it is in the whole, and the other way round
-pub check_part : (head bytes : List ℕ) → IsSameHead head bytes → IsChecked head → IsChecked bytes
+pub check_part : (head bytes : List ℕ) → IsSameHead head bytes → IsHeadChecked head → IsHeadChecked bytes
 check_part head bytes same is =
     let P : List ℕ → Type 0 = λ l. IsCheckOf l (check_value bytes) in
     let Q : ℕ → Type 0 = λ n. IsCheckOf (checked_bytes head) n in
     subst P same.checked_bytes (subst Q same.check_value is)
 
-pub check_whole : (head bytes : List ℕ) → IsSameHead head bytes → IsChecked bytes → IsChecked head
+pub check_whole : (head bytes : List ℕ) → IsSameHead head bytes → IsHeadChecked bytes → IsHeadChecked head
 check_whole head bytes same is =
     let P : List ℕ → Type 0 = λ l. IsCheckOf l (check_value head) in
     let Q : ℕ → Type 0 = λ n. IsCheckOf (checked_bytes bytes) n in
@@ -87,13 +87,13 @@ same_part head bytes count part =
 part_size : (head bytes : List ℕ) (count : ℕ) → IsFrontPart head count bytes → length head ≡ min 20 (length bytes)
 part_size head bytes count part = ap length part.front ∙ length-take 20 bytes
 
-by_size : (bytes : List ℕ) (size : ℕ) (less : Bool) → less ≡ nat_lt (length bytes) size → head_size bytes ≤ length bytes → IsChecked bytes → size ≡ fragment_size bytes
+by_size : (bytes : List ℕ) (size : ℕ) (less : Bool) → less ≡ nat_lt (length bytes) size → head_size bytes ≤ length bytes → IsHeadChecked bytes → size ≡ fragment_size bytes
     → PftFront bytes (if less then Cut BodyCut else Packet size)
 by_size bytes size true is whole check same = (whole, check, grind (arith, nat_tests))
 by_size bytes size false is whole check same = (whole, check, same, grind (arith, nat_tests))
 
 -- a header that isn't refused
-pub fragment_found : (head bytes : List ℕ) (count size : ℕ) (front : Front) → IsFrontPart head count bytes → NoneOf head_rows head → IsChecked head
+pub fragment_found : (head bytes : List ℕ) (count size : ℕ) (front : Front) → IsFrontPart head count bytes → NoneOf head_rows head → IsHeadChecked head
     → size ≡ head_size head + described head → front ≡ front_within size count → PftFront bytes front
 fragment_found head bytes count size front part none check is same =
     let equal = same_part head bytes count part in
@@ -109,8 +109,8 @@ cut_by head bytes count part short =
     let equal = same_part head bytes count part in
     omega (arith, short, equal.checked_size, part_size head bytes count part, checked_size_small bytes)
 
-wrong_by : (head bytes : List ℕ) (count : ℕ) → IsFrontPart head count bytes → (length head < head_size head → ⊥) → (IsChecked head → ⊥)
-    → (head_size bytes ≤ length bytes) × (IsChecked bytes → ⊥)
+wrong_by : (head bytes : List ℕ) (count : ℕ) → IsFrontPart head count bytes → (length head < head_size head → ⊥) → (IsHeadChecked head → ⊥)
+    → (head_size bytes ≤ length bytes) × (IsHeadChecked bytes → ⊥)
 wrong_by head bytes count part long wrong =
     let equal = same_part head bytes count part in (
       omega (arith, long, equal.checked_size, part_size head bytes count part),
@@ -118,15 +118,15 @@ wrong_by head bytes count part long wrong =
     )
 
 -- a header that is refused
-pub fragment_refused : (head bytes : List ℕ) (count : ℕ) (fault : PftFault) → IsFrontPart head count bytes → take 2 head ≡ sync → IsFirst head_rows fault head
+pub fragment_refused : (head bytes : List ℕ) (count : ℕ) (fault : PftFault) → IsFrontPart head count bytes → take 2 head ≡ sync → IsFirstRow head_rows fault head
     → PftFront bytes (front_of (found_by fault))
 fragment_refused head bytes count fault part is (inl h) = absurd (h.0 is)
 fragment_refused head bytes count fault part is (inr h) = behind h.1
   where
-    last : (length head < head_size head → ⊥) → IsFirst (refused.HeadCrc ∷ []) fault head → PftFront bytes (front_of (found_by fault))
+    last : (length head < head_size head → ⊥) → IsFirstRow (refused.HeadCrc ∷ []) fault head → PftFront bytes (front_of (found_by fault))
     last long (inl k) = subst (λ (f : PftFault). PftFront bytes (front_of (found_by f))) (sym k.1) (wrong_by head bytes count part long k.0)
     last long (inr k) = absurd k.1
 
-    behind : IsFirst (refused.HeadCut ∷ refused.HeadCrc ∷ []) fault head → PftFront bytes (front_of (found_by fault))
+    behind : IsFirstRow (refused.HeadCut ∷ refused.HeadCrc ∷ []) fault head → PftFront bytes (front_of (found_by fault))
     behind (inl k) = subst (λ (f : PftFault). PftFront bytes (front_of (found_by f))) (sym k.1) (cut_by head bytes count part k.0)
     behind (inr k) = last k.0 k.1

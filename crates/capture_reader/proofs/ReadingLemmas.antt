@@ -5,9 +5,9 @@ use Rattle.std.specs.List.{concat}
 use Rattle.std.proofs.lemmas.List.{append-nil, take-take, take_at, length-take-le, take-append-drop}
 use Rattle.std.proofs.lemmas.List.Elements.{All-push}
 use Rattle.std.proofs.lemmas.List.Folds.{concat-append}
-use Rattle.drm_links.specs.Told.{Known, Throughout}
-use Rattle.drm_links.specs.Source.{Input, Inputs, LeftBy}
-use Rattle.drm_links.proofs.ToldLemmas.{Inputs-then, Inputs-weaker, Inputs-both}
+use Rattle.drm_links.specs.Known.{Known, Throughout}
+use Rattle.drm_links.specs.Source.{Input, InputsBytes, LeftBy}
+use Rattle.drm_links.proofs.KnownLemmas.{InputsBytes-then, InputsBytes-weaker, InputsBytes-both}
 use Rattle.capture_reader.specs.declared.fault.CaptureField.{CaptureField}
 use Rattle.capture_reader.specs.declared.fault.CaptureFault.{CaptureFault}
 use Rattle.capture_reader.specs.declared.packet.Packet.{Packet as Given}
@@ -15,19 +15,19 @@ use Rattle.capture_reader.specs.declared.packets.CaptureStop.{CaptureStop}
 use Rattle.capture_reader.specs.declared.packets.CaptureStop.TheVariants as stop
 use Rattle.capture_reader.specs.Front.{Packet, Wrong, Cut, BytesBegin, IsWhole}
 use Rattle.capture_reader.specs.Capture.{most_bytes, End, Fault, TooLong, EndsWith, IsCaptureOf}
-use Rattle.capture_reader.specs.Walking.{WalkerState, IsCut, after_packet, WalkerLeaves}
-use Rattle.capture_reader.specs.Reading.{HasRead, HasNext, ReadingBreaks, ReadingStops, Gave}
-use Rattle.capture_reader.specs.Fetching.{Fetched, IsFull, IsAtEnd, FindsPacket}
+use Rattle.capture_reader.specs.Walking.{WalkerState, IsPacketCut, after_packet, WalkerLeaves}
+use Rattle.capture_reader.specs.Reading.{HasRead, HasNext, ReadingBreaks, ReadingStops, PacketGiven}
+use Rattle.capture_reader.specs.Fetching.{BytesCame, IsFull, IsAtEnd, FindsPacket}
 use Rattle.capture_reader.proofs.FrontLaws.{wrong_in_front, packet_alone, packet_size}
 
 -- more bytes behind those that are held
-pub read_on : (packets : List (List ℕ)) (old new : WalkerState) (before a b : Known Input) → HasRead packets old before a → Fetched old new a b → HasRead packets new before b
+pub read_on : (packets : List (List ℕ)) (old new : WalkerState) (before a b : Known Input) → HasRead packets old before a → BytesCame old new a b → HasRead packets new before b
 read_on packets old new before a b read more = record {
   whole = read.whole;
   at = more.at ∙ read.at;
   few = more.few;
   room = omega (arith, read.room, more.room);
-  bytes = Inputs-then (λ left rest. left ≡ concat packets ++ (old.held ++ rest)) (λ left rest. old.held ++ left ≡ new.held ++ rest) (λ left rest. left ≡ concat packets ++ (new.held ++ rest))
+  bytes = InputsBytes-then (λ left rest. left ≡ concat packets ++ (old.held ++ rest)) (λ left rest. old.held ++ left ≡ new.held ++ rest) (λ left rest. left ≡ concat packets ++ (new.held ++ rest))
       before a b read.bytes more.bytes (λ x y z p q. p ∙ ap (λ l. concat packets ++ l) q);
 }
 
@@ -47,12 +47,12 @@ end_of packets held left rest whole few none is over =
       ends = (refl, omega (arith, few, ap length (all ∙ append-nil (concat packets))));
     }
 
-pub capture_ended : (packets : List (List ℕ)) (old new : WalkerState) (before a b : Known Input) → HasRead packets old before a → Fetched old new a b → new.held ≡ [] → IsAtEnd a b
-    → Inputs before b (λ left rest. IsCaptureOf left packets End)
+pub capture_ended : (packets : List (List ℕ)) (old new : WalkerState) (before a b : Known Input) → HasRead packets old before a → BytesCame old new a b → new.held ≡ [] → IsAtEnd a b
+    → InputsBytes before b (λ left rest. IsCaptureOf left packets End)
 capture_ended packets old new before a b read more none over =
     let now = read_on packets old new before a b read more in
-    Inputs-then (λ left rest. left ≡ concat packets ++ (old.held ++ rest)) (λ left rest. (old.held ++ left ≡ new.held ++ rest) × (rest ≡ [])) (λ left rest. IsCaptureOf left packets End)
-    before a b read.bytes (Inputs-both (λ left rest. old.held ++ left ≡ new.held ++ rest) (λ left rest. rest ≡ []) a b more.bytes over)
+    InputsBytes-then (λ left rest. left ≡ concat packets ++ (old.held ++ rest)) (λ left rest. (old.held ++ left ≡ new.held ++ rest) × (rest ≡ [])) (λ left rest. IsCaptureOf left packets End)
+    before a b read.bytes (InputsBytes-both (λ left rest. old.held ++ left ≡ new.held ++ rest) (λ left rest. rest ≡ []) a b more.bytes over)
     (λ x y z p q. end_of packets new.held x z read.whole (few_of packets new before b now) none (p ∙ ap (λ l. concat packets ++ l) q.0) q.1)
 
 -- a fault behind them, whatever comes
@@ -115,7 +115,7 @@ finds_next r old new a b finds is =
     let found : FindsPacket (Ok true) old new a b = subst P is finds in
     found.1
 
-pub finds_end : (r : Result Bool CaptureStop) (old new : WalkerState) (a b : Known Input) → FindsPacket r old new a b → (packets : List (List ℕ)) (before : Known Input) → HasRead packets old before a → r ≡ Ok false → Inputs before b (λ left rest. IsCaptureOf left packets End)
+pub finds_end : (r : Result Bool CaptureStop) (old new : WalkerState) (a b : Known Input) → FindsPacket r old new a b → (packets : List (List ℕ)) (before : Known Input) → HasRead packets old before a → r ≡ Ok false → InputsBytes before b (λ left rest. IsCaptureOf left packets End)
 finds_end r old new a b finds packets before read is =
     let P : Result Bool CaptureStop → Type 0 = λ s. FindsPacket s old new a b in
     let over : FindsPacket (Ok false) old new a b = subst P is finds in
@@ -125,21 +125,21 @@ pub finds_stop : (r : Result Bool CaptureStop) (old new : WalkerState) (a b : Kn
 finds_stop (Ok found) old new a b finds packets before read = tt
 finds_stop (Err stop.Read) old new a b finds packets before read =
     let now = read_on packets old new before a b read finds.0 in
-    Inputs-weaker (λ left rest. left ≡ concat packets ++ (new.held ++ rest)) (ReadingBreaks packets) before b now.bytes (λ x y is. (new.held, finds.1.0, is, finds.1.1))
+    InputsBytes-weaker (λ left rest. left ≡ concat packets ++ (new.held ++ rest)) (ReadingBreaks packets) before b now.bytes (λ x y is. (new.held, finds.1.0, is, finds.1.1))
 finds_stop (Err (stop.Capture f)) old new a b finds packets before read =
     let now = read_on packets old new before a b read finds.0 in
     elim finds.2 [
       | inl wrong ↦
-          Inputs-weaker (λ left rest. left ≡ concat packets ++ (new.held ++ rest)) (λ left rest. IsCaptureOf left packets (Fault f)) before b now.bytes
+          InputsBytes-weaker (λ left rest. left ≡ concat packets ++ (new.held ++ rest)) (λ left rest. IsCaptureOf left packets (Fault f)) before b now.bytes
           (λ x y is. wrong_of packets new.at new.held x y f now.whole now.at now.few finds.1 wrong is)
       | inr cut ↦
-          Inputs-then (λ left rest. left ≡ concat packets ++ (old.held ++ rest)) (λ left rest. (old.held ++ left ≡ new.held ++ rest) × (rest ≡ [])) (λ left rest. IsCaptureOf left packets (Fault f))
-          before a b read.bytes (Inputs-both (λ left rest. old.held ++ left ≡ new.held ++ rest) (λ left rest. rest ≡ []) a b finds.0.bytes cut.2)
+          InputsBytes-then (λ left rest. left ≡ concat packets ++ (old.held ++ rest)) (λ left rest. (old.held ++ left ≡ new.held ++ rest) × (rest ≡ [])) (λ left rest. IsCaptureOf left packets (Fault f))
+          before a b read.bytes (InputsBytes-both (λ left rest. old.held ++ left ≡ new.held ++ rest) (λ left rest. rest ≡ []) a b finds.0.bytes cut.2)
           (λ x y z p q. cut_of packets new.at new.held x z f now.whole now.at now.few finds.1 cut.0 cut.1 (p ∙ ap (λ l. concat packets ++ l) q.0) q.1)
     ]
 finds_stop (Err stop.TooLong) old new a b finds packets before read =
     let full = finds.0 in
-    Inputs-then (λ left rest. left ≡ concat packets ++ (old.held ++ rest)) (λ left rest. (more : List ℕ) × (0 < length more) × (old.held ++ left ≡ new.held ++ (more ++ rest))) (λ left rest. IsCaptureOf left packets TooLong)
+    InputsBytes-then (λ left rest. left ≡ concat packets ++ (old.held ++ rest)) (λ left rest. (more : List ℕ) × (0 < length more) × (old.held ++ left ≡ new.held ++ (more ++ rest))) (λ left rest. IsCaptureOf left packets TooLong)
     before a b read.bytes full.more
     (λ x y z p q. long_of packets new.at new.held q.0 x z finds.1.0 read.whole (full.at ∙ read.at) full.full finds.1.1 q.1 (p ∙ ap (λ l. concat packets ++ l) q.2))
 
@@ -153,7 +153,7 @@ read_one packets packet old new before after whole held at read =
       at = omega (arith, at, read.at, ap length all, length-append (concat packets) packet);
       few = omega (arith, at, read.few, ap length held, length-append packet new.held);
       room = omega (arith, read.room, ap length held, length-append packet new.held);
-      bytes = Inputs-weaker (λ left rest. left ≡ concat packets ++ (old.held ++ rest)) (λ left rest. left ≡ concat (packets ++ packet ∷ []) ++ (new.held ++ rest)) before after read.bytes
+      bytes = InputsBytes-weaker (λ left rest. left ≡ concat packets ++ (old.held ++ rest)) (λ left rest. left ≡ concat (packets ++ packet ∷ []) ++ (new.held ++ rest)) before after read.bytes
           (λ x y is. is ∙ (ap (λ l. concat packets ++ l) (ap (λ l. l ++ y) held ∙ append_assoc packet new.held y) ∙ (sym (append_assoc (concat packets) packet (new.held ++ y)) ∙ ap (λ l. l ++ (new.held ++ y)) (sym all))));
     }
 
@@ -162,7 +162,7 @@ pub record GaveOf (start : ℕ) (packet : List ℕ) (old new : WalkerState) : Ty
   pub at : start ≡ old.at
   pub whole : IsWhole packet
   pub front : old.held ≡ packet ++ drop (length packet) old.held
-  pub gave : Gave packet old new
+  pub gave : PacketGiven packet old new
 
 pub gave_one : (at n : ℕ) (packet : List ℕ) (old new : WalkerState) → at ≡ old.at → BytesBegin old.held (Packet n) → packet ≡ take n old.held → new ≡ after_packet (length packet) old → GaveOf at packet old new
 gave_one at n packet old new place begins is after =

@@ -17,8 +17,8 @@ use Rattle.dcp_pft.specs.Head as pft
 use Rattle.dcp_pft.specs.Faults as pft_head
 use Rattle.capture_reader.specs.declared.fault.CaptureField.{CaptureField}
 use Rattle.capture_reader.specs.declared.fault.CaptureField.TheVariants.{Sync, HeadCrc, TooLarge, HeadCut, BodyCut}
-use Rattle.capture_reader.specs.Front.{Front, Packet, Wrong, Cut, AfFront, PftFront, OtherFront, IsHalfSync, BytesBegin, Af, Pft, Other, IsWhole, IsChecked, fragment_size}
-use Rattle.capture_reader.specs.Capture.{Ending, End, Fault, TooLong, EndsWith, IsCaptureOf, most_bytes}
+use Rattle.capture_reader.specs.Front.{Front, Packet, Wrong, Cut, AfFront, PftFront, OtherFront, IsHalfSync, BytesBegin, Af, Pft, Other, IsWhole, IsHeadChecked, fragment_size}
+use Rattle.capture_reader.specs.Capture.{CaptureEnding, End, Fault, TooLong, EndsWith, IsCaptureOf, most_bytes}
 use Rattle.capture_reader.specs.Laws.{ReadSomeWay}
 use Rattle.capture_reader.proofs.FrontLaws.{packet_in_front, packet_alone, packet_size}
 use Rattle.capture_reader.proofs.CaptureLaws.{Behind, looked_at}
@@ -111,13 +111,13 @@ some_front bytes = elim (same_or_not (take 2 bytes) af.sync) [
 -- ---- captures
 
 -- no packet
-last_one : (at : ℕ) (bytes : List ℕ) (e : Ending) → at ≤ most_bytes → EndsWith (at + length bytes) at bytes e → Behind at bytes [] e
+last_one : (at : ℕ) (bytes : List ℕ) (e : CaptureEnding) → at ≤ most_bytes → EndsWith (at + length bytes) at bytes e → Behind at bytes [] e
 last_one at bytes e few ends =
     let P : ℕ → Type 0 = λ n. EndsWith (at + length bytes) n bytes e in
     record { whole = All-nil IsWhole; few = omega (arith, few); rest = bytes; is = refl; ends = subst P (omega arith) ends }
 
 -- a packet, and what follows it
-one_more : (at n : ℕ) (bytes : List ℕ) (ps : List (List ℕ)) (e : Ending) → BytesBegin bytes (Packet n) → Behind (at + n) (drop n bytes) ps e → Behind at bytes (take n bytes ∷ ps) e
+one_more : (at n : ℕ) (bytes : List ℕ) (ps : List (List ℕ)) (e : CaptureEnding) → BytesBegin bytes (Packet n) → Behind (at + n) (drop n bytes) ps e → Behind at bytes (take n bytes ∷ ps) e
 one_more at n bytes ps e packet b =
     let few = packet_size bytes n packet in
     let p : List ℕ = take n bytes in
@@ -137,7 +137,7 @@ one_more at n bytes ps e packet b =
     }
 
 -- bytes that are cut, where all of them are looked at or more come
-cut_end : (at : ℕ) (bytes : List ℕ) (field : CaptureField) → at ≤ most_bytes → BytesBegin (take (most_bytes - at) bytes) (Cut field) → (e : Ending) × EndsWith (at + length bytes) at bytes e
+cut_end : (at : ℕ) (bytes : List ℕ) (field : CaptureField) → at ≤ most_bytes → BytesBegin (take (most_bytes - at) bytes) (Cut field) → (e : CaptureEnding) × EndsWith (at + length bytes) at bytes e
 cut_end at bytes field few cut = elim (cases_lt most_bytes (at + length bytes)) [
   | inl long ↦ (TooLong, (long, (field, cut)))
   | inr short ↦ elim (same_or_not bytes []) [
@@ -150,7 +150,7 @@ cut_end at bytes field few cut = elim (cases_lt most_bytes (at + length bytes)) 
 
 -- behind a packet
 abbrev BehindOf : ℕ → List ℕ → Type 0
-BehindOf at bytes = (packets : List (List ℕ)) × (ending : Ending) × Behind at bytes packets ending
+BehindOf at bytes = (packets : List (List ℕ)) × (ending : CaptureEnding) × Behind at bytes packets ending
 
 by_front : (at : ℕ) (bytes : List ℕ) (f : Front) → at ≤ most_bytes → BytesBegin (take (most_bytes - at) bytes) f
     → ((n : ℕ) → BytesBegin bytes (Packet n) → at + n ≤ most_bytes → BehindOf (at + n) (drop n bytes)) → BehindOf at bytes

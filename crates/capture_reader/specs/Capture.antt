@@ -10,14 +10,14 @@ abbrev pub most_bytes : ℕ
 most_bytes = 4294967295
 
 -- how the bytes end behind the packets that they begin with
-pub data Ending : Type 0 where
-  End : Ending
-  Fault : CaptureFault → Ending
-  TooLong : Ending
+pub data CaptureEnding : Type 0 where
+  End : CaptureEnding
+  Fault : CaptureFault → CaptureEnding
+  TooLong : CaptureEnding
 
 -- So many bytes end so behind packets of `at` bytes, where `rest` is left. What stands behind the most bytes of a capture
 -- is not looked at.
-abbrev pub EndsWith : ℕ → ℕ → List ℕ → Ending → Type 0
+abbrev pub EndsWith : ℕ → ℕ → List ℕ → CaptureEnding → Type 0
 EndsWith size at rest End = (rest ≡ []) × (size ≤ most_bytes)
 EndsWith size at rest (Fault fault) =
     (fault.at ≡ at)
@@ -26,7 +26,7 @@ EndsWith size at rest (Fault fault) =
 EndsWith size at rest TooLong = (most_bytes < size) × ((field : CaptureField) × BytesBegin (take (most_bytes - at) rest) (Cut field))
 
 -- The bytes are these packets, and then they end so.
-pub record IsCaptureOf (bytes : List ℕ) (packets : List (List ℕ)) (ending : Ending) : Type 0 where
+pub record IsCaptureOf (bytes : List ℕ) (packets : List (List ℕ)) (ending : CaptureEnding) : Type 0 where
   pub whole : All IsWhole packets
   pub few : length (concat packets) ≤ most_bytes
   pub rest : List ℕ

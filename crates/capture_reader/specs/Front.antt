@@ -44,17 +44,17 @@ abbrev pub fragment_size : List ℕ → ℕ
 fragment_size bytes = pft_head.head_size bytes + pft_head.described bytes
 
 -- the check value of the header is right
-abbrev pub IsChecked : List ℕ → Type 0
-IsChecked bytes = IsCheckOf (pft_head.checked_bytes bytes) (pft_head.check_value bytes)
+abbrev pub IsHeadChecked : List ℕ → Type 0
+IsHeadChecked bytes = IsCheckOf (pft_head.checked_bytes bytes) (pft_head.check_value bytes)
 
 -- The bytes begin with PF.
 abbrev pub PftFront : List ℕ → Front → Type 0
 PftFront bytes (Packet n) =
-    (pft_head.head_size bytes ≤ length bytes) × IsChecked bytes × (n ≡ fragment_size bytes) × (n ≤ length bytes)
-PftFront bytes (Wrong HeadCrc) = (pft_head.head_size bytes ≤ length bytes) × (IsChecked bytes → ⊥)
+    (pft_head.head_size bytes ≤ length bytes) × IsHeadChecked bytes × (n ≡ fragment_size bytes) × (n ≤ length bytes)
+PftFront bytes (Wrong HeadCrc) = (pft_head.head_size bytes ≤ length bytes) × (IsHeadChecked bytes → ⊥)
 PftFront bytes (Cut HeadCut) = length bytes < pft_head.head_size bytes
 PftFront bytes (Cut BodyCut) =
-    (pft_head.head_size bytes ≤ length bytes) × IsChecked bytes × (length bytes < fragment_size bytes)
+    (pft_head.head_size bytes ≤ length bytes) × IsHeadChecked bytes × (length bytes < fragment_size bytes)
 PftFront bytes other = ⊥
 
 -- ---- neither

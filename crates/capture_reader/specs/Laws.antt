@@ -2,7 +2,7 @@
 use Rattle.std.specs.Prelude.{◌≡◌, ◌≢◌, ◌≤◌, ℕ, List, [], ◌∷◌, ◌++◌, length, take}
 use Rattle.capture_reader.specs.declared.fault.CaptureField.{CaptureField}
 use Rattle.capture_reader.specs.Front.{Front, Packet, Wrong, Cut, BytesBegin}
-use Rattle.capture_reader.specs.Capture.{Ending, End, Fault, IsCaptureOf, most_bytes}
+use Rattle.capture_reader.specs.Capture.{CaptureEnding, End, Fault, IsCaptureOf, most_bytes}
 use Rattle.capture_reader.specs.Walking.{WalkerState, HasWalked, new_walker, after_put, after_packet}
 
 -- Bytes begin in one way.
@@ -19,12 +19,12 @@ FrontsStay =
 -- Bytes are read in one way.
 abbrev pub ReadOneWay : Type 0
 ReadOneWay =
-    (bytes : List ℕ) (packets others : List (List ℕ)) (ending other : Ending)
+    (bytes : List ℕ) (packets others : List (List ℕ)) (ending other : CaptureEnding)
     → IsCaptureOf bytes packets ending → IsCaptureOf bytes others other → (packets ≡ others) × (ending ≡ other)
 
 -- Any bytes are read in some way.
 abbrev pub ReadSomeWay : Type 0
-ReadSomeWay = (bytes : List ℕ) → (packets : List (List ℕ)) × (ending : Ending) × IsCaptureOf bytes packets ending
+ReadSomeWay = (bytes : List ℕ) → (packets : List (List ℕ)) × (ending : CaptureEnding) × IsCaptureOf bytes packets ending
 
 -- However a capture is put in pieces, and whenever packets are given in between: what is given are its packets and its
 -- fault. A fault stays, whatever is put.

@@ -7,7 +7,7 @@ use Rattle.capture_reader.specs.declared.packet.Packet.{Packet}
 use Rattle.capture_reader.specs.contracts.walker.Walker as walker
 use Rattle.capture_reader.specs.contracts.packets.Packets as packets
 use Rattle.capture_reader.specs.Walking.{WalkerState, WalkerLeaves}
-use Rattle.capture_reader.specs.Reading.{Gave}
+use Rattle.capture_reader.specs.Reading.{PacketGiven}
 
 -- the walker after `next_packet`
 abbrev pub WalkerAfterNext : Result (Option Packet) CaptureFault → MutBor WalkerState → Fml
@@ -15,4 +15,4 @@ WalkerAfterNext result w = Rests walker.the_row w (WalkerLeaves result w.now)
 
 -- the reader after `next`
 abbrev pub GivesOne : Packet → MutBor WalkerState → Fml
-GivesOne packet reader = Rests packets.the_row reader (Gave packet.bytes.now reader.now)
+GivesOne packet reader = Rests packets.the_row reader (PacketGiven packet.bytes.now reader.now)

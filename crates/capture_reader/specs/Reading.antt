@@ -1,8 +1,8 @@
 -- A capture that is read from an input, packet by packet.
 use Rattle.std.specs.Prelude.{ℕ, ◌≡◌, ◌+◌, ◌≤◌, List, [], ◌∷◌, ◌++◌, length, All}
 use Rattle.std.specs.List.{concat}
-use Rattle.drm_links.specs.Told.{Known}
-use Rattle.drm_links.specs.Source.{Input, Inputs}
+use Rattle.drm_links.specs.Known.{Known}
+use Rattle.drm_links.specs.Source.{Input, InputsBytes}
 use Rattle.capture_reader.specs.declared.fault.CaptureField.{CaptureField}
 use Rattle.capture_reader.specs.declared.packets.CaptureStop.{CaptureStop}
 use Rattle.capture_reader.specs.declared.packets.CaptureStop.TheVariants as stop
@@ -17,7 +17,7 @@ pub record HasRead (packets : List (List ℕ)) (reader : WalkerState) (before af
   pub at : reader.at ≡ length (concat packets)
   pub few : reader.at + length reader.held ≤ most_bytes
   pub room : length reader.held ≤ most_held
-  pub bytes : Inputs before after (λ left rest. left ≡ concat packets ++ (reader.held ++ rest))
+  pub bytes : InputsBytes before after (λ left rest. left ≡ concat packets ++ (reader.held ++ rest))
 
 -- The next packet is whole in what the reader holds.
 abbrev pub HasNext : WalkerState → Type 0
@@ -30,12 +30,12 @@ ReadingBreaks packets left rest =
 
 -- The reading stops behind these packets.
 abbrev pub ReadingStops : List (List ℕ) → CaptureStop → Known Input → Known Input → Type 0
-ReadingStops packets stop.Read before after = Inputs before after (ReadingBreaks packets)
-ReadingStops packets (stop.Capture fault) before after = Inputs before after (λ left rest. IsCaptureOf left packets (Fault fault))
-ReadingStops packets stop.TooLong before after = Inputs before after (λ left rest. IsCaptureOf left packets TooLong)
+ReadingStops packets stop.Read before after = InputsBytes before after (ReadingBreaks packets)
+ReadingStops packets (stop.Capture fault) before after = InputsBytes before after (λ left rest. IsCaptureOf left packets (Fault fault))
+ReadingStops packets stop.TooLong before after = InputsBytes before after (λ left rest. IsCaptureOf left packets TooLong)
 
 -- A packet is given: it stands at the front of what was held.
-pub record Gave (packet : List ℕ) (before after : WalkerState) : Type 0 where
+pub record PacketGiven (packet : List ℕ) (before after : WalkerState) : Type 0 where
   pub whole : IsWhole packet
   pub held : before.held ≡ packet ++ after.held
   pub at : after.at ≡ before.at + length packet

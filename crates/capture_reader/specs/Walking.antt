@@ -26,13 +26,13 @@ abbrev pub after_packet : ℕ → WalkerState → WalkerState
 after_packet n walker = record { at = walker.at + n; held = drop n walker.held }
 
 -- The bytes held end inside or before the next packet.
-abbrev pub IsCut : WalkerState → Type 0
-IsCut walker = (field : CaptureField) × BytesBegin walker.held (Cut field)
+abbrev pub IsPacketCut : WalkerState → Type 0
+IsPacketCut walker = (field : CaptureField) × BytesBegin walker.held (Cut field)
 
 -- what a walker gives of what it holds
 abbrev pub WalkerGives : Result (Option Given) CaptureFault → WalkerState → Type 0
 WalkerGives (Ok (Some packet)) walker = (packet.at ≡ walker.at) × ((n : ℕ) × BytesBegin walker.held (Packet n) × (packet.bytes.now ≡ take n walker.held))
-WalkerGives (Ok None) walker = IsCut walker
+WalkerGives (Ok None) walker = IsPacketCut walker
 WalkerGives (Err fault) walker = (fault.at ≡ walker.at) × BytesBegin walker.held (Wrong fault.field)
 
 -- which answer is due where the bytes held begin so

@@ -19,7 +19,7 @@ const AF_HEAD: usize = 10;
 
 /// What some bytes begin with.
 #[derive(Clone, Copy, Debug, PartialEq, Eq)]
-pub(crate) enum Found {
+pub(crate) enum BytesFront {
     /// A packet of so many bytes.
     Packet(usize),
     /// No packet, whatever comes behind.
@@ -29,7 +29,7 @@ pub(crate) enum Found {
 }
 
 /// What `count` bytes begin with, of which the first ones are in `head`.
-pub(crate) fn look(head: &[u8], count: usize) -> Found
+pub(crate) fn look(head: &[u8], count: usize) -> BytesFront
     ensures { (bytes : List ℕ) → IsFrontPart head.now count bytes → BytesBegin bytes (front_of result) }
 {
     if head.starts_with(b"AF") {
@@ -41,20 +41,20 @@ pub(crate) fn look(head: &[u8], count: usize) -> Found
     }
 }
 
-fn look_at_af(head: &[u8], count: usize) -> Found
+fn look_at_af(head: &[u8], count: usize) -> BytesFront
     ensures { (bytes : List ℕ) → IsFrontPart head.now count bytes → AfFront bytes (front_of result) }
 {
     if head.len() < AF_HEAD {
-        return Found::Cut(CaptureField::HeadCut);
+        return BytesFront::Cut(CaptureField::HeadCut);
     }
     let size = described_len(head);
     if size > LONGEST_DATAGRAM as u64 {
-        return Found::Wrong(CaptureField::TooLarge);
+        return BytesFront::Wrong(CaptureField::TooLarge);
     }
     within(size as usize, count)
 }
 
-fn look_at_fragment(head: &[u8], count: usize) -> Found
+fn look_at_fragment(head: &[u8], count: usize) -> BytesFront
     requires sync { take 2 head.now ≡ pft.sync }
     ensures { (bytes : List ℕ) → IsFrontPart head.now count bytes → PftFront bytes (front_of result) }
 {
@@ -64,35 +64,35 @@ fn look_at_fragment(head: &[u8], count: usize) -> Found
     }
 }
 
-fn look_at_other(head: &[u8]) -> Found
+fn look_at_other(head: &[u8]) -> BytesFront
     requires af { take 2 head.now ≢ af.sync }
     requires pft { take 2 head.now ≢ pft.sync }
     ensures { (bytes : List ℕ) (count : ℕ) → IsFrontPart head.now count bytes → OtherFront bytes (front_of result) }
 {
     match head {
-        [] | [b'A'] | [b'P'] => Found::Cut(CaptureField::HeadCut),
-        [_] => Found::Cut(CaptureField::Sync),
-        _ => Found::Wrong(CaptureField::Sync),
+        [] | [b'A'] | [b'P'] => BytesFront::Cut(CaptureField::HeadCut),
+        [_] => BytesFront::Cut(CaptureField::Sync),
+        _ => BytesFront::Wrong(CaptureField::Sync),
     }
 }
 
 // A packet of so many bytes, where they stand there.
-fn within(size: usize, count: usize) -> Found
+fn within(size: usize, count: usize) -> BytesFront
     ensures { front_of result ≡ front_within size count }
 {
     if count < size {
-        Found::Cut(CaptureField::BodyCut)
+        BytesFront::Cut(CaptureField::BodyCut)
     } else {
-        Found::Packet(size)
+        BytesFront::Packet(size)
     }
 }
 
 // What stands there where a header of a fragment is refused.
-fn found_for(fault: PftFault) -> Found
+fn found_for(fault: PftFault) -> BytesFront
     ensures { result ≡ found_by fault }
 {
     match fault {
-        PftFault::HeadCrc => Found::Wrong(CaptureField::HeadCrc),
-        _ => Found::Cut(CaptureField::HeadCut),
+        PftFault::HeadCrc => BytesFront::Wrong(CaptureField::HeadCrc),
+        _ => BytesFront::Cut(CaptureField::HeadCut),
     }
 }

@@ -2,16 +2,16 @@
 
 ghost use Rattle.std.specs.Prelude.{◌≡◌, ◌≤◌, ◌<◌, ◌+◌, ◌-◌, ◌^◌, ◌++◌, ◌∷◌, ℕ, List, [], true, false, length, take, drop, min, IfOk, IfErr};
 ghost use Rattle.std.specs.Borrow.{sem};
-ghost use Rattle.drm_links.specs.Told.{Known, HasCause, CountsCall, IfBothKnown};
-ghost use Rattle.drm_links.specs.Source.{Input, Inputs, ReadsSome, SourceTakes};
+ghost use Rattle.drm_links.specs.Known.{Known, HasCause, CountsCall, IfBothKnown};
+ghost use Rattle.drm_links.specs.Source.{Input, InputsBytes, ReadsSome, SourceTakes};
 ghost use Rattle.capture_reader.specs.Front.{BytesBegin, IsWhole};
 ghost use Rattle.capture_reader.specs.Capture.{End, IsCaptureOf};
-ghost use Rattle.capture_reader.specs.Walking.{new_walker, IsCut};
+ghost use Rattle.capture_reader.specs.Walking.{new_walker, IsPacketCut};
 ghost use Rattle.capture_reader.specs.Reading.{HasRead, HasNext, ReadingStops};
 ghost use Rattle.capture_reader.specs.Fetching.{FetchesBytes, FindsPacket, EndsReading, ReadsFew};
 ghost use Rattle.capture_reader.specs.Lending.{GivesOne};
 
-use crate::look::Found;
+use crate::look::BytesFront;
 use crate::{CaptureFault, Packet, Walker};
 use drm_bits::{NoMemory, zeros};
 use drm_links::{ReadOut, Source};
@@ -39,7 +39,7 @@ pub enum CaptureStop {
 #[derive(Drop)]
 pub struct Packets {
     walker: Walker,
-    room: Vec<u8>,
+    scratch: Vec<u8>,
 }
 
 impl Model for Packets {
@@ -60,8 +60,8 @@ impl Packets {
         ensures { IfOk result (λ packets. packets ≡ new_walker) }
     {
         let walker = Walker::make(alloc)?;
-        let room = zeros(alloc, ROOM)?;
-        Ok(Packets { walker, room })
+        let scratch = zeros(alloc, ROOM)?;
+        Ok(Packets { walker, scratch })
     }
 
     /// Reads until the next packet is whole, or the input ends behind the last one: whether there is a next packet. Where it is
@@ -72,7 +72,7 @@ impl Packets {
         ensures found { result ≡ Ok true → HasNext self.new }
         ensures still { HasNext self.old → (result ≡ Ok true) × (self.new ≡ self.old) × (input.new ≡ input.old) }
         ensures ended { (packets : List (List ℕ)) (before : Known Input) → HasRead packets self.old before (I.known input.old)
-            → result ≡ Ok false → Inputs before (I.known input.new) (λ left rest. IsCaptureOf left packets End) }
+            → result ≡ Ok false → InputsBytes before (I.known input.new) (λ left rest. IsCaptureOf left packets End) }
         ensures stops { (packets : List (List ℕ)) (before : Known Input) → HasRead packets self.old before (I.known input.old)
             → IfErr result (λ stop. ReadingStops packets stop before (I.known input.new)) }
         ensures cause { HasCause (I.known input.old) (I.known input.new) (result ≡ Err CaptureStop.Read) }
@@ -103,12 +103,14 @@ impl Packets {
         let _ = &self.walker;
         loop {
             match self.walker.front() {
-                Found::Packet(size) => {
+                BytesFront::Packet(size) => {
                     self.walker.remember(size);
                     return Ok(true);
                 }
-                Found::Wrong(field) => return Err(CaptureStop::Capture(self.walker.fault(field))),
-                Found::Cut(_) => {}
+                BytesFront::Wrong(field) => return Err(CaptureStop::Capture(
+                    self.walker.fault(field),
+                )),
+                BytesFront::Cut(_) => {}
             }
             if !self.fetch(input)? {
                 return self.ended();
@@ -118,15 +120,15 @@ impl Packets {
 
     // Reads more bytes: whether any came.
     fn fetch<I: Source>(&mut self, input: &mut I) -> Result<bool, CaptureStop>
-        requires cut { IsCut self.old }
+        requires cut { IsPacketCut self.old }
         ensures fetches { FetchesBytes result self.old self.new (I.known input.old) (I.known input.new) }
         ensures cause { HasCause (I.known input.old) (I.known input.new) (result ≡ Err CaptureStop.Read) }
     {
         let left = MOST_BYTES - self.walker.taken();
-        match read_some(input, &mut self.room, left) {
+        match read_some(input, &mut self.scratch, left) {
             ReadOut::Got(_) if left == 0 => Err(CaptureStop::TooLong),
             ReadOut::Got(n) => {
-                self.walker.put(&self.room[..n]);
+                self.walker.put(&self.scratch[..n]);
                 Ok(true)
             }
             ReadOut::End => Ok(false),
@@ -136,7 +138,7 @@ impl Packets {
 
     // How the packets end where no more bytes come.
     fn ended(&self) -> Result<bool, CaptureStop>
-        requires cut { IsCut self.now }
+        requires cut { IsPacketCut self.now }
         ensures { EndsReading result self.now }
     {
         match self.walker.end() {
@@ -147,15 +149,15 @@ impl Packets {
 }
 
 // Reads at most so many bytes, or where that is none, one.
-fn read_some<I: Source>(input: &mut I, room: &mut [u8], most: u64) -> ReadOut
-    requires { length room.old ≡ 65536 }
-    ensures moves_bytes { ReadsSome result room.new }
+fn read_some<I: Source>(input: &mut I, scratch: &mut [u8], most: u64) -> ReadOut
+    requires { length scratch.old ≡ 65536 }
+    ensures moves_bytes { ReadsSome result scratch.new }
     ensures within_limit { ReadsFew result most }
-    ensures bytes { IfBothKnown (I.known input.old) (I.known input.new) (SourceTakes result room.new) }
-    ensures told { CountsCall (λ told. told.calls) (I.known input.old) (I.known input.new) }
+    ensures bytes { IfBothKnown (I.known input.old) (I.known input.new) (SourceTakes result scratch.new) }
+    ensures counts_call { CountsCall (λ contents. contents.calls) (I.known input.old) (I.known input.new) }
     ensures cause { HasCause (I.known input.old) (I.known input.new) (result ≡ ReadOut.Failed) }
 {
     let count = most.min(ROOM as u64) as usize;
     // A sum and no `max`: where clang 22 knows that a buffer has room, it takes the end of a stream for bytes that came.
-    input.read(&mut room[..count + usize::from(count == 0)])
+    input.read(&mut scratch[..count + usize::from(count == 0)])
 }

@@ -5,10 +5,10 @@ ghost use Rattle.std.specs.Borrow.{sem};
 ghost use Rattle.circular_buffer.specs.Buffer.{Buffer, buffer};
 ghost use Rattle.capture_reader.specs.Front.{Front, Packet as PacketFront, BytesBegin};
 ghost use Rattle.capture_reader.specs.Looking.{front_of};
-ghost use Rattle.capture_reader.specs.Walking.{new_walker, after_put, most_held, IsCut, WalkerGives, IsDue, WalkEnds};
+ghost use Rattle.capture_reader.specs.Walking.{new_walker, after_put, most_held, IsPacketCut, WalkerGives, IsDue, WalkEnds};
 ghost use Rattle.capture_reader.specs.Lending.{WalkerAfterNext};
 
-use crate::look::{Found, MOST_HEAD, look};
+use crate::look::{BytesFront, MOST_HEAD, look};
 use crate::{CaptureFault, CaptureField, Packet};
 use circular_buffer::HeapCircularBuffer;
 use drm_bits::{NoMemory, put_at, zeros};
@@ -77,7 +77,7 @@ impl Walker {
         ensures* after { sem 𝓛 (WalkerAfterNext result self.entry) }
     {
         match self.front() {
-            Found::Packet(size) => {
+            BytesFront::Packet(size) => {
                 let at = self.at;
                 self.found = None;
                 move_out(&mut self.pipe, &mut self.packet, size);
@@ -87,31 +87,31 @@ impl Walker {
                     bytes: &self.packet[..size],
                 }))
             }
-            Found::Wrong(field) => Err(self.fault(field)),
-            Found::Cut(_) => Ok(None),
+            BytesFront::Wrong(field) => Err(self.fault(field)),
+            BytesFront::Cut(_) => Ok(None),
         }
     }
 
     /// Whether the capture may end here. No packet was left to be given, and no byte was put since.
     pub fn end(&self) -> Result<(), CaptureFault>
-        requires { IsCut self.now }
+        requires { IsPacketCut self.now }
         ensures { WalkEnds result self.now }
     {
         if self.pipe.is_empty() {
             return Ok(());
         }
         match self.front() {
-            Found::Packet(_) => Ok(()),
-            Found::Wrong(field) | Found::Cut(field) => Err(self.fault(field)),
+            BytesFront::Packet(_) => Ok(()),
+            BytesFront::Wrong(field) | BytesFront::Cut(field) => Err(self.fault(field)),
         }
     }
 
     /// What the bytes held begin with.
-    pub(crate) fn front(&self) -> Found
+    pub(crate) fn front(&self) -> BytesFront
         ensures { BytesBegin self.now.held (front_of result) }
     {
         match self.found {
-            Some(size) => Found::Packet(size),
+            Some(size) => BytesFront::Packet(size),
             None => self.look(),
         }
     }
@@ -125,7 +125,7 @@ impl Walker {
     }
 
     // Looks at the first bytes that are held.
-    fn look(&self) -> Found
+    fn look(&self) -> BytesFront
         ensures { BytesBegin self.now.held (front_of result) }
     {
         let mut head = [0; MOST_HEAD];

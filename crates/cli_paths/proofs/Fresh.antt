@@ -6,10 +6,10 @@ use Rattle.std.proofs.lemmas.Option.{same_Some}
 use Rattle.std.proofs.lemmas.Slice.Eq.{bytes_eq-Decides}
 use Rattle.cli_syntax.specs.Spelling.{Argument, Plain, Named, IsPlain, texts, options}
 use Rattle.cli_paths.specs.Uses.{Use, names, is_known, plain, has_use}
-use Rattle.cli_paths.specs.Told.{told}
+use Rattle.cli_paths.specs.CommandTexts.{value_of}
 use Rattle.cli_paths.specs.Table.{IsOneOf, AreOf}
 use Rattle.cli_paths.proofs.Arguments.{has_use_more, known_differs, any_false}
-use Rattle.cli_paths.proofs.Parses.{told_used}
+use Rattle.cli_paths.proofs.Parses.{value_used}
 
 -- each use's name was not used before it
 abbrev pub Fresh : List Use → List Use → Type 0
@@ -73,21 +73,21 @@ none_by : (o : Option (List ℕ)) → is_some o ≡ false → o ≡ None
 none_by None e = refl
 none_by (Some x) e = absurd cc
 
-pub not_told : (id : List ℕ) (uses : List Use) → has_use id uses ≡ false → told id uses ≡ None
-not_told id uses e = none_by (told id uses) (told_used id uses ∙ e)
+pub unused_value : (id : List ℕ) (uses : List Use) → has_use id uses ≡ false → value_of id uses ≡ None
+unused_value id uses e = none_by (value_of id uses) (value_used id uses ∙ e)
 
 -- a later use is told where it is
-told_by : (id text : List ℕ) (done : List Use) (u : Use) (us : List Use) (b : Bool) → bytes_eq u.0 id ≡ b → Fresh (done ++ u ∷ []) us → told id us ≡ Some text → cond b (Some u.1) (told id us) ≡ Some text
-told_by id text done u us false e h t = t
-told_by id text done u us true e h t =
-    let none : told id us ≡ None = not_told id us (no_more id (done ++ u ∷ []) us h (used_last id done u e)) in
+value_unless_used : (id text : List ℕ) (done : List Use) (u : Use) (us : List Use) (b : Bool) → bytes_eq u.0 id ≡ b → Fresh (done ++ u ∷ []) us → value_of id us ≡ Some text → cond b (Some u.1) (value_of id us) ≡ Some text
+value_unless_used id text done u us false e h t = t
+value_unless_used id text done u us true e h t =
+    let none : value_of id us ≡ None = unused_value id us (no_more id (done ++ u ∷ []) us h (used_last id done u e)) in
     absurd cc
 
-pub all_plain : (done more : List Use) → Fresh done more → AllNamed more → ((id text : List ℕ) → IsName id → told id more ≡ Some text → IsPlain text) → AllPlain more
+pub all_plain : (done more : List Use) → Fresh done more → AllNamed more → ((id text : List ℕ) → IsName id → value_of id more ≡ Some text → IsPlain text) → AllPlain more
 all_plain done [] h named each = tt
 all_plain done (u ∷ us) h named each = (
   each u.0 u.1 named.0 (rw (eq_itself u.0) refl),
-  all_plain (done ++ u ∷ []) us h.1 named.1 (λ id text is t. each id text is (told_by id text done u us (bytes_eq u.0 id) refl h.1 t)),
+  all_plain (done ++ u ∷ []) us h.1 named.1 (λ id text is t. each id text is (value_unless_used id text done u us (bytes_eq u.0 id) refl h.1 t)),
 )
 
 -- ---- one of the names
@@ -119,17 +119,17 @@ is_known_by name h = of_one names name h
 pub differs : (name : List ℕ) → is_known name ≡ true → bytes_eq plain name ≡ false
 differs name k = eq_sym name plain (known_differs name k)
 
-pub told_options : (arguments : List Argument) (name : List ℕ) → is_known name ≡ true → told name (uses_of arguments) ≡ told name (options arguments)
-told_options [] name k = refl
-told_options (Plain text ∷ others) name k = rw (differs name k) (told_options others name k)
-told_options (Named n v ∷ others) name k = ap (λ (o : Option (List ℕ)). cond (bytes_eq n name) (Some v) o) (told_options others name k)
+pub value_options : (arguments : List Argument) (name : List ℕ) → is_known name ≡ true → value_of name (uses_of arguments) ≡ value_of name (options arguments)
+value_options [] name k = refl
+value_options (Plain text ∷ others) name k = rw (differs name k) (value_options others name k)
+value_options (Named n v ∷ others) name k = ap (λ (o : Option (List ℕ)). cond (bytes_eq n name) (Some v) o) (value_options others name k)
 
 pub are_of : (done : List Use) (arguments : List Argument) → Fresh done (uses_of arguments) → AllKnown arguments → AreOf names (options arguments)
 are_of done [] h k = tt
 are_of done (Plain text ∷ others) h k = are_of (done ++ (plain, text) ∷ []) others h.1 k
 are_of done (Named n v ∷ others) h k = (
   known_is n k.0,
-  sym (told_options others n k.0) ∙ not_told n (uses_of others) (no_more n (done ++ (n, v) ∷ []) (uses_of others) h.1 (used_last n done (n, v) (eq_itself n))),
+  sym (value_options others n k.0) ∙ unused_value n (uses_of others) (no_more n (done ++ (n, v) ∷ []) (uses_of others) h.1 (used_last n done (n, v) (eq_itself n))),
   are_of (done ++ (n, v) ∷ []) others h.1 k.1,
 )
 
@@ -140,14 +140,14 @@ no_texts [] e = refl
 no_texts (Plain text ∷ others) e = absurd cc
 no_texts (Named n v ∷ others) e = no_texts others (any_false (bytes_eq n plain) (has_use plain (uses_of others)) e).1
 
-pub one_text : (done : List Use) (arguments : List Argument) (text : List ℕ) → Fresh done (uses_of arguments) → AllKnown arguments → told plain (uses_of arguments) ≡ Some text → texts arguments ≡ text ∷ []
+pub one_text : (done : List Use) (arguments : List Argument) (text : List ℕ) → Fresh done (uses_of arguments) → AllKnown arguments → value_of plain (uses_of arguments) ≡ Some text → texts arguments ≡ text ∷ []
 one_text done [] text h k e = absurd cc
 one_text done (Plain t ∷ others) text h k e =
     let none = no_texts others (no_more plain (done ++ (plain, t) ∷ []) (uses_of others) h.1 (used_last plain done (plain, t) refl)) in
     rw none (ap (λ (x : List ℕ). x ∷ []) (same_Some t text e))
 one_text done (Named n v ∷ others) text h k e = one_text (done ++ (n, v) ∷ []) others text h.1 k.1 (rw (known_differs n k.0) at e)
 
-pub text_told : (arguments : List Argument) (text : List ℕ) → AllKnown arguments → texts arguments ≡ text ∷ [] → told plain (uses_of arguments) ≡ Some text
-text_told [] text k e = absurd cc
-text_told (Plain t ∷ others) text k e = let same : t ≡ text = cc in ap Some same
-text_told (Named n v ∷ others) text k e = rw (known_differs n k.0) (text_told others text k.1 e)
+pub text_value : (arguments : List Argument) (text : List ℕ) → AllKnown arguments → texts arguments ≡ text ∷ [] → value_of plain (uses_of arguments) ≡ Some text
+text_value [] text k e = absurd cc
+text_value (Plain t ∷ others) text k e = let same : t ≡ text = cc in ap Some same
+text_value (Named n v ∷ others) text k e = rw (known_differs n k.0) (text_value others text k.1 e)

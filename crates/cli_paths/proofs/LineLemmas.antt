@@ -4,7 +4,7 @@ use Rattle.std.specs.Prelude.{◌==◌, IfOk, option_map}
 use Rattle.std.specs.List.{list_all, slice_split, onto_first}
 use Rattle.std.specs.Char.{is_ascii_digit}
 use Rattle.std.proofs.lemmas.Option.{same_Some}
-use Rattle.cli_paths.specs.declared.request.Request.{Request}
+use Rattle.cli_paths.specs.declared.request.PathsRequest.{PathsRequest}
 use Rattle.drm_links.specs.declared.dock.Address.{Address}
 use Rattle.cli_syntax.specs.declared.fault.WordsFault.{WordsFault}
 use Rattle.cli_syntax.specs.declared.fault.WordsFault.TheVariants.{Words, NoMemory}
@@ -14,7 +14,7 @@ use Rattle.cli_syntax.specs.Addresses.{AreWithin, IsAddress, EachIsAddress, AreA
 use Rattle.cli_syntax.specs.Addressing.{addresses_of}
 use Rattle.cli_syntax.specs.Spelling.{Argument, IsPlain, texts, options}
 use Rattle.cli_paths.specs.Uses.{Use, Idle, is_known, plain, run}
-use Rattle.cli_paths.specs.Told.{Told, told, told_with, told_of, parse_of}
+use Rattle.cli_paths.specs.CommandTexts.{CommandTexts, value_of, texts_with, texts_of, parse_of}
 use Rattle.cli_paths.specs.Table.{IsNumberOr, IsNumberOrNone}
 use Rattle.cli_paths.specs.Line.{IsPathsLine}
 use Rattle.cli_paths.specs.Asking.{if_several, several_of, number_or, number_or_none, request_of, line_of}
@@ -22,7 +22,7 @@ use Rattle.cli_syntax.specs.Gives.{ParserGives}
 use Rattle.cli_syntax.proofs.OptionLemmas.{stepped, mapped}
 use Rattle.cli_syntax.proofs.NumberLemmas.{within_fits, within_is}
 use Rattle.cli_syntax.proofs.AddressLemmas.{addresses_fit, addresses_are}
-use Rattle.cli_paths.proofs.Fresh.{Fresh, uses_of, IsName, all_plain, told_options, are_of, one_text, text_told, known_is}
+use Rattle.cli_paths.proofs.Fresh.{Fresh, uses_of, IsName, all_plain, value_options, are_of, one_text, text_value, known_is}
 use Rattle.cli_paths.proofs.Sound.{IsSpelled, sound}
 use Rattle.cli_paths.proofs.Complete.{run_is, all_known, fresh_is, apart_none, plain_values, PlainValues, Once}
 
@@ -74,7 +74,7 @@ several_is text list are some few =
 
 -- ---- the texts ask for the request
 
-pub record IsAsked (t : Told) (r : Request) : Type 0 where
+pub record IsAsked (t : CommandTexts) (r : PathsRequest) : Type 0 where
   pub addresses : AreAddresses t.addresses r.addresses
   pub some_paths : 2 ≤ length r.addresses
   pub few_paths : length r.addresses ≤ 4
@@ -85,7 +85,7 @@ pub record IsAsked (t : Told) (r : Request) : Type 0 where
   pub idle : IsNumberOr 50 1 1000000 t.idle r.idle
   pub limit : IsNumberOr 1000000 1 1000000 t.limit r.limit
 
-asked_fits : (t : Told) (r : Request) → request_of t ≡ Some r → IsAsked t r
+asked_fits : (t : CommandTexts) (r : PathsRequest) → request_of t ≡ Some r → IsAsked t r
 unfolding request_of
 asked_fits t r e =
     let a = stepped (several_of t.addresses) _ r e in
@@ -96,7 +96,7 @@ asked_fits t r e =
     let g = stepped (number_or_none 1 3000000 t.frames) _ r f.rest in
     let i = stepped (number_or 50 1 1000000 t.idle) _ r g.rest in
     let l = stepped (number_or 1000000 1 1000000 t.limit) _ r i.rest in
-    subst (λ (x : Request). IsAsked t x) (same_Some _ r l.rest) (record {
+    subst (λ (x : PathsRequest). IsAsked t x) (same_Some _ r l.rest) (record {
       addresses = s.0;
       some_paths = s.1;
       few_paths = s.2;
@@ -108,7 +108,7 @@ asked_fits t r e =
       limit = number_or_fits 1000000 1 1000000 t.limit l.value l.is;
     })
 
-asked_is : (t : Told) (r : Request) → IsAsked t r → request_of t ≡ Some r
+asked_is : (t : CommandTexts) (r : PathsRequest) → IsAsked t r → request_of t ≡ Some r
 unfolding request_of
 asked_is t r h =
     rw (several_is t.addresses r.addresses h.addresses h.some_paths h.few_paths, number_or_is 8 1 64 t.window r.window h.window, number_or_is 32767 1 32767 t.reach r.reach h.reach, number_or_none_is 0 65535 t.first r.first h.first)
@@ -169,7 +169,7 @@ number_or_none_plain least greatest n (Some x) text h e = subst IsPlain (same_So
 abbrev NumbersPlain : (List ℕ → Option (List ℕ)) → Type 0
 NumbersPlain tell = (name text : List ℕ) → is_known name ≡ true → tell name ≡ Some text → IsPlain text
 
-numbers_plain : (tell : List ℕ → Option (List ℕ)) (r : Request) → IsNumberOr 8 1 64 (tell (codes "window")) r.window → IsNumberOr 32767 1 32767 (tell (codes "reach")) r.reach → IsNumberOrNone 0 65535 (tell (codes "first")) r.first → IsNumberOrNone 1 3000000 (tell (codes "frames")) r.frames
+numbers_plain : (tell : List ℕ → Option (List ℕ)) (r : PathsRequest) → IsNumberOr 8 1 64 (tell (codes "window")) r.window → IsNumberOr 32767 1 32767 (tell (codes "reach")) r.reach → IsNumberOrNone 0 65535 (tell (codes "first")) r.first → IsNumberOrNone 1 3000000 (tell (codes "frames")) r.frames
     → IsNumberOr 50 1 1000000 (tell (codes "idle")) r.idle → IsNumberOr 1000000 1 1000000 (tell (codes "limit")) r.limit → NumbersPlain tell
 numbers_plain tell r w n f g i l name text k e = elim (known_is name k) [
   | inl a ↦ number_or_plain 8 1 64 r.window (tell (codes "window")) text w (sym (ap tell a) ∙ e)
@@ -193,96 +193,96 @@ numbers_plain tell r w n f g i l name text k e = elim (known_is name k) [
 
 -- ---- the line
 
-told_same : (name : List ℕ) (k : is_known name ≡ true) (arguments : List Argument) (all : List Use) → uses_of arguments ≡ all → told name all ≡ told name (options arguments)
-told_same name k arguments all e = sym (ap (told name) e) ∙ told_options arguments name k
+same_value : (name : List ℕ) (k : is_known name ≡ true) (arguments : List Argument) (all : List Use) → uses_of arguments ≡ all → value_of name all ≡ value_of name (options arguments)
+same_value name k arguments all e = sym (ap (value_of name) e) ∙ value_options arguments name k
 
 -- what is spelled, with these texts, is the line of the request
-fits_spelled : (words : List (List ℕ)) (all : List Use) (text : List ℕ) (r : Request) → told plain all ≡ Some text → IsAsked (told_with all text) r → Fresh [] all → IsSpelled words all → IsPathsLine words r
+fits_spelled : (words : List (List ℕ)) (all : List Use) (text : List ℕ) (r : PathsRequest) → value_of plain all ≡ Some text → IsAsked (texts_with all text) r → Fresh [] all → IsSpelled words all → IsPathsLine words r
 fits_spelled words all text r e asked fresh s = record {
   arguments = s.arguments;
   spelled = s.spells;
   asks = record {
     text = text;
-    one = one_text [] s.arguments text f s.known (ap (told plain) s.same ∙ e);
+    one = one_text [] s.arguments text f s.known (ap (value_of plain) s.same ∙ e);
     addresses = asked.addresses;
     some_paths = asked.some_paths;
     few_paths = asked.few_paths;
     names = are_of [] s.arguments f s.known;
-    window = subst (λ (o : Option (List ℕ)). IsNumberOr 8 1 64 o r.window) (told_same (codes "window") refl s.arguments all s.same) asked.window;
-    reach = subst (λ (o : Option (List ℕ)). IsNumberOr 32767 1 32767 o r.reach) (told_same (codes "reach") refl s.arguments all s.same) asked.reach;
-    first = subst (λ (o : Option (List ℕ)). IsNumberOrNone 0 65535 o r.first) (told_same (codes "first") refl s.arguments all s.same) asked.first;
-    frames = subst (λ (o : Option (List ℕ)). IsNumberOrNone 1 3000000 o r.frames) (told_same (codes "frames") refl s.arguments all s.same) asked.frames;
-    idle = subst (λ (o : Option (List ℕ)). IsNumberOr 50 1 1000000 o r.idle) (told_same (codes "idle") refl s.arguments all s.same) asked.idle;
-    limit = subst (λ (o : Option (List ℕ)). IsNumberOr 1000000 1 1000000 o r.limit) (told_same (codes "limit") refl s.arguments all s.same) asked.limit;
+    window = subst (λ (o : Option (List ℕ)). IsNumberOr 8 1 64 o r.window) (same_value (codes "window") refl s.arguments all s.same) asked.window;
+    reach = subst (λ (o : Option (List ℕ)). IsNumberOr 32767 1 32767 o r.reach) (same_value (codes "reach") refl s.arguments all s.same) asked.reach;
+    first = subst (λ (o : Option (List ℕ)). IsNumberOrNone 0 65535 o r.first) (same_value (codes "first") refl s.arguments all s.same) asked.first;
+    frames = subst (λ (o : Option (List ℕ)). IsNumberOrNone 1 3000000 o r.frames) (same_value (codes "frames") refl s.arguments all s.same) asked.frames;
+    idle = subst (λ (o : Option (List ℕ)). IsNumberOr 50 1 1000000 o r.idle) (same_value (codes "idle") refl s.arguments all s.same) asked.idle;
+    limit = subst (λ (o : Option (List ℕ)). IsNumberOr 1000000 1 1000000 o r.limit) (same_value (codes "limit") refl s.arguments all s.same) asked.limit;
   };
 }
   where
     f : Fresh [] (uses_of s.arguments)
     f = subst (Fresh []) (sym s.same) fresh
 
-texts_plain : (all : List Use) (text : List ℕ) (r : Request) → told plain all ≡ Some text → IsAsked (told_with all text) r → (id t : List ℕ) → IsName id → told id all ≡ Some t → IsPlain t
-texts_plain all text r e asked id t is told_is = elim is [
-  | inl same ↦ subst IsPlain (same_Some text t (sym e ∙ sym (ap (λ (n : List ℕ). told n all) same) ∙ told_is)) (undashed_plain text (addresses_undashed text r.addresses asked.addresses))
-  | inr known ↦ numbers_plain (λ n. told n all) r asked.window asked.reach asked.first asked.frames asked.idle asked.limit id t known told_is
+texts_plain : (all : List Use) (text : List ℕ) (r : PathsRequest) → value_of plain all ≡ Some text → IsAsked (texts_with all text) r → (id t : List ℕ) → IsName id → value_of id all ≡ Some t → IsPlain t
+texts_plain all text r e asked id t is value_is = elim is [
+  | inl same ↦ subst IsPlain (same_Some text t (sym e ∙ sym (ap (λ (n : List ℕ). value_of n all) same) ∙ value_is)) (undashed_plain text (addresses_undashed text r.addresses asked.addresses))
+  | inr known ↦ numbers_plain (λ n. value_of n all) r asked.window asked.reach asked.first asked.frames asked.idle asked.limit id t known value_is
 ]
 
-fits_run : (words : List (List ℕ)) (all : List Use) (text : List ℕ) (r : Request) → run words Idle [] ≡ Some all → told plain all ≡ Some text → IsAsked (told_with all text) r → IsPathsLine words r
+fits_run : (words : List (List ℕ)) (all : List Use) (text : List ℕ) (r : PathsRequest) → run words Idle [] ≡ Some all → value_of plain all ≡ Some text → IsAsked (texts_with all text) r → IsPathsLine words r
 fits_run words all text r ran e asked =
     let s = (sound words).idles [] all ran in
     let same : s.uses ≡ all = s.whole in
-    let plain_all = all_plain [] s.uses s.fresh s.named (subst (λ (us : List Use). (id t : List ℕ) → IsName id → told id us ≡ Some t → IsPlain t) (sym same) (texts_plain all text r e asked)) in
+    let plain_all = all_plain [] s.uses s.fresh s.named (subst (λ (us : List Use). (id t : List ℕ) → IsName id → value_of id us ≡ Some t → IsPlain t) (sym same) (texts_plain all text r e asked)) in
     fits_spelled words all text r e asked (subst (Fresh []) same s.fresh) (subst (IsSpelled words) same (s.spelled plain_all))
 
-pub line_fits : (words : List (List ℕ)) (r : Request) → line_of words ≡ Some r → IsPathsLine words r
+pub line_fits : (words : List (List ℕ)) (r : PathsRequest) → line_of words ≡ Some r → IsPathsLine words r
 unfolding parse_of
 line_fits words r e =
     let p = stepped (parse_of words) request_of r e in
-    let q = stepped (run words Idle []) told_of p.value p.is in
-    let t = mapped (told plain q.value) (told_with q.value) p.value q.rest in
-    fits_run words q.value t.value r q.is t.is (subst (λ (x : Told). IsAsked x r) (sym t.rest) (asked_fits p.value r p.rest))
+    let q = stepped (run words Idle []) texts_of p.value p.is in
+    let t = mapped (value_of plain q.value) (texts_with q.value) p.value q.rest in
+    fits_run words q.value t.value r q.is t.is (subst (λ (x : CommandTexts). IsAsked x r) (sym t.rest) (asked_fits p.value r p.rest))
 
-pub line_is : (words : List (List ℕ)) (r : Request) → IsPathsLine words r → line_of words ≡ Some r
+pub line_is : (words : List (List ℕ)) (r : PathsRequest) → IsPathsLine words r → line_of words ≡ Some r
 unfolding parse_of
 line_is words r h =
     let a = h.asks in
     let known = all_known h.arguments a.names in
     let once : Once [] (texts h.arguments) = subst (Once []) (sym a.one) refl in
     let fresh = fresh_is h.arguments [] a.names (apart_none (options h.arguments)) once in
-    let values : PlainValues (options h.arguments) = plain_values (options h.arguments) a.names (numbers_plain (λ n. told n (options h.arguments)) r a.window a.reach a.first a.frames a.idle a.limit) in
+    let values : PlainValues (options h.arguments) = plain_values (options h.arguments) a.names (numbers_plain (λ n. value_of n (options h.arguments)) r a.window a.reach a.first a.frames a.idle a.limit) in
     let ran = run_is h.spelled [] fresh known values in
-    let text = text_told h.arguments a.text known a.one in
-    rw (ran, text) (asked_is (told_with (uses_of h.arguments) a.text) r (record {
+    let text = text_value h.arguments a.text known a.one in
+    rw (ran, text) (asked_is (texts_with (uses_of h.arguments) a.text) r (record {
       addresses = a.addresses;
       some_paths = a.some_paths;
       few_paths = a.few_paths;
-      window = subst (λ (o : Option (List ℕ)). IsNumberOr 8 1 64 o r.window) (sym (told_options h.arguments (codes "window") refl)) a.window;
-      reach = subst (λ (o : Option (List ℕ)). IsNumberOr 32767 1 32767 o r.reach) (sym (told_options h.arguments (codes "reach") refl)) a.reach;
-      first = subst (λ (o : Option (List ℕ)). IsNumberOrNone 0 65535 o r.first) (sym (told_options h.arguments (codes "first") refl)) a.first;
-      frames = subst (λ (o : Option (List ℕ)). IsNumberOrNone 1 3000000 o r.frames) (sym (told_options h.arguments (codes "frames") refl)) a.frames;
-      idle = subst (λ (o : Option (List ℕ)). IsNumberOr 50 1 1000000 o r.idle) (sym (told_options h.arguments (codes "idle") refl)) a.idle;
-      limit = subst (λ (o : Option (List ℕ)). IsNumberOr 1000000 1 1000000 o r.limit) (sym (told_options h.arguments (codes "limit") refl)) a.limit;
+      window = subst (λ (o : Option (List ℕ)). IsNumberOr 8 1 64 o r.window) (sym (value_options h.arguments (codes "window") refl)) a.window;
+      reach = subst (λ (o : Option (List ℕ)). IsNumberOr 32767 1 32767 o r.reach) (sym (value_options h.arguments (codes "reach") refl)) a.reach;
+      first = subst (λ (o : Option (List ℕ)). IsNumberOrNone 0 65535 o r.first) (sym (value_options h.arguments (codes "first") refl)) a.first;
+      frames = subst (λ (o : Option (List ℕ)). IsNumberOrNone 1 3000000 o r.frames) (sym (value_options h.arguments (codes "frames") refl)) a.frames;
+      idle = subst (λ (o : Option (List ℕ)). IsNumberOr 50 1 1000000 o r.idle) (sym (value_options h.arguments (codes "idle") refl)) a.idle;
+      limit = subst (λ (o : Option (List ℕ)). IsNumberOr 1000000 1 1000000 o r.limit) (sym (value_options h.arguments (codes "limit") refl)) a.limit;
     }))
 
-pub line_once : (words : List (List ℕ)) (r other : Request) → IsPathsLine words r → IsPathsLine words other → r ≡ other
+pub line_once : (words : List (List ℕ)) (r other : PathsRequest) → IsPathsLine words r → IsPathsLine words other → r ≡ other
 line_once words r other h k = same_Some r other (sym (line_is words r h) ∙ line_is words other k)
 
 -- what an answer that gives what is read says of the requests that fit
 module _ (words : List (List ℕ)) where
-  pub found : (result : Result Request WordsFault) → ParserGives result (line_of words) → IfOk result (λ r. IsPathsLine words r)
+  pub found : (result : Result PathsRequest WordsFault) → ParserGives result (line_of words) → IfOk result (λ r. IsPathsLine words r)
   found (Ok r) h = line_fits words r h
   found (Err fault) h = tt
 
-  pub only : (result : Result Request WordsFault) → ParserGives result (line_of words) → (r : Request) → IsPathsLine words r → (result ≡ Ok r) ⊎ (result ≡ Err NoMemory)
+  pub only : (result : Result PathsRequest WordsFault) → ParserGives result (line_of words) → (r : PathsRequest) → IsPathsLine words r → (result ≡ Ok r) ⊎ (result ≡ Err NoMemory)
   only (Ok x) h r k = inl (ap Ok (same_Some x r (sym h ∙ line_is words r k)))
   only (Err Words) h r k = absurd (let e = line_is words r k in cc)
   only (Err NoMemory) h r k = inr refl
 
-  pub refused : (result : Result Request WordsFault) → ParserGives result (line_of words) → result ≡ Err Words → (r : Request) → IsPathsLine words r → ⊥
+  pub refused : (result : Result PathsRequest WordsFault) → ParserGives result (line_of words) → result ≡ Err Words → (r : PathsRequest) → IsPathsLine words r → ⊥
   refused (Ok x) h e r k = cc
   refused (Err Words) h e r k = let f = line_is words r k in cc
   refused (Err NoMemory) h e r k = cc
 
-  pub exact : (result : Result Request WordsFault) → ParserGives result (line_of words) → ((r : Request) → IsPathsLine words r → ⊥) → (result ≡ Err Words) ⊎ (result ≡ Err NoMemory)
+  pub exact : (result : Result PathsRequest WordsFault) → ParserGives result (line_of words) → ((r : PathsRequest) → IsPathsLine words r → ⊥) → (result ≡ Err Words) ⊎ (result ≡ Err NoMemory)
   exact (Ok x) h none = absurd (none x (line_fits words x h))
   exact (Err Words) h none = inl refl
   exact (Err NoMemory) h none = inr refl

@@ -10,7 +10,7 @@ use Rattle.clap.specs.Takes.{is_given}
 use Rattle.clap.specs.Walk.{idle, Rule, Row, Text, first_of, with_default, has_row, walk_from, nothing_held, settled, finished, rows_after}
 use Rattle.cli_paths.specs.Command.{paths}
 use Rattle.cli_paths.specs.Uses.{Use, Idle, plain, has_use, run}
-use Rattle.cli_paths.specs.Told.{Told, told, told_with, told_of, text_of, parse_of}
+use Rattle.cli_paths.specs.CommandTexts.{CommandTexts, value_of, texts_with, texts_of, text_of, parse_of}
 use Rattle.clap.specs.declared.error.kind.ErrorKind.TheVariants.{MissingRequiredArgument}
 use Rattle.cli_paths.proofs.Rules.{rules}
 use Rattle.cli_paths.proofs.Arguments.{rows_at, keeps_none}
@@ -59,26 +59,26 @@ given_is : (id : Text) (done : List Use) → is_given id (rows_at done) ≡ has_
 given_is id [] = refl
 given_is id (u ∷ us) = given_by id u us (bytes_eq u.0 id) refl (given_is id us)
 
-first_by : (id : Text) (u : Use) (us : List Use) (b : Bool) → bytes_eq u.0 id ≡ b → first_of id (rows_at us) ≡ told id us → first_of id (rows_at (u ∷ us)) ≡ told id (u ∷ us)
+first_by : (id : Text) (u : Use) (us : List Use) (b : Bool) → bytes_eq u.0 id ≡ b → first_of id (rows_at us) ≡ value_of id us → first_of id (rows_at (u ∷ us)) ≡ value_of id (u ∷ us)
 first_by id u us true e more = rw e refl
 first_by id u us false e more = rw e more
 
-first_is : (id : Text) (done : List Use) → first_of id (rows_at done) ≡ told id done
+first_is : (id : Text) (done : List Use) → first_of id (rows_at done) ≡ value_of id done
 first_is id [] = refl
 first_is id (u ∷ us) = first_by id u us (bytes_eq u.0 id) refl (first_is id us)
 
-used_by : (id : Text) (u : Use) (us : List Use) (b : Bool) → bytes_eq u.0 id ≡ b → is_some (told id us) ≡ has_use id us → is_some (told id (u ∷ us)) ≡ has_use id (u ∷ us)
+used_by : (id : Text) (u : Use) (us : List Use) (b : Bool) → bytes_eq u.0 id ≡ b → is_some (value_of id us) ≡ has_use id us → is_some (value_of id (u ∷ us)) ≡ has_use id (u ∷ us)
 used_by id u us true e more = rw e refl
 used_by id u us false e more = rw e more
 
-pub told_used : (id : Text) (done : List Use) → is_some (told id done) ≡ has_use id done
-told_used id [] = refl
-told_used id (u ∷ us) = used_by id u us (bytes_eq u.0 id) refl (told_used id us)
+pub value_used : (id : Text) (done : List Use) → is_some (value_of id done) ≡ has_use id done
+value_used id [] = refl
+value_used id (u ∷ us) = used_by id u us (bytes_eq u.0 id) refl (value_used id us)
 
 -- ---- the whole parse
 
 -- the words are refused, or taken with these texts
-abbrev pub Parsed : List Text → Option Told → Type 0
+abbrev pub Parsed : List Text → Option CommandTexts → Type 0
 Parsed words None = fault_of paths words ≡ [] → ⊥
 Parsed words (Some t) = (fault_of paths words ≡ []) × (text_of plain words ≡ Some t.addresses) × (text_of (codes "window") words ≡ t.window)
     × (text_of (codes "reach") words ≡ t.reach) × (text_of (codes "first") words ≡ t.first)
@@ -136,23 +136,23 @@ module _ (words : List Text) (done : List Use) (meets : Meets (walk_from nothing
   rows_end : finished rules (after (walk_from nothing_held) words).held ≡ rows_at done
   rows_end = ap (λ (rows : List Row). fold with_default rows rules) meets.1 ∙ no_default_rows rules (rows_at done) none_there
 
-  text_is : (id : Text) → text_of id words ≡ told id done
+  text_is : (id : Text) → text_of id words ≡ value_of id done
   text_is id = ap (first_of id) (matches_are words ∙ rows_end) ∙ first_is id done
 
   checks : check_fault top (finished rules (after (walk_from nothing_held) words).held) (is_some (entered parsed (after (walk_from nothing_held) words).stopped)) ≡ cond (has_use plain done) [] (MissingRequiredArgument ∷ [])
   checks = rw (meets.2, rows_end) (check_is done)
 
-  by_told : (t : Option Text) → told plain done ≡ t → Parsed words (option_map (told_with done) t)
-  by_told None e = λ h.
-      let u : has_use plain done ≡ false = sym (told_used plain done) ∙ ap is_some e in
+  by_value : (t : Option Text) → value_of plain done ≡ t → Parsed words (option_map (texts_with done) t)
+  by_value None e = λ h.
+      let u : has_use plain done ≡ false = sym (value_used plain done) ∙ ap is_some e in
       let none = last (part_walk words) (part_below words) (part_end words) (part_defaults words) (part_checks words) (sym (fault_is words) ∙ h) in
       let missing : cond (has_use plain done) [] (MissingRequiredArgument ∷ []) ≡ [] = sym checks ∙ none in
       no (sym (ap (λ (b : Bool). cond b [] (MissingRequiredArgument ∷ [])) u) ∙ missing)
     where
       no : MissingRequiredArgument ∷ [] ≡ [] → ⊥
       no e = cc
-  by_told (Some text) e =
-      let u : has_use plain done ≡ true = sym (told_used plain done) ∙ ap is_some e in (
+  by_value (Some text) e =
+      let u : has_use plain done ≡ true = sym (value_used plain done) ∙ ap is_some e in (
         fault_is words ∙ all_none (part_walk words) (part_below words) (part_end words) (part_defaults words) (part_checks words) meets.0 (ap (entered_fault parsed) meets.2) (no_default_fault rules _ none_there) (checks ∙ ap (λ (b : Bool). cond b [] (MissingRequiredArgument ∷ [])) u),
         text_is plain ∙ e,
         text_is (codes "window"),
@@ -163,9 +163,9 @@ module _ (words : List Text) (done : List Use) (meets : Meets (walk_from nothing
         text_is (codes "limit"),
       )
 
-by_run : (words : List Text) (o : Option (List Use)) → Meets (walk_from nothing_held) words o → Parsed words (option_and_then told_of o)
+by_run : (words : List Text) (o : Option (List Use)) → Meets (walk_from nothing_held) words o → Parsed words (option_and_then texts_of o)
 by_run words None meets = λ h. meets (outer (part_walk words) (part_below words) (part_end words) (or_else (part_defaults words) (part_checks words)) (sym (fault_is words) ∙ h))
-by_run words (Some done) meets = by_told words done meets (told plain done) refl
+by_run words (Some done) meets = by_value words done meets (value_of plain done) refl
 
 pub parses : (words : List Text) → Parsed words (parse_of words)
 unfolding parse_of

@@ -6,8 +6,8 @@ use Rattle.std.proofs.lemmas.Bool.Decides.{nat_tests}
 use Rattle.std.proofs.lemmas.Slice.Eq.{bytes_eq-Decides}
 use Rattle.clap.specs.Lexer.{long_of, long_of_rest, short_of, name_and_value}
 use Rattle.clap.proofs.CutLemmas.{before_first-Lacks, before_first-at, after_first-at, list_any-Lacks, list_any-at, Lacks as LacksAt}
-use Rattle.cli_syntax.specs.Spelling.{IsPlain, IsName, dashes, joined}
-use Rattle.cli_paths.specs.Uses.{Sort, Dashes, Plain, Joined, Apart, Stray, sort_of, long_sort, short_sort, option_sort, flags_sort}
+use Rattle.cli_syntax.specs.Spelling.{IsPlain, IsOptionName, dashes, joined}
+use Rattle.cli_paths.specs.Uses.{ArgKind, Dashes, Plain, Joined, Apart, Stray, sort_of, long_sort, short_sort, option_sort, flags_sort}
 use Rattle.std.proofs.lemmas.Option.{same_Some}
 use Rattle.std.specs.Prelude.{slice_get}
 use Rattle.cli_syntax.specs.Addressing.{cut}
@@ -47,23 +47,23 @@ sort-plain (b ∷ bs) h = by (eqb b 45) refl
     by true e = let same : b ≡ 45 = grind (arith, nat_tests) in rw (h same, same) refl
     by false e = undashed b bs e
 
-pub sort-joined : (name value : List ℕ) → IsName name → sort_of (joined name value) ≡ Joined name value
+pub sort-joined : (name value : List ℕ) → IsOptionName name → sort_of (joined name value) ≡ Joined name value
 sort-joined [] value h = rw (before_first-at 61 [] value (lacks_at 61 [] tt), after_first-at 61 [] value (lacks_at 61 [] tt)) refl
 sort-joined (b ∷ bs) value h =
     rw (before_first-at 61 (b ∷ bs) value (lacks_at 61 (b ∷ bs) h), after_first-at 61 (b ∷ bs) value (lacks_at 61 (b ∷ bs) h), list_any-at 61 (b ∷ bs) value) refl
 
-pub sort-apart : (name : List ℕ) → IsName name → name ≢ [] → sort_of (dashes ++ name) ≡ Apart name
+pub sort-apart : (name : List ℕ) → IsOptionName name → name ≢ [] → sort_of (dashes ++ name) ≡ Apart name
 sort-apart [] h some = absurd (some refl)
 sort-apart (b ∷ bs) h some =
     rw (before_first-Lacks 61 (b ∷ bs) (lacks_at 61 (b ∷ bs) h), list_any-Lacks 61 (b ∷ bs) (lacks_at 61 (b ∷ bs) h)) refl
 
 -- ---- what the sort of a word says of it
 
-abbrev pub IsSort : List ℕ → Sort → Type 0
+abbrev pub IsSort : List ℕ → ArgKind → Type 0
 IsSort word Dashes = word ≡ dashes
 IsSort word Plain = Unit {0}
-IsSort word (Joined name value) = IsName name × (word ≡ joined name value)
-IsSort word (Apart name) = IsName name × (word ≡ dashes ++ name)
+IsSort word (Joined name value) = IsOptionName name × (word ≡ joined name value)
+IsSort word (Apart name) = IsOptionName name × (word ≡ dashes ++ name)
 IsSort word Stray = Unit {0}
 
 option_is : (text : List ℕ) (o : Option (List ℕ × List ℕ)) → cut 61 text ≡ o → IsSort (dashes ++ text) (option_sort (name_and_value text).0 (name_and_value text).1)

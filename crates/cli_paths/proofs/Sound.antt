@@ -2,8 +2,8 @@
 use Rattle.std.proofs.Common.{◌≡◌, ◌≢◌, inl, inr, ℕ, Bool, true, false, cond, List, [], ◌∷◌, ◌++◌, map, Some, None, refl, ap, sym, ◌∙◌, subst}
 use Rattle.std.proofs.lemmas.Option.{same_Some}
 use Rattle.std.proofs.lemmas.List.{append_assoc}
-use Rattle.cli_syntax.specs.Spelling.{Argument, Plain as PlainWord, Named, WordsBegin, plain as plain_word, in_one, in_two, WordsSpell, none, more, behind, IsPlain, IsName as HasName, dashes, joined}
-use Rattle.cli_paths.specs.Uses.{Use, Sort, Dashes, Plain, Joined, Apart, Stray, sort_of, Idle, Value, is_known, plain, has_use, trailed, run, stepped}
+use Rattle.cli_syntax.specs.Spelling.{Argument, Plain as PlainWord, Named, WordsBegin, plain as plain_word, in_one, in_two, WordsSpell, none, more, behind, IsPlain, IsOptionName as HasName, dashes, joined}
+use Rattle.cli_paths.specs.Uses.{Use, ArgKind, Dashes, Plain, Joined, Apart, Stray, sort_of, Idle, Value, is_known, plain, has_use, trailed, run, stepped}
 use Rattle.cli_paths.proofs.Fresh.{Fresh, uses_of, AllKnown, AllPlain, AllNamed}
 use Rattle.cli_paths.proofs.SortLemmas.{IsSort, sort_is}
 
@@ -122,14 +122,14 @@ module _ (word : List ℕ) (rest : List (List ℕ)) (c : Sound rest) where
   apart_by name done all h is false k e = absurd cc
   apart_by name done all h is true k e = c.values done all name word h k is e
 
-  idle_by : (done all : List Use) (s : Sort) → IsSort word s → stepped Idle s word done (run rest) (trailed rest) ≡ Some all → Reads (word ∷ rest) done all
+  idle_by : (done all : List Use) (s : ArgKind) → IsSort word s → stepped Idle s word done (run rest) (trailed rest) ≡ Some all → Reads (word ∷ rest) done all
   idle_by done all Dashes is e = all_behind word rest done all is (trails rest done all e)
   idle_by done all Plain is e = text_by done all (has_use plain done) refl e
   idle_by done all (Joined name value) is e = joined_by name value done all is.0 is.1 (is_known name) refl e
   idle_by done all (Apart name) is e = apart_by name done all is.0 is.1 (is_known name) refl e
   idle_by done all Stray is e = absurd cc
 
-  value_by : (done all : List Use) (name first : List ℕ) → HasName name → is_known name ≡ true → first ≡ dashes ++ name → (s : Sort) → stepped (Value name) s word done (run rest) (trailed rest) ≡ Some all
+  value_by : (done all : List Use) (name first : List ℕ) → HasName name → is_known name ≡ true → first ≡ dashes ++ name → (s : ArgKind) → stepped (Value name) s word done (run rest) (trailed rest) ≡ Some all
       → Reads (first ∷ word ∷ rest) done all
   value_by done all name first h k is Dashes e = absurd cc
   value_by done all name first h k is Plain e =

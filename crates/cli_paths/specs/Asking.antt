@@ -1,10 +1,10 @@
 -- The request of the texts of a command line, as a function.
 use Rattle.std.specs.Prelude.{ℕ, nat_le, ◌&&◌, if◌then◌else◌, List, length, Option, Some, None, option_map, option_and_then}
 use Rattle.drm_links.specs.declared.dock.Address.{Address}
-use Rattle.cli_paths.specs.declared.request.Request.{Request}
+use Rattle.cli_paths.specs.declared.request.PathsRequest.{PathsRequest}
 use Rattle.cli_syntax.specs.Reading.{within}
 use Rattle.cli_syntax.specs.Addressing.{◌>>=◌, addresses_of}
-use Rattle.cli_paths.specs.Told.{Told, parse_of}
+use Rattle.cli_paths.specs.CommandTexts.{CommandTexts, parse_of}
 
 abbrev pub number_or : ℕ → ℕ → ℕ → Option (List ℕ) → Option ℕ
 number_or default least greatest None = Some default
@@ -21,7 +21,7 @@ if_several list = if nat_le 2 (length list) && nat_le (length list) 4 then Some 
 abbrev pub several_of : List ℕ → Option (List Address)
 several_of text = option_and_then if_several (addresses_of text)
 
-unfoldable pub request_of : Told → Option Request
+unfoldable pub request_of : CommandTexts → Option PathsRequest
 request_of t = do
   addresses ← several_of t.addresses
   window ← number_or 8 1 64 t.window
@@ -40,5 +40,5 @@ request_of t = do
     limit = limit;
   })
 
-abbrev pub line_of : List (List ℕ) → Option Request
+abbrev pub line_of : List (List ℕ) → Option PathsRequest
 line_of words = option_and_then request_of (parse_of words)

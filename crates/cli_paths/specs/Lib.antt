@@ -1,6 +1,6 @@
 pub mod Command
 pub mod Uses
-pub mod Told
+pub mod CommandTexts
 pub mod Said
 pub mod Asking
 pub mod Table

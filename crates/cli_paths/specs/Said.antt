@@ -1,9 +1,9 @@
 -- The texts that the code holds.
 use Rattle.std.specs.Prelude.{option_map}
 use Rattle.cli_paths.specs.declared.texts.Texts.{Texts}
-use Rattle.cli_paths.specs.Told.{Told}
+use Rattle.cli_paths.specs.CommandTexts.{CommandTexts}
 
-abbrev pub texts_said : Texts → Told
+abbrev pub texts_said : Texts → CommandTexts
 texts_said t = record {
   addresses = t.addresses.now;
   window = option_map (λ s. s.now) t.window;

@@ -8,4 +8,4 @@ mod request;
 mod texts;
 
 pub use read::{one_request, read_paths};
-pub use request::Request;
+pub use request::PathsRequest;

@@ -1,15 +1,15 @@
 //! The request of words.
 
 ghost use Rattle.std.specs.Prelude.{◌≡◌, ◌⊎◌, Err, IfOk, map, string_bytes};
-ghost use Rattle.cli_paths.specs.Line.{IsPathsLine, HasOneRequest};
+ghost use Rattle.cli_paths.specs.Line.{IsPathsLine, HasOnePathsRequest};
 ghost use Rattle.cli_paths.specs.Asking.{line_of, several_of, number_or, number_or_none, request_of};
 ghost use Rattle.cli_paths.specs.Said.{texts_said};
 ghost use Rattle.cli_syntax.specs.Gives.{ParserGives};
 ghost use Rattle.cli_syntax.specs.declared.fault.WordsFault.TheVariants as faults;
-ghost use Rattle.cli_paths.specs.declared.request.Request.{Request};
+ghost use Rattle.cli_paths.specs.declared.request.PathsRequest.{PathsRequest};
 
 use crate::numbers::{number_or, number_or_none};
-use crate::request::Request;
+use crate::request::PathsRequest;
 use crate::texts::{Texts, read_texts};
 use cli_syntax::{WordsFault, read_addresses};
 use drm_links::Addresses;
@@ -34,7 +34,7 @@ fn several(alloc: Global, text: &str) -> Result<Addresses, WordsFault>
 
 // The request of the texts.
 #[tactic(auto, unfolding(crate::specs::Asking::request_of))]
-fn request(alloc: Global, texts: Texts<'_>) -> Result<Request, WordsFault>
+fn request(alloc: Global, texts: Texts<'_>) -> Result<PathsRequest, WordsFault>
     ensures { ParserGives result (request_of (texts_said texts.entry)) }
 {
     let addresses = several(alloc, texts.addresses)?;
@@ -56,7 +56,7 @@ fn request(alloc: Global, texts: Texts<'_>) -> Result<Request, WordsFault>
     let Some(limit) = number_or(1_000_000, 1, 1_000_000, texts.limit) else {
         return Err(WordsFault::Words);
     };
-    Ok(Request {
+    Ok(PathsRequest {
         addresses,
         window: window as u8,
         reach: reach as u16,
@@ -67,7 +67,7 @@ fn request(alloc: Global, texts: Texts<'_>) -> Result<Request, WordsFault>
     })
 }
 
-fn read_line(alloc: Global, words: &[String]) -> Result<Request, WordsFault>
+fn read_line(alloc: Global, words: &[String]) -> Result<PathsRequest, WordsFault>
     ensures { ParserGives result (line_of (map string_bytes words.now)) }
 {
     let texts = read_texts(alloc, words)?;
@@ -75,17 +75,17 @@ fn read_line(alloc: Global, words: &[String]) -> Result<Request, WordsFault>
 }
 
 /// The request of the words that stand behind the program's name.
-pub fn read_paths(alloc: Global, words: &[String]) -> Result<Request, WordsFault>
+pub fn read_paths(alloc: Global, words: &[String]) -> Result<PathsRequest, WordsFault>
     // A request is answered only where it fits the words.
     ensures found { IfOk result (λ request. IsPathsLine (map string_bytes words.now) request) }
     // Words that some request fits are never refused: unless memory runs out, that request is the answer.
-    ensures only { (request : Request) → IsPathsLine (map string_bytes words.now) request
+    ensures only { (request : PathsRequest) → IsPathsLine (map string_bytes words.now) request
         → (result ≡ Ok request) ⊎ (result ≡ Err faults.NoMemory) }
     // Words are refused as such only where no request fits them, ..
     ensures refused { result ≡ Err faults.Words
-        → (request : Request) → IsPathsLine (map string_bytes words.now) request → ⊥ }
+        → (request : PathsRequest) → IsPathsLine (map string_bytes words.now) request → ⊥ }
     // .. and where none does they are, unless memory runs out.
-    ensures exact { ((request : Request) → IsPathsLine (map string_bytes words.now) request → ⊥)
+    ensures exact { ((request : PathsRequest) → IsPathsLine (map string_bytes words.now) request → ⊥)
         → (result ≡ Err faults.Words) ⊎ (result ≡ Err faults.NoMemory) }
 {
     read_line(alloc, words)
@@ -93,5 +93,5 @@ pub fn read_paths(alloc: Global, words: &[String]) -> Result<Request, WordsFault
 
 /// At most one request fits the words.
 pub fn one_request()
-    ensures { HasOneRequest }
+    ensures { HasOnePathsRequest }
 {}

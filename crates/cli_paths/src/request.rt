@@ -4,7 +4,7 @@ use drm_links::Addresses;
 
 /// What a command line asks for.
 #[derive(Drop)]
-pub struct Request {
+pub struct PathsRequest {
     /// Two to four, all different.
     pub addresses: Addresses,
     /// 1 to 64.

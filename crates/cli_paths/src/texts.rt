@@ -2,7 +2,7 @@
 
 ghost use Rattle.std.specs.Prelude.{◌≡◌, ◌≢◌, ◌↔◌, map, string_bytes};
 ghost use Rattle.clap.specs.Values.{kind_of};
-ghost use Rattle.cli_paths.specs.Told.{parse_of};
+ghost use Rattle.cli_paths.specs.CommandTexts.{parse_of};
 ghost use Rattle.cli_syntax.specs.Gives.{GivesBy};
 ghost use Rattle.cli_paths.specs.Said.{texts_said};
 

@@ -9,7 +9,7 @@ use Rattle.std.proofs.lemmas.Option.{same_Some, cond_some}
 use Rattle.std.proofs.lemmas.Slice.Eq.{bytes_eq-Decides}
 use Rattle.std.proofs.lemmas.List.Splits.{length-slice_split}
 use Rattle.drm_links.specs.declared.dock.Address.{Address}
-use Rattle.cli_syntax.specs.Numbers.{IsWithin}
+use Rattle.cli_syntax.specs.Numbers.{IsNumberWithin}
 use Rattle.drm_links.specs.Dock.{AreDifferent}
 use Rattle.cli_syntax.specs.Addresses.{AreWithin, IsAddress, EachIsAddress, AreAddresses}
 use Rattle.cli_syntax.specs.Reading.{within}
@@ -29,7 +29,7 @@ digits_lack mark other (b ∷ bs) e = (first, digits_lack mark other bs (grind a
         let none : is_ascii_digit b ≡ false = ap is_ascii_digit same ∙ other in
         absurd cc
 
-pub number_lacks : (mark least greatest : ℕ) → is_ascii_digit mark ≡ false → (text : List ℕ) (n : ℕ) → IsWithin least greatest text n → Lacks mark text
+pub number_lacks : (mark least greatest : ℕ) → is_ascii_digit mark ≡ false → (text : List ℕ) (n : ℕ) → IsNumberWithin least greatest text n → Lacks mark text
 number_lacks mark least greatest other text n h = digits_lack mark other text h.0.digits
 
 pub address_fits : (text : List ℕ) (address : Address) → address_of text ≡ Some address → IsAddress text address
@@ -66,10 +66,10 @@ record Four (a b c d ip : List ℕ) : Type 0 where
   k : ℕ
   l : ℕ
   ip_is : ip ≡ i ∷ j ∷ k ∷ l ∷ []
-  first : IsWithin 0 255 a i
-  second : IsWithin 0 255 b j
-  third : IsWithin 0 255 c k
-  fourth : IsWithin 0 255 d l
+  first : IsNumberWithin 0 255 a i
+  second : IsNumberWithin 0 255 b j
+  third : IsNumberWithin 0 255 c k
+  fourth : IsNumberWithin 0 255 d l
 
 four : (a b c d ip : List ℕ) → AreWithin 0 255 (a ∷ b ∷ c ∷ d ∷ []) ip → Four a b c d ip
 four a b c d [] h = absurd h

@@ -8,7 +8,7 @@ use Rattle.std.specs.Str.Parse.{digits_value, ParsesUnsigned}
 use Rattle.std.proofs.lemmas.Bool.Decides.{nat_tests}
 use Rattle.std.proofs.lemmas.Option.{cond_some}
 use Rattle.std.proofs.lemmas.Str.Parse.{IsDigitsTest, IsNumeralModel, numerals_by_value, digits_value_short, parse_gives}
-use Rattle.cli_syntax.specs.Numbers.{IsNumber, IsWithin}
+use Rattle.cli_syntax.specs.Numbers.{IsNumber, IsNumberWithin}
 use Rattle.cli_syntax.specs.Reading.{is_number, has_leading_zero, number_of, within}
 
 digits_test : IsDigitsTest (λ ds. list_all is_ascii_digit ds ≡ true)
@@ -59,16 +59,16 @@ pub number_is : (text : List ℕ) (n : ℕ) → IsNumber text n → number_of te
 unfolding number_of
 number_is text n h = rw (is_spelled text n h, h.value) refl
 
-pub within_fits : (least greatest : ℕ) (text : List ℕ) (n : ℕ) → within least greatest text ≡ Some n → IsWithin least greatest text n
+pub within_fits : (least greatest : ℕ) (text : List ℕ) (n : ℕ) → within least greatest text ≡ Some n → IsNumberWithin least greatest text n
 unfolding within
 within_fits least greatest text n e =
     let p = stepped (number_of text) _ n e in
     let q = cond_some (leb least p.value && leb p.value greatest) p.value n p.rest in
     let low : least ≤ p.value = let t = q.0 in grind (arith, nat_tests) in
     let high : p.value ≤ greatest = let t = q.0 in grind (arith, nat_tests) in
-    subst (λ (v : ℕ). IsWithin least greatest text v) q.1 (number_fits text p.value p.is, low, high)
+    subst (λ (v : ℕ). IsNumberWithin least greatest text v) q.1 (number_fits text p.value p.is, low, high)
 
-pub within_is : (least greatest : ℕ) (text : List ℕ) (n : ℕ) → IsWithin least greatest text n → within least greatest text ≡ Some n
+pub within_is : (least greatest : ℕ) (text : List ℕ) (n : ℕ) → IsNumberWithin least greatest text n → within least greatest text ≡ Some n
 unfolding within
 within_is least greatest text n h =
     let low : leb least n ≡ true = let p = h.1 in grind (arith, nat_tests) in

@@ -5,8 +5,8 @@ use Rattle.std.specs.List.{IsFirstAndRest}
 use Rattle.std.proofs.lemmas.List.{length-map}
 use Rattle.std.specs.Str.{bytes_eq}
 use Rattle.cli_syntax.specs.Spelling.{dashes}
-use Rattle.cli_syntax.specs.declared.arguments.Next.{Next}
-use Rattle.cli_syntax.specs.declared.arguments.Next.TheVariants as next
+use Rattle.cli_syntax.specs.declared.arguments.NextArgument.{NextArgument}
+use Rattle.cli_syntax.specs.declared.arguments.NextArgument.TheVariants as next
 use Rattle.cli_syntax.specs.Arguing.{ArgumentFollows, IsValued, Dashes, Plain, Joined, Apart, Stray, kind_of, behind_one, read, only_texts, with_text, with_option}
 use Rattle.cli_syntax.proofs.CutLemmas.{differs}
 
@@ -78,7 +78,7 @@ read-none view [] e = refl
 read-none view (x ∷ xs) e = absurd (omega arith)
 
 -- an option whose value is the next word
-valued_follows : (word name : List ℕ) (words : List (List ℕ)) (result : Next) → kind_of word ≡ Apart name → IsValued name words result → ArgumentFollows (word ∷ words) result
+valued_follows : (word name : List ℕ) (words : List (List ℕ)) (result : NextArgument) → kind_of word ≡ Apart name → IsValued name words result → ArgumentFollows (word ∷ words) result
 valued_follows word name [] result e h = rw h (read-apart_last word name e)
 valued_follows word name (value ∷ behind) (next.Option option rest) e h =
     (rw (h.1, h.2, h.3) (read-apart word name value behind e h.0), shorter)
@@ -90,7 +90,7 @@ valued_follows word name (value ∷ behind) next.End e h = absurd h
 valued_follows word name (value ∷ behind) (next.Text text rest) e h = absurd h
 valued_follows word name (value ∷ behind) (next.Behind rest) e h = absurd h
 
-pub first-apart : {X : Type 0} (view : X → List ℕ) (xs rest : List X) (x : X) (text : List ℕ) (first : IsFirstAndRest xs x rest) (is : text ≡ view x) (name : List ℕ) (result : Next)
+pub first-apart : {X : Type 0} (view : X → List ℕ) (xs rest : List X) (x : X) (text : List ℕ) (first : IsFirstAndRest xs x rest) (is : text ≡ view x) (name : List ℕ) (result : NextArgument)
     → Apart name ≡ kind_of text → IsValued name (map view rest) result → ArgumentFollows (map view xs) result
 first-apart view xs rest x text first is name result e h =
     rw (shown view xs rest x text first is) (valued_follows text name (map view rest) result (sym e) h)

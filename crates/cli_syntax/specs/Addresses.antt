@@ -4,12 +4,12 @@ use Rattle.std.specs.List.{slice_split}
 use Rattle.std.specs.Prelude.{◌==◌}
 use Rattle.drm_links.specs.Dock.{AreDifferent}
 use Rattle.drm_links.specs.declared.dock.Address.{Address}
-use Rattle.cli_syntax.specs.Numbers.{IsWithin}
+use Rattle.cli_syntax.specs.Numbers.{IsNumberWithin}
 
 -- the texts spell these numbers, each in the range
 abbrev pub AreWithin : ℕ → ℕ → List (List ℕ) → List ℕ → Type 0
 AreWithin least greatest [] [] = Unit {0}
-AreWithin least greatest (text ∷ texts) (n ∷ ns) = IsWithin least greatest text n × AreWithin least greatest texts ns
+AreWithin least greatest (text ∷ texts) (n ∷ ns) = IsNumberWithin least greatest text n × AreWithin least greatest texts ns
 AreWithin least greatest _ _ = ⊥
 
 -- The text is a.b.c.d:port, with numbers from 0 to 255 and from 1 to 65535. A full stop is 46, a colon 58.
@@ -21,7 +21,7 @@ pub record IsAddress (text : List ℕ) (address : Address) : Type 0 where
   pub port : List ℕ
   pub spelled : text ≡ a ++ 46 ∷ (b ++ 46 ∷ (c ++ 46 ∷ (d ++ 58 ∷ port)))
   pub bytes : AreWithin 0 255 (a ∷ b ∷ c ∷ d ∷ []) address.ip
-  pub number : IsWithin 1 65535 port address.port
+  pub number : IsNumberWithin 1 65535 port address.port
 
 -- each text is an address, and these are the addresses
 abbrev pub EachIsAddress : List (List ℕ) → List Address → Type 0

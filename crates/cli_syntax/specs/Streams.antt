@@ -2,14 +2,14 @@
 use Rattle.std.specs.Prelude.{ℕ, ◌≡◌, ◌+◌, ◌==◌, List, [], ◌∷◌, map, Option, Some, option_and_then, option_map}
 use Rattle.std.specs.List.{slice_split, list_any}
 use Rattle.drm_schedule.specs.declared.live.Live.{Live}
-use Rattle.cli_syntax.specs.Numbers.{IsWithin}
+use Rattle.cli_syntax.specs.Numbers.{IsNumberWithin}
 use Rattle.cli_syntax.specs.Reading.{within}
 use Rattle.cli_syntax.specs.Addressing.{parts_of}
 
 -- The texts are numbers of streams, 0 to 3: each is at least this, or above the one before it.
 abbrev pub AreRising : ℕ → List (List ℕ) → List ℕ → Type 0
 AreRising least [] [] = Unit {0}
-AreRising least (text ∷ texts) (n ∷ ns) = IsWithin least 3 text n × AreRising (n + 1) texts ns
+AreRising least (text ∷ texts) (n ∷ ns) = IsNumberWithin least 3 text n × AreRising (n + 1) texts ns
 AreRising least _ _ = ⊥
 
 -- the streams with these numbers take their bytes from input, and no others

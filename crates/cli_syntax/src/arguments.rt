@@ -17,7 +17,7 @@ pub struct Arguments<'a> {
 
 /// What stands first among words, and the words behind it.
 #[derive(Clone, Copy)]
-pub(crate) enum Next<'a> {
+pub(crate) enum NextArgument<'a> {
     End,
     Text(&'a str, &'a [String]),
     Option(Named<'a>, &'a [String]),
@@ -27,32 +27,32 @@ pub(crate) enum Next<'a> {
 }
 
 // An option whose value is the next word.
-fn valued<'a>(name: &'a str, words: &'a [String]) -> Next<'a>
+fn valued<'a>(name: &'a str, words: &'a [String]) -> NextArgument<'a>
     ensures { IsValued name.now (map string_bytes words.now) result }
 {
     let Some((value, rest)) = words.split_first() else {
-        return Next::Refused;
+        return NextArgument::Refused;
     };
     let value = value.as_str();
     if value == "--" {
-        return Next::Refused;
+        return NextArgument::Refused;
     }
-    Next::Option(Named { name, value }, rest)
+    NextArgument::Option(Named { name, value }, rest)
 }
 
-fn first_of(words: &[String]) -> Next<'_>
+fn first_of(words: &[String]) -> NextArgument<'_>
     ensures { ArgumentFollows (map string_bytes words.now) result }
 {
     let Some((word, rest)) = words.split_first() else {
-        return Next::End;
+        return NextArgument::End;
     };
     let word = word.as_str();
     match kind(word) {
-        WordKind::Dashes => Next::Behind(rest),
-        WordKind::Plain => Next::Text(word, rest),
-        WordKind::Joined(option) => Next::Option(option, rest),
+        WordKind::Dashes => NextArgument::Behind(rest),
+        WordKind::Plain => NextArgument::Text(word, rest),
+        WordKind::Joined(option) => NextArgument::Option(option, rest),
         WordKind::Apart(name) => valued(name, rest),
-        WordKind::Stray => Next::Refused,
+        WordKind::Stray => NextArgument::Refused,
     }
 }
 
@@ -77,20 +77,20 @@ pub fn read_arguments(alloc: Global, words: &[String]) -> Result<Arguments<'_>, 
     let mut rest = words;
     loop {
         match first_of(rest) {
-            Next::End => break,
-            Next::Text(text, behind) => {
+            NextArgument::End => break,
+            NextArgument::Text(text, behind) => {
                 texts.push(text)?;
                 rest = behind;
             }
-            Next::Option(option, behind) => {
+            NextArgument::Option(option, behind) => {
                 options.push(option)?;
                 rest = behind;
             }
-            Next::Behind(words) => {
+            NextArgument::Behind(words) => {
                 put_words(&mut texts, words)?;
                 break;
             }
-            Next::Refused => return Err(WordsFault::Words),
+            NextArgument::Refused => return Err(WordsFault::Words),
         }
     }
     Ok(Arguments { texts, options })

@@ -5,7 +5,7 @@ use Rattle.std.specs.List.{AllByRecursion}
 use Rattle.std.proofs.lemmas.List.{take-append-le}
 use Rattle.drm_links.specs.Link.{Answer, Datagram, Idle, End}
 use Rattle.law_collect.specs.Laws.{OneRun}
-use Rattle.dcp_collect.specs.State.{made}
+use Rattle.dcp_collect.specs.CollectorState.{made}
 use Rattle.drm_schedule.specs.declared.plan.Plan.{Plan}
 use Rattle.drm_schedule.specs.Valid.{IsSchedule}
 use Rattle.mod_feed.specs.Feeding.{FeedAnswers}
@@ -17,46 +17,46 @@ use Rattle.recv_reading.specs.declared.reason.EndWord.{EndWord}
 use Rattle.recv_reading.specs.declared.reason.EndWord.TheVariants as word
 use Rattle.drm_links.specs.Hearing.{AreNext}
 use Rattle.recv_reading.specs.declared.options.ReceiveOptions.{ReceiveOptions}
-use Rattle.recv_reading.specs.Ending.{datagrams, idles, ReasonHolds, IsOpen, IsSound, EndsBy}
+use Rattle.recv_reading.specs.Ending.{datagrams, idles, ReasonHolds, IsReadingOpen, HasNotFailed, ReadingEndsBy}
 use Rattle.report_text.specs.Reports.{refusals, report, Report}
-use Rattle.recv_report.specs.Headline.{strays_from, ReportsDelivery, ReportsAllFrames, untold, WouldBeRead}
+use Rattle.recv_report.specs.Headline.{foreign_from, ReportsDelivery, ReportsAllFrames, without_frames, WouldBeRead}
 use Rattle.recv_report.specs.Ahead.{IsReportOf}
 use Rattle.cmd_air.specs.Air.{air_rules}
-use Rattle.recv_report.proofs.Composing.{DeliveryLaws, tells_switches, gives_in_time, prints_frames, strays_noted}
+use Rattle.recv_report.proofs.Composing.{DeliveryLaws, reports_switches, gives_in_time, prints_frames, foreign_noted}
 
 -- ---- the answers
 
 -- nothing is left, and so all answers are idle
-all_idle : (answers rest : List Answer) → AreNext [] answers rest → (datagrams answers ≡ []) × AllByRecursion IsSound answers
+all_idle : (answers rest : List Answer) → AreNext [] answers rest → (datagrams answers ≡ []) × AllByRecursion HasNotFailed answers
 all_idle [] rest next = (refl, tt)
 all_idle (a ∷ answers) rest next =
     let more = all_idle answers rest next.1 in (
       ap (λ b. datagrams (b ∷ answers)) next.0 ∙ more.0,
-      (subst IsSound (sym next.0) tt, more.1),
+      (subst HasNotFailed (sym next.0) tt, more.1),
     )
 
 -- no answer failed
-pub none_failed : (brought : List (List ℕ)) (answers rest : List Answer) → AreNext (map Datagram brought) answers rest → AllByRecursion IsSound answers
+pub none_failed : (brought : List (List ℕ)) (answers rest : List Answer) → AreNext (map Datagram brought) answers rest → AllByRecursion HasNotFailed answers
 none_failed brought [] rest next = tt
 none_failed [] (a ∷ answers) rest next = (all_idle (a ∷ answers) rest next).1
-none_failed (d ∷ brought) (a ∷ answers) rest next = (subst IsSound (sym next.0) tt, none_failed brought answers rest next.1)
+none_failed (d ∷ brought) (a ∷ answers) rest next = (subst HasNotFailed (sym next.0) tt, none_failed brought answers rest next.1)
 
 -- those that came are a front of those that were brought
-pub front_came : (brought : List (List ℕ)) (answers rest : List Answer) → AreNext (map Datagram brought) answers rest
+pub front_received : (brought : List (List ℕ)) (answers rest : List Answer) → AreNext (map Datagram brought) answers rest
     → (later : List (List ℕ)) × (brought ≡ datagrams answers ++ later)
-front_came brought [] rest next = (brought, refl)
-front_came [] (a ∷ answers) rest next = ([], sym (ap (λ l. l ++ []) (all_idle (a ∷ answers) rest next).0))
-front_came (d ∷ brought) (a ∷ answers) rest next =
-    let more = front_came brought answers rest next.1 in
+front_received brought [] rest next = (brought, refl)
+front_received [] (a ∷ answers) rest next = ([], sym (ap (λ l. l ++ []) (all_idle (a ∷ answers) rest next).0))
+front_received (d ∷ brought) (a ∷ answers) rest next =
+    let more = front_received brought answers rest next.1 in
     (more.0, ap (λ l. d ∷ l) more.1 ∙ sym (ap (λ b. datagrams (b ∷ answers) ++ more.0) next.0))
 
 -- after an idle answer all came
-pub all_came : (brought : List (List ℕ)) (answers rest : List Answer) → AreNext (map Datagram brought) answers rest
+pub all_received : (brought : List (List ℕ)) (answers rest : List Answer) → AreNext (map Datagram brought) answers rest
     → (idles answers ≡ 0) ⊎ (datagrams answers ≡ brought)
-all_came brought [] rest next = inl refl
-all_came [] (a ∷ answers) rest next = inr (all_idle (a ∷ answers) rest next).0
-all_came (d ∷ brought) (a ∷ answers) rest next =
-    elim (all_came brought answers rest next.1) [
+all_received brought [] rest next = inl refl
+all_received [] (a ∷ answers) rest next = inr (all_idle (a ∷ answers) rest next).0
+all_received (d ∷ brought) (a ∷ answers) rest next =
+    elim (all_received brought answers rest next.1) [
       | inl none ↦ inl (ap (λ b. idles (b ∷ answers)) next.0 ∙ none)
       | inr all ↦ inr (ap (λ b. datagrams (b ∷ answers)) next.0 ∙ ap (λ l. d ∷ l) all)
     ]
@@ -66,7 +66,7 @@ pub never_ends : (brought : List (List ℕ)) (answers rest before : List Answer)
 never_ends brought [] rest [] next e = cc
 never_ends brought [] rest (b ∷ before) next e = cc
 never_ends [] (a ∷ answers) rest [] next e = let idle : a ≡ Idle = next.0 in cc
-never_ends (d ∷ brought) (a ∷ answers) rest [] next e = let came : a ≡ Datagram d = next.0 in cc
+never_ends (d ∷ brought) (a ∷ answers) rest [] next e = let received : a ≡ Datagram d = next.0 in cc
 never_ends [] (a ∷ answers) rest (b ∷ before) next e = never_ends [] answers rest before next.1 cc
 never_ends (d ∷ brought) (a ∷ answers) rest (b ∷ before) next e = never_ends brought answers rest before next.1 cc
 
@@ -79,13 +79,13 @@ next_all : (brought : List (List ℕ)) → AreNext (map Datagram brought) (all_a
 next_all [] = (refl, refl)
 next_all (d ∷ brought) = (refl, next_all brought)
 
-sound_all : (brought : List (List ℕ)) → AllByRecursion IsSound (all_answers brought)
+sound_all : (brought : List (List ℕ)) → AllByRecursion HasNotFailed (all_answers brought)
 sound_all [] = (tt, tt)
 sound_all (d ∷ brought) = (tt, sound_all brought)
 
-pub came_all : (brought : List (List ℕ)) → datagrams (all_answers brought) ≡ brought
-came_all [] = refl
-came_all (d ∷ brought) = ap (λ l. d ∷ l) (came_all brought)
+pub received_all : (brought : List (List ℕ)) → datagrams (all_answers brought) ≡ brought
+received_all [] = refl
+received_all (d ∷ brought) = ap (λ l. d ∷ l) (received_all brought)
 
 idle_all : (brought : List (List ℕ)) → idles (all_answers brought) ≡ 1
 idle_all [] = refl
@@ -121,7 +121,7 @@ front_unended (d ∷ brought) zero (b ∷ before) e = cc
 front_unended (d ∷ brought) (suc k) [] e = cc
 front_unended (d ∷ brought) (suc k) (b ∷ before) e = front_unended brought k before cc
 
-front_open : (rules : ReceiveOptions) (brought : List (List ℕ)) → rules.idle ≡ 1 → length brought < rules.limit → (k : ℕ) → k < length (all_answers brought) → IsOpen (untold rules) (take k (all_answers brought))
+front_open : (rules : ReceiveOptions) (brought : List (List ℕ)) → rules.idle ≡ 1 → length brought < rules.limit → (k : ℕ) → k < length (all_answers brought) → IsReadingOpen (without_frames rules) (take k (all_answers brought))
 front_open rules brought idle few k shorter word.Frames holds = holds
 front_open rules brought idle few k shorter word.Limit holds = let many = front_many brought k in omega (arith, many, holds, few)
 front_open rules brought idle few k shorter word.Idle holds = let none = front_idles brought k shorter in omega (arith, none, holds, idle)
@@ -139,7 +139,7 @@ would_be_read rules brought idle few = inl (
       ends = (
         (let one = idle_all brought in omega (arith, one, idle)),
         (λ holds. holds),
-        (λ holds. let same = ap (λ l. length l) (came_all brought) in omega (arith, same, holds, few)),
+        (λ holds. let same = ap (λ l. length l) (received_all brought) in omega (arith, same, holds, few)),
       );
     };
   },
@@ -158,9 +158,9 @@ pairs_again : (pairs : List (ℕ × ℕ)) → pairs_in (map OfSchedule pairs) �
 pairs_again [] = refl
 pairs_again (p ∷ pairs) = ap (λ l. p ∷ l) (pairs_again pairs)
 
-no_strays : (n : ℕ) (pairs : List (ℕ × ℕ)) → strays_from n (map OfSchedule pairs) ≡ []
-no_strays n [] = refl
-no_strays n (p ∷ pairs) = no_strays (n + 1) pairs
+no_foreign : (n : ℕ) (pairs : List (ℕ × ℕ)) → foreign_from n (map OfSchedule pairs) ≡ []
+no_foreign n [] = refl
+no_foreign n (p ∷ pairs) = no_foreign (n + 1) pairs
 
 front_arrives : (n : ℕ) (pairs : List (ℕ × ℕ)) → take n (map OfSchedule pairs) ≡ map OfSchedule (take n pairs)
 front_arrives zero pairs = refl
@@ -169,57 +169,57 @@ front_arrives (suc n) (p ∷ pairs) = ap (λ l. OfSchedule p ∷ l) (front_arriv
 
 -- ---- the report of a feed is that of its whole delivery
 
-module _ (one_run : OneRun) (laws : DeliveryLaws) (plan : Plan) (window number : ℕ) (base : ℤ) (pairs : List (ℕ × ℕ)) (brought : List (List ℕ)) (r : Report)
-    (valid : IsSchedule plan) (some : 1 ≤ window) (few : length brought < 4294967295) (followed : IsDeliveryOf plan 32767 (Some plan.seq) base (map OfSchedule pairs) brought)
+module _ (one_run : OneRun) (laws : DeliveryLaws) (plan : Plan) (window number : ℕ) (first_frame : ℤ) (pairs : List (ℕ × ℕ)) (brought : List (List ℕ)) (r : Report)
+    (valid : IsSchedule plan) (some : 1 ≤ window) (few : length brought < 4294967295) (followed : IsDeliveryOf plan 32767 (Some plan.seq) first_frame (map OfSchedule pairs) brought)
     (of : IsReportOf (air_rules plan window) number (map Datagram brought) r) where
   abbrev arrivals : List Arrival
   arrivals = map OfSchedule pairs
 
   -- a reading that ended by the told number
-  early : ReasonHolds (air_rules plan window) of.answers word.Frames → ReportsDelivery plan (air_rules plan window) number base arrivals of.answers r.text r.clean
+  early : ReasonHolds (air_rules plan window) of.answers word.Frames → ReportsDelivery plan (air_rules plan window) number first_frame arrivals of.answers r.text r.clean
   early holds =
       let is = of.is in
       let n : ℕ = frame_count plan in
-      let came = front_came brought of.answers of.rest of.next in
-      let whole : IsDeliveryOf plan 32767 (Some plan.seq) base arrivals (datagrams of.answers ++ came.0) = subst (λ l. IsDeliveryOf plan 32767 (Some plan.seq) base arrivals l) came.1 followed in
+      let received = front_received brought of.answers of.rest of.next in
+      let whole : IsDeliveryOf plan 32767 (Some plan.seq) first_frame arrivals (datagrams of.answers ++ received.0) = subst (λ l. IsDeliveryOf plan 32767 (Some plan.seq) first_frame arrivals l) received.1 followed in
       let same : is.run.during ≡ holds.1 = (one_run (made window 32767 (Some plan.seq)) holds.2 is.run.mid (datagrams of.answers) holds.0 is.taken holds.1 is.run.during holds.3 is.run.steps).1 in
       let many : n ≤ length is.run.during = subst (λ l. n ≤ length l) (sym same) holds.4 in
       let items : is.items ≡ take n is.run.during = is.run.are ∙ take-append-le n is.run.during is.run.rest many in
-      let suit = laws.refused plan window 32767 (Some plan.seq) base arrivals (datagrams of.answers) came.0 is.taken is.run.during is.run.mid valid some whole is.run.steps in
+      let suit = laws.refused plan window 32767 (Some plan.seq) first_frame arrivals (datagrams of.answers) received.0 is.taken is.run.during is.run.mid valid some whole is.run.steps in
       let size : ℕ = length (datagrams of.answers) in
-      let none : refusals is.taken ≡ strays_from 0 arrivals =
-      strays_noted 0 (take size arrivals) is.taken suit ∙ ap (strays_from 0) (front_arrives size pairs) ∙ no_strays 0 (take size pairs) ∙ sym (no_strays 0 pairs) in
-      let given : AreGiven plan window base (Some n) (pairs_in arrivals) is.steps =
-      laws.early plan window 32767 n (Some plan.seq) base arrivals (datagrams of.answers) came.0 is.taken is.run.during is.run.mid is.steps is.after
+      let none : refusals is.taken ≡ foreign_from 0 arrivals =
+      foreign_noted 0 (take size arrivals) is.taken suit ∙ ap (foreign_from 0) (front_arrives size pairs) ∙ no_foreign 0 (take size pairs) ∙ sym (no_foreign 0 pairs) in
+      let given : AreGiven plan window first_frame (Some n) (pairs_in arrivals) is.steps =
+      laws.early plan window 32767 n (Some plan.seq) first_frame arrivals (datagrams of.answers) received.0 is.taken is.run.during is.run.mid is.steps is.after
       valid some whole is.run.steps many (subst (λ l. FeedAnswers new_tracker l is.steps is.after) items is.feeds) in
       record {
         steps = is.steps;
         given = given;
-        in_time = gives_in_time laws.items plan window base (Some n) (pairs_in arrivals) is.steps valid given;
+        in_time = gives_in_time laws.items plan window first_frame (Some n) (pairs_in arrivals) is.steps valid given;
         printed = prints_frames laws.items plan is.steps;
-        switches = tells_switches laws.items plan window base (Some n) (pairs_in arrivals) is.steps valid given;
+        switches = reports_switches laws.items plan window first_frame (Some n) (pairs_in arrivals) is.steps valid given;
         word = is.word;
         reading = is.reading;
         text_is = is.text_is ∙ ap (λ l. report number is.steps l is.word) none;
         clean_is = is.clean_is;
       }
 
-  headline_by : (w : EndWord) → EndsBy (air_rules plan window) of.answers w → ReportsDelivery plan (air_rules plan window) number base arrivals of.answers r.text r.clean
+  headline_by : (w : EndWord) → ReadingEndsBy (air_rules plan window) of.answers w → ReportsDelivery plan (air_rules plan window) number first_frame arrivals of.answers r.text r.clean
   headline_by word.Frames ends = early ends
   headline_by word.Limit ends =
-      let came = front_came brought of.answers of.rest of.next in
-      let size : length brought ≡ length (datagrams of.answers) + length came.0 = ap (λ l. length l) came.1 ∙ length-append (datagrams of.answers) came.0 in
+      let received = front_received brought of.answers of.rest of.next in
+      let size : length brought ≡ length (datagrams of.answers) + length received.0 = ap (λ l. length l) received.1 ∙ length-append (datagrams of.answers) received.0 in
       let limit : length (datagrams of.answers) ≡ 4294967295 = ends.0 in
       absurd (omega (arith, size, limit, few))
   headline_by word.Idle ends =
-      elim (all_came brought of.answers of.rest of.next) [
+      elim (all_received brought of.answers of.rest of.next) [
         | inl none ↦ absurd (let idle : 1 ≤ idles of.answers = ends.0 in omega (arith, none, idle))
-        | inr all ↦ of.headline plan base arrivals valid (subst (λ l. IsDeliveryOf plan 32767 (Some plan.seq) base arrivals l) (sym all) followed)
+        | inr all ↦ of.headline plan first_frame arrivals valid (subst (λ l. IsDeliveryOf plan 32767 (Some plan.seq) first_frame arrivals l) (sym all) followed)
       ]
   headline_by word.Input ends = absurd (never_ends brought of.answers of.rest ends.0.0 of.next ends.0.1)
   headline_by word.Paths ends = absurd ends
 
-  pub headline : ReportsDelivery plan (air_rules plan window) number base (map OfSchedule pairs) of.answers r.text r.clean
+  pub headline : ReportsDelivery plan (air_rules plan window) number first_frame (map OfSchedule pairs) of.answers r.text r.clean
   headline = headline_by of.is.word of.is.reading.ends
 
 pub complete : (plan : Plan) (window number : ℕ) (pairs : List (ℕ × ℕ)) (brought : List (List ℕ)) (r : Report)
@@ -228,5 +228,5 @@ pub complete : (plan : Plan) (window number : ℕ) (pairs : List (ℕ × ℕ)) (
     → ReportsAllFrames plan (air_rules plan window) number (map OfSchedule pairs) (map Datagram brought) r.text r.clean
 complete plan window number pairs brought r valid few of followed in_time =
     of.complete plan (map OfSchedule pairs) (all_answers brought) valid (would_be_read (air_rules plan window) brought refl few)
-    (subst (λ l. IsDeliveryOf plan 32767 (Some plan.seq) (pos 0) (map OfSchedule pairs) l) (sym (came_all brought)) followed) (inr refl)
+    (subst (λ l. IsDeliveryOf plan 32767 (Some plan.seq) (pos 0) (map OfSchedule pairs) l) (sym (received_all brought)) followed) (inr refl)
     (λ q within. subst (λ l. IsInTime plan window (pos 0) l q) (sym (pairs_again pairs)) (in_time q within))

@@ -4,7 +4,7 @@ use Rattle.drm_schedule.specs.declared.plan.Plan.{Plan}
 use Rattle.drm_schedule.specs.Valid.{IsSchedule}
 use Rattle.plan_script.specs.declared.delivery.Delivery.{Delivery}
 use Rattle.plan_script.specs.Script.{IsScript, IsDelivery}
-use Rattle.drm_links.specs.Told.{HasFailed, Known, HasCause}
+use Rattle.drm_links.specs.Known.{HasFailed, Known, HasCause}
 use Rattle.drm_links.specs.Shelf.{Files, ShelfSupplies}
 use Rattle.drm_links.specs.Link.{Datagram}
 use Rattle.drm_links.specs.Sink.{Output}
@@ -15,7 +15,7 @@ use Rattle.recv_report.specs.Headline.{ReportsDelivery, ReportsAllFrames}
 use Rattle.cmd_receive.specs.Receive.{WritesReports, WroteReports}
 use Rattle.report_text.specs.Reports.{Report}
 use Rattle.recv_report.specs.Ahead.{IsReportOf}
-use Rattle.cmd_load.specs.Loading.{Step, ReadBy}
+use Rattle.cmd_load.specs.Loading.{ShelfStep, ReadBy}
 use Rattle.cmd_load.specs.Schedule.{schedule_named}
 use Rattle.cmd_load.specs.Scripts.{script_named}
 use Rattle.cmd_load.specs.Faults.{fault_of_schedule, fault_of_script}
@@ -41,8 +41,8 @@ pub record IsAired (plan : Plan) (window feed : ℕ) (deliveries : List Delivery
   pub datagrams : List (List ℕ)
   pub sent : AreSent plan (pairs_of deliveries) datagrams
   pub report : IsReportOf (air_rules plan window) feed (map Datagram datagrams) r
-  pub headline : (base : ℤ) → IsDeliveryOf plan 32767 (Some plan.seq) base (arrivals_of deliveries) datagrams
-      → ReportsDelivery plan (air_rules plan window) feed base (arrivals_of deliveries) report.answers r.text r.clean
+  pub headline : (first_frame : ℤ) → IsDeliveryOf plan 32767 (Some plan.seq) first_frame (arrivals_of deliveries) datagrams
+      → ReportsDelivery plan (air_rules plan window) feed first_frame (arrivals_of deliveries) report.answers r.text r.clean
   pub complete : IsDeliveryOf plan 32767 (Some plan.seq) (pos 0) (arrivals_of deliveries) datagrams
       → ((q : ℕ) → q < frame_count plan → IsInTime plan window (pos 0) (pairs_of deliveries) q)
       → ReportsAllFrames plan (air_rules plan window) feed (arrivals_of deliveries) (map Datagram datagrams) r.text r.clean
@@ -71,9 +71,9 @@ ByScript plan window (Err fault) ending known out out' = (ending ≡ Err (fault_
 pub record OverSchedule {S O : Type 0} (plan : Plan) (script : List ℕ) (window : ℕ) (ending : Result Bool Fault)
     (shelf_known : S → Known Files) (shelf shelf' : S) (out_known : O → Known Output) (out out' : O) : Type 0 where
   pub valid : IsSchedule plan
-  pub came : Result (List (List Delivery)) ScheduleFault
-  pub loads : ReadBy (script_named plan script) came (shelf_known shelf) (shelf_known shelf')
-  pub writes : ByScript plan window came ending out_known out out'
+  pub outcome : Result (List (List Delivery)) ScheduleFault
+  pub loads : ReadBy (script_named plan script) outcome (shelf_known shelf) (shelf_known shelf')
+  pub writes : ByScript plan window outcome ending out_known out out'
 
 abbrev pub BySchedule : {S O : Type 0} → List ℕ → ℕ → Result Plan ScheduleFault → Result Bool Fault
     → (S → Known Files) → S → S → (O → Known Output) → O → O → Type 0
@@ -87,17 +87,17 @@ abbrev pub with_feeds : Plan → Result (List (List Delivery)) ScheduleFault →
 with_feeds plan (Ok feeds) = Ok (plan, feeds)
 with_feeds plan (Err fault) = Err (fault_of_script fault)
 
-abbrev pub with_script : List ℕ → Step Plan → Result (Plan × List (List Delivery)) Fault
-with_script script step = of step.came
+abbrev pub with_script : List ℕ → ShelfStep Plan → Result (Plan × List (List Delivery)) Fault
+with_script script step = of step.outcome
   where
     of : Result Plan ScheduleFault → Result (Plan × List (List Delivery)) Fault
-    of (Ok plan) = with_feeds plan (script_named plan script step.told).came
+    of (Ok plan) = with_feeds plan (script_named plan script step.contents).outcome
     of (Err fault) = Err (fault_of_schedule fault)
 
 -- What the files of these names come to: the schedule and the feeds that the script has for it, or the fault of the first of
 -- them that doesn't come.
 abbrev pub schedule_and_script : List ℕ → List ℕ → Files → Result (Plan × List (List Delivery)) Fault
-schedule_and_script name script told = with_script script (schedule_named name told)
+schedule_and_script name script contents = with_script script (schedule_named name contents)
 
 -- A run ends by what the files come to: with reports, or with a failed write; or with their fault.
 abbrev pub EndsByFiles : {T : Type 0} → Result T Fault → Result Bool Fault → Type 0
@@ -117,10 +117,10 @@ FeedsAreInTime plan window feeds =
 pub record AirRun {S O : Type 0} (name script : List ℕ) (window : ℕ) (ending : Result Bool Fault)
     (shelf_known : S → Known Files) (shelf shelf' : S)
     (out_known : O → Known Output) (out out' : O) : Type 0 where
-  pub came : Result Plan ScheduleFault
+  pub outcome : Result Plan ScheduleFault
   pub between : S
-  pub loads : ReadBy (schedule_named name) came (shelf_known shelf) (shelf_known between)
-  pub runs : BySchedule script window came ending shelf_known between shelf' out_known out out'
+  pub loads : ReadBy (schedule_named name) outcome (shelf_known shelf) (shelf_known between)
+  pub runs : BySchedule script window outcome ending shelf_known between shelf' out_known out out'
   -- It is refused exactly where its files are, with the line and the reason; a load fails exactly where one is to fail.
   pub exactly : ShelfSupplies (shelf_known shelf) (shelf_known shelf') (λ before _. UnlessMemory ending (EndsByFiles (schedule_and_script name script before) ending))
   -- Where its files come to feeds and no write failed the report of each is written, in their order: it is that of the datagrams

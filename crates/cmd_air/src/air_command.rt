@@ -1,13 +1,13 @@
 //! The command `air`.
 
 ghost use Rattle.std.specs.Prelude.{ℕ, ◌≡◌, ◌<◌, ◌≤◌, ◌⊎◌, ◌++◌, [], ◌∷◌, List, length, vec_len, All, IfOk, OnOk, Err};
-ghost use Rattle.drm_links.specs.Told.{HasCause};
+ghost use Rattle.drm_links.specs.Known.{HasCause};
 ghost use Rattle.law_delivery.specs.Sent.{IsSent};
 ghost use Rattle.plan_script.specs.Script.{IsDelivery, fragment_count};
 ghost use Rattle.drm_timeline.specs.Numbers as numbers;
 ghost use Rattle.drm_server.specs.Datagrams.{HasDatagrams};
 ghost use Rattle.cmd_faults.specs.declared.fault.Fault.{Fault};
-ghost use Rattle.recv_report.specs.Jobs.{AreJobs};
+ghost use Rattle.recv_report.specs.Receivers.{AreReceivers};
 ghost use Rattle.cmd_air.specs.Feeds.{BringsFeed, BringFeeds};
 ghost use Rattle.cmd_air.specs.Air.{AirRun, AreFeeds, AreAired, air_rules};
 ghost use Rattle.cmd_receive.specs.Receive.{WritesReports};
@@ -23,7 +23,7 @@ use drm_timeline::frame_count;
 use law_collect::one_run;
 use plan_script::{Delivery, Script};
 use recv_reading::ReceiveOptions;
-use recv_report::{Job, job_for, laws_of_deliveries, reports_follow, run_all, settle};
+use recv_report::{Receiver, laws_of_deliveries, receiver_for, reports_follow, run_all, settle};
 use std::alloc::Global;
 use std::thread::Threads;
 
@@ -72,9 +72,9 @@ pub fn air_over<R: Threads + Sync, O: Sink>(
     reports_follow();
     laws_of_deliveries();
     one_run();
-    let mut jobs = feed_all(alloc, plan, script, window)?;
-    run_all(rt, alloc, jobs.as_mut_slice());
-    ending(settle(jobs.as_slice(), out))
+    let mut receivers = feed_all(alloc, plan, script, window)?;
+    run_all(rt, alloc, receivers.as_mut_slice());
+    ending(settle(receivers.as_slice(), out))
 }
 
 // A receiver for each feed.
@@ -83,25 +83,25 @@ fn feed_all(
     plan: &Schedule,
     script: &Script,
     window: u8,
-) -> Result<Vec<Job<MemLink>>, NoMemory>
+) -> Result<Vec<Receiver<MemLink>>, NoMemory>
     requires at_least_one { 1 ≤ window }
     requires within_limit { window ≤ 64 }
     requires feeds { AreFeeds plan.now script.now }
-    ensures same_count { IfOk result (λ jobs. vec_len jobs ≡ length script.now) }
-    ensures jobs { IfOk result (λ jobs. AreJobs (air_rules plan.now window) (length script.now) jobs.items) }
-    ensures feeds { IfOk result (λ jobs. BringFeeds plan.now script.now jobs.items) }
+    ensures same_count { IfOk result (λ receivers. vec_len receivers ≡ length script.now) }
+    ensures receivers { IfOk result (λ receivers. AreReceivers (air_rules plan.now window) (length script.now) receivers.items) }
+    ensures feeds { IfOk result (λ receivers. BringFeeds plan.now script.now receivers.items) }
 {
     let rules = rules_for(plan, window);
     let mut server = Server::make(alloc, plan)?;
-    let mut jobs = Vec::new(alloc);
+    let mut receivers = Vec::new(alloc);
     for k in 0..script.feeds() {
         let link = link_for(alloc, &mut server, script.deliveries(k))?;
-        let job = job_for(alloc, &rules, k as u8 + 1, link)?;
-        let Ok(()) = jobs.push(job) else {
+        let receiver = receiver_for(alloc, &rules, k as u8 + 1, link)?;
+        let Ok(()) = receivers.push(receiver) else {
             return Err(NoMemory);
         };
     }
-    Ok(jobs)
+    Ok(receivers)
 }
 
 // A feed is read by the greatest reach, the schedule's first sequence number and all its frames, and ends where nothing is

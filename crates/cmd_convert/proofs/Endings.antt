@@ -1,17 +1,17 @@
 -- How a run ends, by how its conversion ends.
 use Rattle.std.proofs.Common.{ℕ, ◌≡◌, Bool, Option, Result, Ok, Err, refl, subst}
 use Rattle.dcp_pft.specs.declared.carry.Carry.{Carry}
-use Rattle.recv_reading.proofs.Common.{State, made, Known, Input, Output}
+use Rattle.recv_reading.proofs.Common.{CollectorState, made, Known, Input, Output}
 use Rattle.capture_reader.specs.declared.packets.CaptureStop.TheVariants as stops
 use Rattle.cmd_faults.specs.declared.fault.Fault.{Fault}
 use Rattle.cmd_faults.specs.declared.fault.Fault.TheVariants as faults
-use Rattle.cmd_convert.specs.declared.item.Halt.TheVariants as halt
-use Rattle.cmd_convert.specs.declared.reading.Unconverted.{Unconverted}
-use Rattle.cmd_convert.specs.declared.reading.Unconverted.TheVariants as unconverted
+use Rattle.cmd_convert.specs.declared.item.ItemError.TheVariants as halt
+use Rattle.cmd_convert.specs.declared.reading.ConvertError.{ConvertError}
+use Rattle.cmd_convert.specs.declared.reading.ConvertError.TheVariants as unconverted
 use Rattle.cmd_convert.specs.Reading.{ending_of}
 use Rattle.cmd_convert.specs.Run.{ConvertEnds}
 
-pub not_memory : (result : Result (Unit {0}) Unconverted) (clean : Bool) → ending_of result clean ≡ Err faults.NoMemory → ⊥
+pub not_memory : (result : Result (Unit {0}) ConvertError) (clean : Bool) → ending_of result clean ≡ Err faults.NoMemory → ⊥
 not_memory (Ok done) clean is = cc
 not_memory (Err (unconverted.Stopped stops.Read)) clean is = cc
 not_memory (Err (unconverted.Stopped (stops.Capture fault))) clean is = cc
@@ -19,7 +19,7 @@ not_memory (Err (unconverted.Stopped stops.TooLong)) clean is = cc
 not_memory (Err (unconverted.Halted halt.Write)) clean is = cc
 not_memory (Err (unconverted.Halted (halt.PacketSize number))) clean is = cc
 
-pub by_read : (result : Result (Unit {0}) Unconverted) (clean : Bool) → ending_of result clean ≡ Err faults.Read → result ≡ Err (unconverted.Stopped stops.Read)
+pub by_read : (result : Result (Unit {0}) ConvertError) (clean : Bool) → ending_of result clean ≡ Err faults.Read → result ≡ Err (unconverted.Stopped stops.Read)
 by_read (Ok done) clean is = absurd (cc)
 by_read (Err (unconverted.Stopped stops.Read)) clean is = refl
 by_read (Err (unconverted.Stopped (stops.Capture fault))) clean is = absurd (cc)
@@ -27,7 +27,7 @@ by_read (Err (unconverted.Stopped stops.TooLong)) clean is = absurd (cc)
 by_read (Err (unconverted.Halted halt.Write)) clean is = absurd (cc)
 by_read (Err (unconverted.Halted (halt.PacketSize number))) clean is = absurd (cc)
 
-pub by_write : (result : Result (Unit {0}) Unconverted) (clean : Bool) → ending_of result clean ≡ Err faults.Write → result ≡ Err (unconverted.Halted halt.Write)
+pub by_write : (result : Result (Unit {0}) ConvertError) (clean : Bool) → ending_of result clean ≡ Err faults.Write → result ≡ Err (unconverted.Halted halt.Write)
 by_write (Ok done) clean is = absurd (cc)
 by_write (Err (unconverted.Stopped stops.Read)) clean is = absurd (cc)
 by_write (Err (unconverted.Stopped (stops.Capture fault))) clean is = absurd (cc)
@@ -36,8 +36,8 @@ by_write (Err (unconverted.Halted halt.Write)) clean is = refl
 by_write (Err (unconverted.Halted (halt.PacketSize number))) clean is = absurd (cc)
 
 -- with what was told in place of the collector and the cutter that were made of it
-pub as_told : (window reach : ℕ) (first told : Option ℕ) (carry used : Carry) (c : State) (ending : Result Bool Fault) (named : Bool) (before after : Known Input) (a b x y : Known Output) → c ≡ made window reach first → used ≡ carry
-    → ConvertEnds (record { window = c.window; reach = c.reach; first = c.first; told = told }) used ending named before after a b x y → ConvertEnds (record { window = window; reach = reach; first = first; told = told }) carry ending named before after a b x y
-as_told window reach first told carry used c ending named before after a b x y is same ends =
-    subst (λ k. ConvertEnds (record { window = window; reach = reach; first = first; told = told }) k ending named before after a b x y) same
-    (subst (λ (s : State). ConvertEnds (record { window = s.window; reach = s.reach; first = s.first; told = told }) used ending named before after a b x y) is ends)
+pub as_asked : (window reach : ℕ) (first frame_limit : Option ℕ) (carry used : Carry) (c : CollectorState) (ending : Result Bool Fault) (named : Bool) (before after : Known Input) (a b x y : Known Output) → c ≡ made window reach first → used ≡ carry
+    → ConvertEnds (record { window = c.window; reach = c.reach; first = c.first; frame_limit = frame_limit }) used ending named before after a b x y → ConvertEnds (record { window = window; reach = reach; first = first; frame_limit = frame_limit }) carry ending named before after a b x y
+as_asked window reach first frame_limit carry used c ending named before after a b x y is same ends =
+    subst (λ k. ConvertEnds (record { window = window; reach = reach; first = first; frame_limit = frame_limit }) k ending named before after a b x y) same
+    (subst (λ (s : CollectorState). ConvertEnds (record { window = s.window; reach = s.reach; first = s.first; frame_limit = frame_limit }) used ending named before after a b x y) is ends)

@@ -1,16 +1,16 @@
 //! The command `convert`.
 
 ghost use Rattle.std.specs.Prelude.{◌≡◌, ◌≤◌, [], true, IfSome, IfOk};
-ghost use Rattle.dcp_collect.specs.State.{made};
+ghost use Rattle.dcp_collect.specs.CollectorState.{made};
 ghost use Rattle.capture_reader.specs.Walking.{new_walker};
 ghost use Rattle.dcp_pft.specs.Carrying.{CarryFits};
 ghost use Rattle.cmd_convert.specs.Reading.{ending_of};
 ghost use Rattle.cmd_convert.specs.Run.{ConvertRun};
-ghost use Rattle.recv_reading.specs.Packets.{Terms};
+ghost use Rattle.recv_reading.specs.Packets.{PacketRange};
 
-use crate::item::Halt;
+use crate::item::ItemError;
 use crate::naming::Progress;
-use crate::reading::{Unconverted, convert_packets};
+use crate::reading::{ConvertError, convert_packets};
 use capture_reader::{Packets, read_one_way, read_some_way};
 use cmd_faults::Fault;
 use dcp_collect::Collector;
@@ -23,7 +23,7 @@ use report_text::LineWriter;
 use std::alloc::Global;
 
 /// Reads a capture from `input`, and writes its packets under a carry to `out`; each that is missing or bad is named on
-/// `err`. Answers whether there is none. A failure of `err` changes nothing, but then `told` doesn't hold afterwards.
+/// `err`. Answers whether there is none. A failure of `err` changes nothing, but then `err_ok` doesn't hold afterwards.
 pub fn convert<I: Source, O: Sink, E: Sink>(
     alloc: Global,
     carry: Carry,
@@ -34,13 +34,13 @@ pub fn convert<I: Source, O: Sink, E: Sink>(
     input: &mut I,
     out: &mut O,
     err: &mut E,
-    told: &mut bool,
+    err_ok: &mut bool,
 ) -> Result<bool, Fault>
     requires carry { CarryFits carry }
     requires window { (1 ≤ window) × (window ≤ 64) }
     requires frames { IfSome frames (λ n. (1 ≤ n) × (n ≤ 3000000)) }
-    requires told { told.old ≡ true }
-    ensures run { ConvertRun (record { window = window; reach = reach; first = first; told = frames }) carry result told.new
+    requires err_ok { err_ok.old ≡ true }
+    ensures run { ConvertRun (record { window = window; reach = reach; first = first; frame_limit = frames }) carry result err_ok.new
         I.known input.old input.new O.known out.old out.new E.known err.old err.new }
 {
     read_one_way();
@@ -52,7 +52,7 @@ pub fn convert<I: Source, O: Sink, E: Sink>(
     let mut progress = Progress {
         given: 0,
         clean: true,
-        told: true,
+        err_ok: true,
     };
     let converted = convert_packets(
         &mut collector,
@@ -65,7 +65,7 @@ pub fn convert<I: Source, O: Sink, E: Sink>(
         out,
         err,
     );
-    *told = progress.told;
+    *err_ok = progress.err_ok;
     ending(converted, progress.clean)
 }
 
@@ -89,13 +89,13 @@ fn parts(
 }
 
 // How a run ends whose conversion ends so.
-fn ending(converted: Result<(), Unconverted>, clean: bool) -> Result<bool, Fault>
+fn ending(converted: Result<(), ConvertError>, clean: bool) -> Result<bool, Fault>
     ensures { result ≡ ending_of converted clean }
 {
     match converted {
         Ok(()) => Ok(clean),
-        Err(Unconverted::Stopped(stop)) => Err(stop.into()),
-        Err(Unconverted::Halted(Halt::Write)) => Err(Fault::Write),
-        Err(Unconverted::Halted(Halt::PacketSize(number))) => Err(Fault::PacketSize(number)),
+        Err(ConvertError::Stopped(stop)) => Err(stop.into()),
+        Err(ConvertError::Halted(ItemError::Write)) => Err(Fault::Write),
+        Err(ConvertError::Halted(ItemError::PacketSize(number))) => Err(Fault::PacketSize(number)),
     }
 }

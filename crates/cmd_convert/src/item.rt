@@ -1,9 +1,9 @@
 //! What a collector gives, converted.
 
 ghost use Rattle.std.specs.Prelude.{◌≡◌, ◌+◌, ◌<◌, ◌^◌, true, length, MatchOption, Some, None, Err};
-ghost use Rattle.drm_links.specs.Told.{HasCause};
+ghost use Rattle.drm_links.specs.Known.{HasCause};
 ghost use Rattle.dcp_af.specs.Faults.{IsFault};
-ghost use Rattle.dcp_collect.specs.State.{ready, after_item};
+ghost use Rattle.dcp_collect.specs.CollectorState.{ready, after_item};
 ghost use Rattle.dcp_collect.specs.View.{item_of};
 ghost use Rattle.dcp_collect.specs.WholePackets.{IsAfIfWhole};
 ghost use Rattle.mod_feed.specs.Items.{number_of};
@@ -21,7 +21,7 @@ use report_text::LineWriter;
 
 /// Why no more is converted.
 #[derive(Clone, Copy, Debug, PartialEq, Eq)]
-pub(crate) enum Halt {
+pub(crate) enum ItemError {
     Write,
     /// The packet with this number is too long for the carry.
     PacketSize(u64),
@@ -37,14 +37,14 @@ pub(crate) fn convert_item<O: Sink, E: Sink>(
     lines: &mut LineWriter,
     out: &mut O,
     err: &mut E,
-) -> Result<(), Halt>
+) -> Result<(), ItemError>
     requires within_limit { progress.old.given < 2 ^ 62 }
     requires in_range { number_of (item_of given) < 2 ^ 62 }
     requires whole { IsAfIfWhole given }
     ensures one { ConvertsOne result cutter.old first (item_of given.entry) progress.old progress.new
         (O.known out.old) (O.known out.new) (E.known err.old) (E.known err.new) }
     ensures carry { cutter.new ≡ cutter.old }
-    ensures cause { HasCause (O.known out.old) (O.known out.new) (result ≡ Err Halt.Write) }
+    ensures cause { HasCause (O.known out.old) (O.known out.new) (result ≡ Err ItemError.Write) }
 {
     match given {
         Out::Packet {
@@ -74,14 +74,14 @@ pub(crate) fn convert_next<O: Sink, E: Sink>(
     lines: &mut LineWriter,
     out: &mut O,
     err: &mut E,
-) -> Result<(), Halt>
+) -> Result<(), ItemError>
     requires is_ready { ready collector.old ≡ true }
     requires counted { progress.old.given ≡ collector.old.next }
     ensures collector { collector.new ≡ after_item collector.old }
     ensures next { ConvertsNext result cutter.old collector.old progress.old progress.new
         (O.known out.old) (O.known out.new) (E.known err.old) (E.known err.new) }
     ensures carry { cutter.new ≡ cutter.old }
-    ensures cause { HasCause (O.known out.old) (O.known out.new) (result ≡ Err Halt.Write) }
+    ensures cause { HasCause (O.known out.old) (O.known out.new) (result ≡ Err ItemError.Write) }
 {
     let first = collector.first().unwrap_or(0);
     let Some(given) = collector.next() else {
@@ -100,14 +100,14 @@ fn convert_packet<O: Sink, E: Sink>(
     lines: &mut LineWriter,
     out: &mut O,
     err: &mut E,
-) -> Result<(), Halt>
+) -> Result<(), ItemError>
     requires within_limit { progress.old.given < 2 ^ 62 }
     requires in_range { index < 2 ^ 62 }
     requires whole { whole ≡ true → IsAny bytes.now }
     ensures one { ConvertsPacket result cutter.old first index bytes.now progress.old progress.new
         (O.known out.old) (O.known out.new) (E.known err.old) (E.known err.new) }
     ensures carry { cutter.new ≡ cutter.old }
-    ensures cause { HasCause (O.known out.old) (O.known out.new) (result ≡ Err Halt.Write) }
+    ensures cause { HasCause (O.known out.old) (O.known out.new) (result ≡ Err ItemError.Write) }
 {
     if let Some(fault) = fault_of(bytes, whole) {
         let fault = BadFault::Af(fault);
@@ -115,14 +115,14 @@ fn convert_packet<O: Sink, E: Sink>(
         return Ok(());
     }
     if cutter.is_too_long(bytes.len()) {
-        return Err(Halt::PacketSize(index));
+        return Err(ItemError::PacketSize(index));
     }
     match cutter.write(sequence(first, index), bytes, out) {
         Ok(()) => {
             progress.given += 1;
             Ok(())
         }
-        Err(_) => Err(Halt::Write),
+        Err(_) => Err(ItemError::Write),
     }
 }
 

@@ -1,7 +1,7 @@
 //! The lines that name items, and how far a conversion has come.
 
 ghost use Rattle.std.specs.Prelude.{◌≡◌, ◌+◌, ◌<◌, ◌^◌, false};
-ghost use Rattle.mod_feed.specs.Items.{item_of, IsRead};
+ghost use Rattle.mod_feed.specs.Items.{item_of, IsReadItem};
 ghost use Rattle.report_text.specs.Report.{item_line};
 ghost use Rattle.cmd_convert.specs.Naming.{NamesItems};
 
@@ -17,7 +17,7 @@ pub(crate) struct Progress {
     /// None of them is missing or bad.
     pub clean: bool,
     /// Each line that names one was written whole.
-    pub told: bool,
+    pub err_ok: bool,
 }
 
 /// Names an item that is missing or bad. After a failed write nothing more is written.
@@ -28,16 +28,16 @@ pub(crate) fn name<E: Sink>(
     item: FeedItem<'_>,
 )
     requires within_limit { progress.old.given < 2 ^ 62 }
-    requires read { IsRead item }
+    requires read { IsReadItem item }
     ensures given { progress.new.given ≡ progress.old.given + 1 }
     ensures clean { progress.new.clean ≡ false }
-    ensures names { NamesItems progress.old.told progress.new.told (E.known err.old) (E.known err.new)
+    ensures names { NamesItems progress.old.err_ok progress.new.err_ok (E.known err.old) (E.known err.new)
         (item_line (item_of item.entry)) }
 {
     progress.given += 1;
     progress.clean = false;
-    if progress.told {
+    if progress.err_ok {
         let step = Step { before: None, item };
-        progress.told = lines.write_step(err, &step).is_ok();
+        progress.err_ok = lines.write_step(err, &step).is_ok();
     }
 }

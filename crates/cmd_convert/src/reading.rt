@@ -1,15 +1,15 @@
 //! The packets of an input, converted.
 
 ghost use Rattle.std.specs.Prelude.{◌≡◌, ◌≤◌, Err, IfSome};
-ghost use Rattle.drm_links.specs.Told.{HasCause};
-ghost use Rattle.dcp_collect.specs.State.{made};
+ghost use Rattle.drm_links.specs.Known.{HasCause};
+ghost use Rattle.dcp_collect.specs.CollectorState.{made};
 ghost use Rattle.capture_reader.specs.Walking.{new_walker};
 ghost use Rattle.capture_reader.specs.declared.packets.CaptureStop.{CaptureStop};
-ghost use Rattle.recv_reading.specs.Packets.{Terms};
-ghost use Rattle.cmd_convert.specs.declared.item.Halt.{Halt};
-ghost use Rattle.cmd_convert.specs.Reading.{new_progress, EndsBy};
+ghost use Rattle.recv_reading.specs.Packets.{PacketRange};
+ghost use Rattle.cmd_convert.specs.declared.item.ItemError.{ItemError};
+ghost use Rattle.cmd_convert.specs.Reading.{new_progress, ConversionEndsBy};
 
-use crate::item::{Halt, convert_next};
+use crate::item::{ItemError, convert_next};
 use crate::naming::Progress;
 use capture_reader::{CaptureStop, Packets};
 use dcp_collect::Collector;
@@ -20,31 +20,31 @@ use report_text::LineWriter;
 
 /// Why a conversion isn't whole.
 #[derive(Clone, Copy, Debug, PartialEq, Eq)]
-pub(crate) enum Unconverted {
+pub(crate) enum ConvertError {
     /// No more packets can be read.
     Stopped(CaptureStop),
-    Halted(Halt),
+    Halted(ItemError),
 }
 
-impl From<CaptureStop> for Unconverted {
+impl From<CaptureStop> for ConvertError {
     ghost use Rattle.std.specs.Prelude.{◌≡◌};
-    ghost use Rattle.cmd_convert.specs.declared.reading.Unconverted.TheVariants.{Stopped};
+    ghost use Rattle.cmd_convert.specs.declared.reading.ConvertError.TheVariants.{Stopped};
 
     ghost from_gives = { λ stop why. why ≡ Stopped stop };
 
     fn from(stop: CaptureStop) -> Self {
-        Unconverted::Stopped(stop)
+        ConvertError::Stopped(stop)
     }
 }
 
-impl From<Halt> for Unconverted {
+impl From<ItemError> for ConvertError {
     ghost use Rattle.std.specs.Prelude.{◌≡◌};
-    ghost use Rattle.cmd_convert.specs.declared.reading.Unconverted.TheVariants.{Halted};
+    ghost use Rattle.cmd_convert.specs.declared.reading.ConvertError.TheVariants.{Halted};
 
     ghost from_gives = { λ halt why. why ≡ Halted halt };
 
-    fn from(halt: Halt) -> Self {
-        Unconverted::Halted(halt)
+    fn from(halt: ItemError) -> Self {
+        ConvertError::Halted(halt)
     }
 }
 
@@ -53,26 +53,26 @@ pub(crate) fn convert_packets<I: Source, O: Sink, E: Sink>(
     collector: &mut Collector,
     cutter: &mut PacketSender,
     packets: &mut Packets,
-    told: Option<u64>,
+    frame_limit: Option<u64>,
     progress: &mut Progress,
     lines: &mut LineWriter,
     input: &mut I,
     out: &mut O,
     err: &mut E,
-) -> Result<(), Unconverted>
+) -> Result<(), ConvertError>
     requires window { (1 ≤ collector.old.window) × (collector.old.window ≤ 64) }
     requires collector { collector.old ≡ made collector.old.window collector.old.reach collector.old.first }
     requires packets { packets.old ≡ new_walker }
     requires progress { progress.old ≡ new_progress }
-    requires at_least_one { IfSome told (λ n. 1 ≤ n) }
-    requires within_limit { IfSome told (λ n. n ≤ 3000000) }
-    ensures ends { EndsBy result (record { window = collector.old.window; reach = collector.old.reach; first = collector.old.first; told = told })
+    requires at_least_one { IfSome frame_limit (λ n. 1 ≤ n) }
+    requires within_limit { IfSome frame_limit (λ n. n ≤ 3000000) }
+    ensures ends { ConversionEndsBy result (record { window = collector.old.window; reach = collector.old.reach; first = collector.old.first; frame_limit = frame_limit })
         cutter.old progress.new (I.known input.old) (I.known input.new) (O.known out.old) (O.known out.new)
         (E.known err.old) (E.known err.new) }
-    ensures read { HasCause (I.known input.old) (I.known input.new) (result ≡ Err (Unconverted.Stopped CaptureStop.Read)) }
-    ensures write { HasCause (O.known out.old) (O.known out.new) (result ≡ Err (Unconverted.Halted Halt.Write)) }
+    ensures read { HasCause (I.known input.old) (I.known input.new) (result ≡ Err (ConvertError.Stopped CaptureStop.Read)) }
+    ensures write { HasCause (O.known out.old) (O.known out.new) (result ≡ Err (ConvertError.Halted ItemError.Write)) }
 {
-    let mut reading = Reading::new(Bounds::of_capture(told));
+    let mut reading = Reading::new(Bounds::of_capture(frame_limit));
     'packets: loop {
         if reading.gives(collector) {
             convert_next(collector, cutter, progress, lines, out, err)?;

@@ -1,8 +1,8 @@
 -- A run of `count` of which nothing was counted.
 use Rattle.std.proofs.Common.{◌≡◌, Bool, Result, Err, refl, sym, ◌∙◌, arith}
-use Rattle.drm_links.specs.Told.{Known, HasCause, one_more}
+use Rattle.drm_links.specs.Known.{Known, HasCause, one_more}
 use Rattle.drm_links.specs.Sink.{Output}
-use Rattle.drm_links.proofs.ToldLemmas.{counts_none}
+use Rattle.drm_links.proofs.KnownLemmas.{counts_none}
 use Rattle.cmd_faults.specs.declared.fault.Fault.{Fault}
 use Rattle.cmd_faults.specs.declared.fault.Fault.TheVariants as faults
 use Rattle.cmd_count.specs.Run.{ended, unseen, EndsCount}

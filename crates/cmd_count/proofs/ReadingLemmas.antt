@@ -3,8 +3,8 @@ use Rattle.std.proofs.Common.{◌≡◌, ◌+◌, ◌<◌, ◌^◌, true, List, 
 use Rattle.std.proofs.lemmas.List.{append-nil}
 use Rattle.drm_links.specs.Link.{Answer, Datagram, Failed}
 use Rattle.dcp_collect.specs.declared.taken.Taken.{Taken}
-use Rattle.dcp_collect.specs.State.{State, made}
-use Rattle.dcp_collect.specs.Runs.{Item}
+use Rattle.dcp_collect.specs.CollectorState.{CollectorState, made}
+use Rattle.dcp_collect.specs.Runs.{CollectorItem}
 use Rattle.drm_reconfiguration.specs.Tracker.{TrackerState, new_tracker}
 use Rattle.mod_feed.specs.Feeding.{FeedStep, FeedAnswers}
 use Rattle.mod_feed.proofs.FeedingLemmas.{feedings_join}
@@ -13,7 +13,7 @@ use Rattle.recv_reading.specs.declared.source.SourceFault.{SourceFault}
 use Rattle.recv_reading.specs.Options.{AreInRange, AreUsable, bounds_of}
 use Rattle.recv_reading.specs.Ending.{datagrams}
 use Rattle.recv_reading.specs.State.{ReadingState, new_reading, has_ended, one_given, word_of}
-use Rattle.recv_reading.specs.Reached.{Reached, ReadingWaits, ReadsOn}
+use Rattle.recv_reading.specs.ReadingReached.{ReadingReached, ReadingWaits, ReadsOn}
 use Rattle.recv_reading.proofs.Reaching.{reached_none, one_more_few}
 use Rattle.recv_reading.proofs.Finishing.{IsOver, finishes, all_given, answers_many}
 use Rattle.recv_reading.proofs.AtOnce.{few_given}
@@ -21,9 +21,9 @@ use Rattle.report_text.specs.Report.{feed_line}
 use Rattle.report_text.specs.Reports.{refusals, steps_text, report}
 use Rattle.report_text.specs.Tallies.{items_in}
 use Rattle.report_text.proofs.StepLemmas as lines
-use Rattle.recv_report.specs.Received.{Broken}
+use Rattle.recv_report.specs.Received.{ReportBroken}
 use Rattle.cmd_count.specs.Totals.{totals_of, answered, one_more, noted}
-use Rattle.cmd_count.specs.Run.{Counted, CountsNext, unseen}
+use Rattle.cmd_count.specs.Run.{CountsReading, CountsNext, unseen}
 use Rattle.cmd_count.specs.declared.totals.Totals.{Totals}
 use Rattle.cmd_count.proofs.TotalsLemmas.{item_more, answer_more, each_once, clean_as}
 
@@ -43,13 +43,13 @@ none_answered None other = refl
 none_answered (Some taken) other = absurd (other taken refl)
 
 -- The reading has come so far, and each item was given to the feed and counted.
-pub record Counting (options : ReceiveOptions) (came : List Answer → Type 0) (r : ReadingState) (c : State) (f : TrackerState) (t : Totals) : Type 0 where
+pub record Counting (options : ReceiveOptions) (so_far : List Answer → Type 0) (r : ReadingState) (c : CollectorState) (f : TrackerState) (t : Totals) : Type 0 where
   pub answers : List Answer
-  pub heard : came answers
+  pub heard : so_far answers
   pub taken : List Taken
-  pub during : List Item
-  pub more : List Item
-  pub reached : Reached options answers taken during more r c
+  pub during : List CollectorItem
+  pub more : List CollectorItem
+  pub reached : ReadingReached options answers taken during more r c
   pub steps : List FeedStep
   pub feeds : FeedAnswers new_tracker (during ++ more) steps f
   pub calls : f.calls ≡ r.given
@@ -57,16 +57,16 @@ pub record Counting (options : ReceiveOptions) (came : List Answer → Type 0) (
   pub items : items_in t.sums ≡ r.given
 
 -- nothing came yet
-pub none_counted : (options : ReceiveOptions) (came : List Answer → Type 0) (r : ReadingState) (c : State) (f : TrackerState) (t : Totals)
-    → AreUsable options → r ≡ new_reading (bounds_of options) → c ≡ made options.window options.reach options.first → f ≡ new_tracker → t ≡ totals_of [] [] → came []
-    → Counting options came r c f t
-none_counted options came r c f t usable reads is new empty heard = record {
+pub none_counted : (options : ReceiveOptions) (so_far : List Answer → Type 0) (r : ReadingState) (c : CollectorState) (f : TrackerState) (t : Totals)
+    → AreUsable options → r ≡ new_reading (bounds_of options) → c ≡ made options.window options.reach options.first → f ≡ new_tracker → t ≡ totals_of [] [] → so_far []
+    → Counting options so_far r c f t
+none_counted options so_far r c f t usable reads is new empty heard = record {
   answers = [];
   heard = heard;
   taken = [];
   during = [];
   more = [];
-  reached = subst (λ s. Reached options [] [] [] [] s c) (sym reads) (reached_none options c usable is);
+  reached = subst (λ s. ReadingReached options [] [] [] [] s c) (sym reads) (reached_none options c usable is);
   steps = [];
   feeds = new;
   calls = ap (λ (s : TrackerState). s.calls) new ∙ sym (ap (λ (s : ReadingState). s.given) reads);
@@ -74,7 +74,7 @@ none_counted options came r c f t usable reads is new empty heard = record {
   items = ap (λ (u : Totals). items_in u.sums) empty ∙ sym (ap (λ (s : ReadingState). s.given) reads);
 }
 
-module _ (options : ReceiveOptions) (came : List Answer → Type 0) (r : ReadingState) (c : State) (f : TrackerState) (t : Totals) (p : Counting options came r c f t) where
+module _ (options : ReceiveOptions) (so_far : List Answer → Type 0) (r : ReadingState) (c : CollectorState) (f : TrackerState) (t : Totals) (p : Counting options so_far r c f t) where
   pub all_answered : answered t ≡ length (datagrams p.answers)
   all_answered = ap answered p.are ∙ each_once 0 p.taken ∙ answers_many options p.answers p.taken p.during p.more r c p.reached
 
@@ -87,8 +87,8 @@ module _ (options : ReceiveOptions) (came : List Answer → Type 0) (r : Reading
       omega (arith, all, are, most, far)
 
   -- an item was counted
-  pub one_counted : (s : ReadingState) (d : State) (g : TrackerState) (u : Totals) (next : CountsNext c f g t u)
-      → Reached options p.answers p.taken p.during (p.more ++ next.0 ∷ []) s d → s ≡ one_given r → Counting options came s d g u
+  pub one_counted : (s : ReadingState) (d : CollectorState) (g : TrackerState) (u : Totals) (next : CountsNext c f g t u)
+      → ReadingReached options p.answers p.taken p.during (p.more ++ next.0 ∷ []) s d → s ≡ one_given r → Counting options so_far s d g u
   one_counted s d g u (item, step, is, stepping, after, counts, more) reached gives = record {
     answers = p.answers;
     heard = p.heard;
@@ -105,9 +105,9 @@ module _ (options : ReceiveOptions) (came : List Answer → Type 0) (r : Reading
   }
 
   -- one answer more came, or none
-  read_on : (came' : List Answer → Type 0) (answers : List Answer) (taken : List Taken) (s : ReadingState) (d : State) (u : Totals)
-      → came' answers → Reached options answers taken (p.during ++ p.more) [] s d → u ≡ totals_of p.steps taken → Counting options came' s d f u
-  read_on came' answers taken s d u heard reached counts =
+  read_on : (so_far' : List Answer → Type 0) (answers : List Answer) (taken : List Taken) (s : ReadingState) (d : CollectorState) (u : Totals)
+      → so_far' answers → ReadingReached options answers taken (p.during ++ p.more) [] s d → u ≡ totals_of p.steps taken → Counting options so_far' s d f u
+  read_on so_far' answers taken s d u heard reached counts =
       let given : s.given ≡ r.given = sym reached.given_are ∙ ap length (append-nil (p.during ++ p.more)) ∙ p.reached.given_are in
       record {
         answers = answers;
@@ -123,20 +123,20 @@ module _ (options : ReceiveOptions) (came : List Answer → Type 0) (r : Reading
         items = ap (λ (x : Totals). items_in x.sums) counts ∙ sym (ap (λ (x : Totals). items_in x.sums) p.are) ∙ p.items ∙ sym given;
       }
 
-  pub one_taken : (came' : List Answer → Type 0) (breaks : SourceFault → List Answer → Type 0) (answer : Taken) (s : ReadingState) (d : State) (u : Totals)
-      → ReadsOn came' breaks options p.answers p.taken (p.during ++ p.more) (Ok (Some answer)) s d → u ≡ noted t answer → Counting options came' s d f u
-  one_taken came' breaks answer s d u (bytes, heard, reached) is =
-      read_on came' (p.answers ++ Datagram bytes ∷ []) (p.taken ++ answer ∷ []) s d u heard reached
+  pub one_taken : (so_far' : List Answer → Type 0) (breaks : SourceFault → List Answer → Type 0) (answer : Taken) (s : ReadingState) (d : CollectorState) (u : Totals)
+      → ReadsOn so_far' breaks options p.answers p.taken (p.during ++ p.more) (Ok (Some answer)) s d → u ≡ noted t answer → Counting options so_far' s d f u
+  one_taken so_far' breaks answer s d u (bytes, heard, reached) is =
+      read_on so_far' (p.answers ++ Datagram bytes ∷ []) (p.taken ++ answer ∷ []) s d u heard reached
       (is ∙ ap (λ (x : Totals). noted x answer) p.are ∙ answer_more p.steps p.taken answer)
 
-  pub none_taken : (came' : List Answer → Type 0) (breaks : SourceFault → List Answer → Type 0) (s : ReadingState) (d : State)
-      → ReadsOn came' breaks options p.answers p.taken (p.during ++ p.more) (Ok None) s d → Counting options came' s d f t
-  none_taken came' breaks s d (others, heard, reached) = read_on came' (p.answers ++ others) p.taken s d t heard reached p.are
+  pub none_taken : (so_far' : List Answer → Type 0) (breaks : SourceFault → List Answer → Type 0) (s : ReadingState) (d : CollectorState)
+      → ReadsOn so_far' breaks options p.answers p.taken (p.during ++ p.more) (Ok None) s d → Counting options so_far' s d f t
+  none_taken so_far' breaks s d (others, heard, reached) = read_on so_far' (p.answers ++ others) p.taken s d t heard reached p.are
 
   -- no more can be had
-  pub breaks_off : (came' : List Answer → Type 0) (breaks : SourceFault → List Answer → Type 0) (why : SourceFault) (s : ReadingState) (d : State)
-      → ReadingWaits r c → ReadsOn came' breaks options p.answers p.taken (p.during ++ p.more) (Err why) s d → Broken options 1 (breaks why) (unseen tt) (unseen tt)
-  breaks_off came' breaks why s d waits (heard, broken, gave) = record {
+  pub breaks_off : (so_far' : List Answer → Type 0) (breaks : SourceFault → List Answer → Type 0) (why : SourceFault) (s : ReadingState) (d : CollectorState)
+      → ReadingWaits r c → ReadsOn so_far' breaks options p.answers p.taken (p.during ++ p.more) (Err why) s d → ReportBroken options 1 (breaks why) (unseen tt) (unseen tt)
+  breaks_off so_far' breaks why s d waits (heard, broken, gave) = record {
     answers = p.answers ++ Failed ∷ [];
     heard = heard;
     few = one_more_few options p.answers p.taken p.during p.more r c p.reached waits Failed;
@@ -158,7 +158,7 @@ module _ (options : ReceiveOptions) (came : List Answer → Type 0) (r : Reading
   }
 
   -- no more is read
-  pub all_counted : has_ended r ≡ true → IsOver r c → Counted options came t
+  pub all_counted : has_ended r ≡ true → IsOver r c → CountsReading options so_far t
   all_counted ended over =
       let all = finishes options p.answers p.taken p.during p.more r c p.reached ended over in
       record {

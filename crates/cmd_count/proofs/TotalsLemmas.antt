@@ -9,7 +9,7 @@ use Rattle.dcp_collect.specs.declared.taken.Taken.TheVariants.{Kept, Repeated, L
 use Rattle.mod_feed.specs.Feeding.{FeedStep}
 use Rattle.report_text.specs.declared.report.Sums.{Sums}
 use Rattle.report_text.specs.Reports.{refusals_from, refusals, sums_of, is_clean}
-use Rattle.report_text.specs.Tallies.{Tallied, one_more_item, noted, tally_of}
+use Rattle.report_text.specs.Tallies.{TallyContents, one_more_item, noted, tally_of}
 use Rattle.report_text.proofs.CountLemmas.{steps_counted, answer_noted, clean_is}
 use Rattle.cmd_count.specs.Totals as totals
 use Rattle.cmd_count.specs.Totals.{is_kept, is_repeated, is_late, totals_of, answered, one_more}
@@ -19,7 +19,7 @@ use Rattle.cmd_count.specs.declared.totals.Totals.{Totals}
 
 pub item_more : (steps : List FeedStep) (step : FeedStep) (taken : List Taken) → one_more (totals_of steps taken) step.item ≡ totals_of (steps ++ step ∷ []) taken
 item_more steps step taken =
-    let sums : one_more_item (sums_of steps (refusals taken)) step.item ≡ sums_of (steps ++ step ∷ []) (refusals taken) = ap (λ (t : Tallied). t.sums) (steps_counted steps (step ∷ []) taken) in
+    let sums : one_more_item (sums_of steps (refusals taken)) step.item ≡ sums_of (steps ++ step ∷ []) (refusals taken) = ap (λ (t : TallyContents). t.sums) (steps_counted steps (step ∷ []) taken) in
     ap (λ (s : Sums). record (totals_of steps taken) { sums = s }) sums
 
 -- ---- an answer more
@@ -44,7 +44,7 @@ grown : (t : Totals) (steps : List FeedStep) (taken : List Taken) (x : Taken) �
     → t.kept ≡ length (filter is_kept taken) + one (is_kept x) → t.repeated ≡ length (filter is_repeated taken) + one (is_repeated x)
     → t.late ≡ length (filter is_late taken) + one (is_late x) → t ≡ totals_of steps (taken ++ x ∷ [])
 grown t steps taken x sums kept repeated late =
-    let s : t.sums ≡ sums_of steps (refusals (taken ++ x ∷ [])) = sums ∙ ap (λ (u : Tallied). u.sums) (answer_noted steps taken x (length taken) refl) in
+    let s : t.sums ≡ sums_of steps (refusals (taken ++ x ∷ [])) = sums ∙ ap (λ (u : TallyContents). u.sums) (answer_noted steps taken x (length taken) refl) in
     let k : t.kept ≡ length (filter is_kept (taken ++ x ∷ [])) = kept ∙ passes_more is_kept taken x in
     let r : t.repeated ≡ length (filter is_repeated (taken ++ x ∷ [])) = repeated ∙ passes_more is_repeated taken x in
     let l : t.late ≡ length (filter is_late (taken ++ x ∷ [])) = late ∙ passes_more is_late taken x in

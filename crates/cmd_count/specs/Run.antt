@@ -1,13 +1,13 @@
 -- The command `count`: it receives as `receive` does, and in place of the report its line is written.
 use Rattle.std.specs.Prelude.{ℕ, ◌≡◌, ◌≤◌, ◌+◌, ◌⊎◌, Bool, IfOk, List, [], ◌∷◌, length, None, Result, Ok, Err}
-use Rattle.drm_links.specs.Told.{Known, HasCause, KnownThrough}
+use Rattle.drm_links.specs.Known.{Known, HasCause, KnownThrough}
 use Rattle.drm_links.specs.Link.{Answer}
 use Rattle.drm_links.specs.Source.{Input}
-use Rattle.drm_links.specs.Sink.{Output, Outputs, IsFront}
+use Rattle.drm_links.specs.Sink.{Output, OutputsText, IsPrefix}
 use Rattle.drm_links.specs.Dock.{DockContents}
 use Rattle.drm_links.specs.declared.dock.Address.{Address}
-use Rattle.dcp_collect.specs.State.{State}
-use Rattle.dcp_collect.specs.Runs.{Item, IsItem}
+use Rattle.dcp_collect.specs.CollectorState.{CollectorState}
+use Rattle.dcp_collect.specs.Runs.{CollectorItem, IsItem}
 use Rattle.drm_reconfiguration.specs.Tracker.{TrackerState}
 use Rattle.mod_feed.specs.Feeding.{FeedStep, IsStep, after_step}
 use Rattle.recv_reading.specs.declared.options.ReceiveOptions.{ReceiveOptions}
@@ -16,7 +16,7 @@ use Rattle.recv_reading.specs.Ending.{datagrams, FewAtOnce, most_answers}
 use Rattle.recv_reading.specs.Source.{HeardOf, IsFailedCall}
 use Rattle.link_group.specs.Binding.{HearsEach}
 use Rattle.recv_report.specs.Received.{IsReport}
-use Rattle.cmd_receive.specs.Receive.{ReceiveRun, Alone}
+use Rattle.cmd_receive.specs.Receive.{ReceiveRun, AreExactly}
 use Rattle.cmd_receive.specs.Capture.{CaptureRun}
 use Rattle.cmd_faults.specs.declared.fault.Fault.{Fault}
 use Rattle.cmd_faults.specs.declared.fault.Fault.TheVariants as faults
@@ -25,7 +25,7 @@ use Rattle.cmd_count.specs.declared.totals.Totals.{Totals}
 
 -- These are the totals of a whole reading of what was heard: the sums are those of the end line of its report, and each datagram is
 -- counted once by its answer.
-pub record Counted (options : ReceiveOptions) (hears : List Answer → Type 0) (totals : Totals) : Type 0 where
+pub record CountsReading (options : ReceiveOptions) (hears : List Answer → Type 0) (totals : Totals) : Type 0 where
   pub answers : List Answer
   pub heard : hears answers
   pub few : length answers ≤ most_answers options
@@ -36,9 +36,9 @@ pub record Counted (options : ReceiveOptions) (hears : List Answer → Type 0) (
   pub all : answered totals ≡ length (datagrams answers)
 
 -- the next item of a collector was given to the feed, and counted
-abbrev pub CountsNext : State → TrackerState → TrackerState → Totals → Totals → Type 0
+abbrev pub CountsNext : CollectorState → TrackerState → TrackerState → Totals → Totals → Type 0
 CountsNext c f g t u =
-    (item : Item) × (step : FeedStep) × IsItem c item × IsStep f item step × (g ≡ after_step f step) × (g.calls ≡ f.calls + 1) × (u ≡ one_more t step.item)
+    (item : CollectorItem) × (step : FeedStep) × IsItem c item × IsStep f item step × (g ≡ after_step f step) × (g.calls ≡ f.calls + 1) × (u ≡ one_more t step.item)
 
 -- a call of what is read failed
 abbrev pub IsReadFailed : Result Totals SourceFault → Type 0
@@ -47,7 +47,7 @@ IsReadFailed (Err fault) = IsFailedCall (Err fault)
 
 -- a sink of which nothing is told, in place of one that the report would go to
 abbrev pub unseen : Unit {0} → Known Output
-unseen _ = record { faults = 0; told = None }
+unseen _ = record { faults = 0; contents = None }
 
 -- how a run of `receive` ends where this was counted
 abbrev pub ended : Result Totals Fault → Result Bool Fault
@@ -59,19 +59,19 @@ ended (Err fault) = Err fault
 pub record CountsLink {D : Type 0} (options : ReceiveOptions) (at : Address) (counted : Result Totals Fault)
     (dock_known : D → Known DockContents) (dock dock' : D) : Type 0 where
   pub receives : ReceiveRun options (at ∷ []) (ended counted) dock_known dock dock' unseen tt tt
-  pub totals : IfOk counted (Counted options (λ answers. KnownThrough (dock_known dock) (dock_known dock') (HearsEach (Alone answers) (at ∷ []))))
+  pub totals : IfOk counted (CountsReading options (λ answers. KnownThrough (dock_known dock) (dock_known dock') (HearsEach (AreExactly answers) (at ∷ []))))
 
 -- What was counted of a capture. It is a run of `receive` from it, and where the input tells, the totals are those of what was read.
 pub record CountsCapture {I : Type 0} (options : ReceiveOptions) (counted : Result Totals Fault)
     (input_known : I → Known Input) (input input' : I) : Type 0 where
   pub receives : CaptureRun options (ended counted) input_known input input' unseen tt tt
-  pub totals : IfOk counted (Counted options (HeardOf (input_known input) (input_known input')))
+  pub totals : IfOk counted (CountsReading options (HeardOf (input_known input) (input_known input')))
 
 -- The line is written, or after a failed write a front of it. Where nothing was counted nothing is written.
 abbrev pub WritesLine : {O : Type 0} → Result Totals Fault → Result Bool Fault → (O → Known Output) → O → O → Type 0
 WritesLine (Ok totals) ending known out out' =
-    ((ending ≡ Ok (is_clean totals)) × Outputs (known out) (known out') (λ text. text ≡ count_line totals))
-    ⊎ ((ending ≡ Err faults.Write) × Outputs (known out) (known out') (IsFront (count_line totals)))
+    ((ending ≡ Ok (is_clean totals)) × OutputsText (known out) (known out') (λ text. text ≡ count_line totals))
+    ⊎ ((ending ≡ Err faults.Write) × OutputsText (known out) (known out') (IsPrefix (count_line totals)))
 WritesLine (Err fault) ending known out out' = (ending ≡ Err fault) × (out' ≡ out)
 
 -- It ends as what was counted did, unless a write failed.

@@ -3,7 +3,7 @@ use Rattle.std.specs.Prelude.{ℕ, ◌+◌, ◌==◌, ◌&&◌, Bool, true, fals
 use Rattle.std.specs.List.{concat, filter}
 use Rattle.dcp_collect.specs.declared.taken.Taken.{Taken}
 use Rattle.dcp_collect.specs.declared.taken.Taken.TheVariants.{Kept, Repeated, Late}
-use Rattle.mod_feed.specs.Items.{Item}
+use Rattle.mod_feed.specs.Items.{FrameItem}
 use Rattle.mod_feed.specs.Feeding.{FeedStep}
 use Rattle.report_text.specs.Reports.{refusals, sums_of}
 use Rattle.report_text.specs.Tallies.{one_more_item}
@@ -36,7 +36,7 @@ abbrev pub answered : Totals → ℕ
 answered t = t.sums.refused + t.kept + t.repeated + t.late
 
 -- with an item more
-abbrev pub one_more : Totals → Item → Totals
+abbrev pub one_more : Totals → FrameItem → Totals
 one_more t item = record t { sums = one_more_item t.sums item }
 
 -- with an answer more

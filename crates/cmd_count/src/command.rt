@@ -11,7 +11,7 @@ use cmd_faults::Fault;
 use dcp_collect::Collector;
 use drm_bits::zeros;
 use drm_links::{Address, Dock, LONGEST_DATAGRAM, Opened, Sink, Source};
-use recv_reading::{ReceiveOptions, Room, SourceFault};
+use recv_reading::{ReceiveBuffer, ReceiveOptions, SourceFault};
 use recv_report::{in_time_is_unbroken, reports_follow};
 use std::alloc::Global;
 
@@ -59,12 +59,12 @@ fn count_link<D: Dock>(
     in_time_is_unbroken();
     let mut collector = Collector::make(alloc, options.window, options.reach, options.first)?;
     let mut buffer = zeros(alloc, LONGEST_DATAGRAM)?;
-    let mut room = Room {
+    let mut reader = ReceiveBuffer {
         bytes: buffer.as_mut_slice(),
     };
     match dock.bind(at) {
         Opened::Link(mut link) => {
-            let counted = count_all(options, &mut collector, &mut room, &mut link);
+            let counted = count_all(options, &mut collector, &mut reader, &mut link);
             dock.close(at, link);
             match counted {
                 Ok(totals) => Ok(totals),

@@ -1,12 +1,12 @@
 //! A reading, counted.
 
 ghost use Rattle.std.specs.Prelude.{◌≡◌, ◌+◌, [], true, IfOk, IfErr};
-ghost use Rattle.drm_links.specs.Told as told;
-ghost use Rattle.dcp_collect.specs.State.{made, ready, after_item};
+ghost use Rattle.drm_links.specs.Known as known;
+ghost use Rattle.dcp_collect.specs.CollectorState.{made, ready, after_item};
 ghost use Rattle.recv_reading.specs.Options.{AreInRange};
 ghost use Rattle.report_text.specs.Tallies.{items_in};
-ghost use Rattle.recv_report.specs.Received.{Broken};
-ghost use Rattle.cmd_count.specs.Run.{Counted, CountsNext, IsReadFailed, unseen};
+ghost use Rattle.recv_report.specs.Received.{ReportBroken};
+ghost use Rattle.cmd_count.specs.Run.{CountsReading, CountsNext, IsReadFailed, unseen};
 
 use crate::totals::Totals;
 use dcp_collect::Collector;
@@ -17,16 +17,16 @@ use recv_reading::{Datagrams, Reading, ReceiveOptions, SourceFault};
 pub(crate) fn count_all<F, R: Datagrams<F>>(
     options: &ReceiveOptions,
     collector: &mut Collector,
-    room: &mut R,
+    reader: &mut R,
     from: &mut F,
 ) -> Result<Totals, SourceFault>
     requires options { AreInRange options.now }
     requires collector { collector.old ≡ made options.now.window options.now.reach options.now.first }
-    requires room { R.is_ready room.old }
-    requires nothing_came { R.so_far from.old room.old from.old [] }
-    ensures counted { IfOk result (Counted options.now (R.so_far from.old room.new from.new)) }
-    ensures broken { IfErr result (λ fault. Broken options.now 1 (R.until from.old fault from.new) (unseen tt) (unseen tt)) }
-    ensures cause { told.RisesWhere (R.faults from.old) (R.faults from.new) (IsReadFailed result) }
+    requires reader { R.is_ready reader.old }
+    requires nothing_heard { R.so_far from.old reader.old from.old [] }
+    ensures counted { IfOk result (CountsReading options.now (R.so_far from.old reader.new from.new)) }
+    ensures broken { IfErr result (λ fault. ReportBroken options.now 1 (R.until from.old fault from.new) (unseen tt) (unseen tt)) }
+    ensures cause { known.RisesWhere (R.faults from.old) (R.faults from.new) (IsReadFailed result) }
 {
     let mut reading = Reading::new(options.bounds());
     let mut feed = Feed::new();
@@ -39,7 +39,7 @@ pub(crate) fn count_all<F, R: Datagrams<F>>(
         if reading.has_ended() {
             return Ok(totals);
         }
-        if let Some(taken) = reading.read_on(collector, room, from)? {
+        if let Some(taken) = reading.read_on(collector, reader, from)? {
             totals.note(taken);
         }
     }

@@ -3,13 +3,13 @@ use Rattle.std.proofs.Common.{◌≡◌, ℕ, zero, suc, ◌<◌, inl, inr, ◌�
 use Rattle.std.specs.Prelude.{if◌then◌else◌, nat_le, slice_index_or, ◌^◌}
 use Rattle.std.proofs.lemmas.List.{append-nil}
 use Rattle.drm_bits.specs.Crc.{IsCheckOf}
-use Rattle.drm_links.specs.Told.{Known, HasFailed}
-use Rattle.drm_links.proofs.ToldLemmas.{counts_one, counts_none}
-use Rattle.drm_links.specs.Sink.{Output, Outputs, IsFront}
+use Rattle.drm_links.specs.Known.{Known, HasFailed}
+use Rattle.drm_links.proofs.KnownLemmas.{counts_one, counts_none}
+use Rattle.drm_links.specs.Sink.{Output, OutputsText, IsPrefix}
 use Rattle.report_text.specs.Reports.{Report}
 use Rattle.report_text.specs.Texts.{text_known}
 use Rattle.report_text.specs.declared.buffer.ReportBuffer.{ReportBuffer}
-use Rattle.recv_report.proofs.JobLemmas.{text_written}
+use Rattle.recv_report.proofs.ReceiverLemmas.{text_written}
 use Rattle.cmd_receive.specs.Receive.{all_texts, AreClean, WritesReports}
 use Rattle.cmd_air.specs.Air.{IsAired, AreAired}
 use Rattle.cmd_faults.specs.declared.fault.Fault.{Fault}
@@ -52,11 +52,11 @@ pub record HasReport (n : ℕ) (clean : Bool) (text : List ℕ) : Type 0 where
   pub text_is : text ≡ r.text
   pub clean_is : clean ≡ r.clean
 
-pub has_report : (n : ℕ) (clean : Bool) (old new : ReportBuffer) → (text_known old).told ≡ Some (record { written = []; calls = 0 }) → IsSome (text_known new).told
+pub has_report : (n : ℕ) (clean : Bool) (old new : ReportBuffer) → (text_known old).contents ≡ Some (record { written = []; calls = 0 }) → IsSome (text_known new).contents
     → WritesReports (AreAired (plan n) 8 (deliveries n ∷ [])) (Ok clean) text_known old new → HasReport n clean new.bytes.items
-has_report n clean old new fresh told (reports, are, out, iff) =
+has_report n clean old new fresh has_contents (reports, are, out, iff) =
     let one = one_report n reports are in
-    let text : new.bytes.items ≡ all_texts reports = text_written (λ t. t ≡ all_texts reports) (text_known old) new out fresh told in
+    let text : new.bytes.items ≡ all_texts reports = text_written (λ t. t ≡ all_texts reports) (text_known old) new out fresh has_contents in
     record {
       r = one.r;
       aired = one.aired;
@@ -91,7 +91,7 @@ module _ {O : Type 0} (n : ℕ) (known : O → Known Output) (out : O) where
       same fault other is = cc
 
   pub is_done : (clean : Bool) (text : List ℕ) (count check : ℕ) (out' : O) → HasReport n clean text → count ≡ length (deliveries n) → IsCheckOf text check
-      → Outputs (known out) (known out') (λ t. t ≡ line n count text check) → (known out').faults ≡ (known out).faults → ExerciseRun n (Ok clean) known out out'
+      → OutputsText (known out) (known out') (λ t. t ≡ line n count text check) → (known out').faults ≡ (known out).faults → ExerciseRun n (Ok clean) known out out'
   is_done clean text count check out' has many checks wrote still = record {
     writes = (has.r, line n count text check, is_exercise n clean text count check has many checks, wrote, has.clean_is);
     kind = λ fault is. absurd cc;
@@ -101,7 +101,7 @@ module _ {O : Type 0} (n : ℕ) (known : O → Known Output) (out : O) where
   }
 
   pub is_cut : (clean : Bool) (text : List ℕ) (count check : ℕ) (out' : O) → HasReport n clean text → count ≡ length (deliveries n) → IsCheckOf text check
-      → Outputs (known out) (known out') (IsFront (line n count text check)) → HasFailed (known out) (known out') → ExerciseRun n (of_fault faults.Write) known out out'
+      → OutputsText (known out) (known out') (IsPrefix (line n count text check)) → HasFailed (known out) (known out') → ExerciseRun n (of_fault faults.Write) known out out'
   is_cut clean text count check out' has many checks wrote failed = record {
     writes = (has.r, line n count text check, is_exercise n clean text count check has many checks, wrote);
     kind = λ fault is. inr (sym (same faults.Write fault is));

@@ -9,7 +9,7 @@ use Rattle.drm_schedule.specs.declared.invalid.Invalid.{Invalid}
 use Rattle.drm_schedule.specs.declared.config.Config.{Config}
 use Rattle.drm_schedule.specs.declared.plan.Plan.{Plan}
 use Rattle.drm_schedule.specs.InForce.{first_entities, entities_of_last}
-use Rattle.drm_schedule.specs.Sizes.{told_with, free_bytes}
+use Rattle.drm_schedule.specs.Sizes.{size_with, free_bytes}
 use Rattle.drm_schedule.specs.Announcement.{announced, free_in_countdown, lacks_announcement}
 use Rattle.plan_packing.specs.Packing.{can_be_packed}
 use Rattle.drm_schedule.specs.Ranges.{InLines, ConfigInLines, ServiceInLines, StreamInLines, EntityInLines, TimedInLines}
@@ -112,7 +112,7 @@ abbrev free : ℕ
 free = free_bytes first 0
 
 free_in : (sf : ℕ) → free_bytes first sf ≡ free
-free_in sf = ap (λ has. first.room - (told_with first (entities_of_last (first_entities first) (if has then first.blocks else [])) + 0)) (le-leb 0 (sf - 0) (omega arith))
+free_in sf = ap (λ has. first.room - (size_with first (entities_of_last (first_entities first) (if has then first.blocks else [])) + 0)) (le-leb 0 (sf - 0) (omega arith))
 
 free_twice : (n : ℕ) → free_in_countdown first (half n) ≡ free ∷ free ∷ []
 free_twice n = ap (λ a. a ∷ free_bytes first (n / 2 - 2 + 1) ∷ []) (free_in (n / 2 - 2)) ∙ ap (λ b. free ∷ b ∷ []) (free_in (n / 2 - 2 + 1))

@@ -1,8 +1,8 @@
 -- The command `exercise`: one line on the report of what is delivered.
 use Rattle.std.specs.Prelude.{ℕ, ◌≡◌, ◌⊎◌, Bool, List, length, Result, Ok, Err}
 use Rattle.drm_bits.specs.Crc.{IsCheckOf}
-use Rattle.drm_links.specs.Told.{HasFailed, Known, HasCause}
-use Rattle.drm_links.specs.Sink.{Output, Outputs, IsFront}
+use Rattle.drm_links.specs.Known.{HasFailed, Known, HasCause}
+use Rattle.drm_links.specs.Sink.{Output, OutputsText, IsPrefix}
 use Rattle.report_text.specs.Reports.{Report}
 use Rattle.cmd_air.specs.Air.{IsAired}
 use Rattle.cmd_faults.specs.Fault.{UnlessMemory}
@@ -24,9 +24,9 @@ pub record IsExercise (n : ℕ) (r : Report) (text : List ℕ) : Type 0 where
 -- What is written: the line; after a failed write a front of it; where memory is wanting, nothing.
 abbrev pub WritesLine : {O : Type 0} → ℕ → Result Bool Fault → (O → Known Output) → O → O → Type 0
 WritesLine n (Ok clean) known out out' =
-    (r : Report) × (whole : List ℕ) × IsExercise n r whole × Outputs (known out) (known out') (λ text. text ≡ whole) × (clean ≡ r.clean)
+    (r : Report) × (whole : List ℕ) × IsExercise n r whole × OutputsText (known out) (known out') (λ text. text ≡ whole) × (clean ≡ r.clean)
 WritesLine n (Err faults.Write) known out out' =
-    (r : Report) × (whole : List ℕ) × IsExercise n r whole × Outputs (known out) (known out') (IsFront whole)
+    (r : Report) × (whole : List ℕ) × IsExercise n r whole × OutputsText (known out) (known out') (IsPrefix whole)
 WritesLine n (Err fault) known out out' = out' ≡ out
 
 -- A run of `exercise`.

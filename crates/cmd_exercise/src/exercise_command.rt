@@ -36,7 +36,7 @@ pub fn exercise<R: Threads + Sync, O: Sink>(
     let Ok(clean) = air_over(rt, alloc, &plan, &script, WINDOW, &mut report) else {
         return Err(Fault::NoMemory);
     };
-    if !report.is_told() {
+    if !report.is_complete() {
         return Err(Fault::NoMemory);
     }
     let delivered = script.deliveries(0).len() as u64;

@@ -5,8 +5,8 @@ ghost use Rattle.cmd_exercise.specs.Exercise as exercise;
 
 use drm_bits::{NoMemory, Octets};
 use drm_schedule::{
-    Blocks, Body, Carry, Config, Configs, Content, Entities, Entity, Items, Mode, Plan, Schedule,
-    Service, Services, Stream, Streams, Timed,
+    Blocks, Body, Carry, Config, Configs, Content, Entities, Entity, Mode, OwnedList, Plan,
+    Schedule, Service, Services, Stream, Streams, Timed,
 };
 use std::alloc::Global;
 
@@ -34,7 +34,7 @@ pub(crate) fn schedule_of(alloc: Global, n: u32) -> Result<Schedule, NoMemory>
 fn configs(alloc: Global, n: u32) -> Result<Configs, NoMemory>
     ensures { IfOk result (λ configs. configs ≡ exercise.configs n) }
 {
-    let mut configs = Items::new(alloc);
+    let mut configs = OwnedList::new(alloc);
     configs.push(config(alloc, 0, 0, Mode::B, false, 0x11)?)?;
     if n < 4 {
         return Ok(configs);
@@ -75,7 +75,7 @@ fn config(
 fn services(alloc: Global) -> Result<Services, NoMemory>
     ensures { IfOk result (λ services. services ≡ exercise.services) }
 {
-    let mut services = Items::new(alloc);
+    let mut services = OwnedList::new(alloc);
     services.push(Service {
         id: 0x123456,
         short: 0,
@@ -92,7 +92,7 @@ fn services(alloc: Global) -> Result<Services, NoMemory>
 fn streams(alloc: Global, byte: u8) -> Result<Streams, NoMemory>
     ensures { IfOk result (λ streams. streams ≡ exercise.streams byte) }
 {
-    let mut streams = Items::new(alloc);
+    let mut streams = OwnedList::new(alloc);
     streams.push(Stream {
         a: 0,
         b: 300,
@@ -105,7 +105,7 @@ fn streams(alloc: Global, byte: u8) -> Result<Streams, NoMemory>
 fn blocks(alloc: Global) -> Result<Blocks, NoMemory>
     ensures { IfOk result (λ blocks. blocks ≡ exercise.blocks) }
 {
-    let mut blocks = Items::new(alloc);
+    let mut blocks = OwnedList::new(alloc);
     let entities = entities(alloc)?;
     blocks.push(Timed { from: 0, entities })?;
     Ok(blocks)

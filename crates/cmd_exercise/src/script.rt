@@ -7,7 +7,7 @@ ghost use Rattle.cmd_exercise.specs.Exercise as exercise;
 
 use dcp_pft::{cut_for, datagrams};
 use drm_bits::NoMemory;
-use drm_schedule::{Items, Schedule};
+use drm_schedule::{OwnedList, Schedule};
 use drm_timeline::{frame_count, packet_len};
 use plan_script::{Delivery, Script};
 use std::alloc::Global;
@@ -20,7 +20,7 @@ pub(crate) fn script_of(alloc: Global, n: u32, plan: &Schedule) -> Result<Script
     requires plan { plan.now ≡ exercise.plan n }
     ensures { IfOk result (λ script. script ≡ exercise.deliveries n ∷ []) }
 {
-    let mut feed = Items::new(alloc);
+    let mut feed = OwnedList::new(alloc);
     for packet in 0..frame_count(plan) {
         deliver(&mut feed, n, packet, fragments(plan, packet))?;
     }
@@ -37,7 +37,7 @@ fn fragments(plan: &Schedule, packet: u32) -> u32
 }
 
 // Delivers the fragments of a packet.
-fn deliver(feed: &mut Items<Delivery>, n: u32, packet: u32, count: u32) -> Result<(), NoMemory>
+fn deliver(feed: &mut OwnedList<Delivery>, n: u32, packet: u32, count: u32) -> Result<(), NoMemory>
     requires size { n ≤ 1000 }
     requires packet { packet < 3000 }
     ensures { OnOk result (feed.new ≡ feed.old ++ exercise.of_packet n packet count) }

@@ -1,6 +1,6 @@
 -- Which fault it is, and what failed of two objects by what failed of one.
 use Rattle.std.proofs.Common.{◌≡◌, inl, inr, Result, Err}
-use Rattle.drm_links.specs.Told.{Known, HasCause}
+use Rattle.drm_links.specs.Known.{Known, HasCause}
 use Rattle.cmd_faults.specs.Causes.{OneFailed, OpeningFailed}
 
 -- an answer has one fault

@@ -1,6 +1,6 @@
 -- What failed of the outside in a run, by how the run ended.
 use Rattle.std.specs.Prelude.{◌≡◌, ◌⊎◌}
-use Rattle.drm_links.specs.Told.{Known, HasFailed}
+use Rattle.drm_links.specs.Known.{Known, HasFailed}
 
 -- One call failed of one of two objects where this happened, and else none of either.
 pub record OneFailed {X Y : Type 0} (one one' : Known X) (other other' : Known Y) (Happened : Type 0) : Type 0 where

@@ -1,7 +1,7 @@
 -- How a run ends: as it should, or with a fault, which has a status and a line.
 use Rattle.std.specs.Prelude.{ℕ, ◌≡◌, ◌⊎◌, Bool, true, false, List, Result, Ok, Err}
-use Rattle.drm_links.specs.Told.{Known, HasFailed}
-use Rattle.drm_links.specs.Sink.{Output, Outputs, IsFront}
+use Rattle.drm_links.specs.Known.{Known, HasFailed}
+use Rattle.drm_links.specs.Sink.{Output, OutputsText, IsPrefix}
 use Rattle.cmd_faults.specs.Lines.{fault_line}
 use Rattle.cmd_faults.specs.declared.fault.Fault.{Fault}
 use Rattle.cmd_faults.specs.declared.fault.Fault.TheVariants.{NoMemory, Words, FacLength, FacOver, FacCrc, Schedule, Script, Capture, CaptureTooLong, PacketSize, Units, Read, Write, Link}
@@ -50,15 +50,15 @@ report_status (Err fault) = fault_status fault
 
 -- The line is written, or where a call failed a front of it.
 pub record WritesLine {E : Type 0} (line : List ℕ) (known : E → Known Output) (old new : E) : Type 0 where
-  pub front : Outputs (known old) (known new) (IsFront line)
-  pub whole : (HasFailed (known old) (known new) → ⊥) → Outputs (known old) (known new) (λ text. text ≡ line)
+  pub front : OutputsText (known old) (known new) (IsPrefix line)
+  pub whole : (HasFailed (known old) (known new) → ⊥) → OutputsText (known old) (known new) (λ text. text ≡ line)
 
 -- What a run writes to err: the line of its fault, and else nothing.
 abbrev pub ReportsFault : {E : Type 0} → Result (Unit {0}) Fault → (E → Known Output) → E → E → Type 0
 ReportsFault (Ok done) known old new = new ≡ old
 ReportsFault (Err fault) known old new = WritesLine (fault_line fault) known old new
 
--- The same where `told` holds; else err is as it was.
+-- The same where `err_ok` holds; else err is as it was.
 abbrev pub ReportsIf : {E : Type 0} → Bool → Result (Unit {0}) Fault → (E → Known Output) → E → E → Type 0
 ReportsIf true done known old new = ReportsFault done known old new
 ReportsIf false done known old new = new ≡ old

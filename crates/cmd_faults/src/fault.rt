@@ -110,13 +110,13 @@ impl Fault {
         self.status()
     }
 
-    /// The same where `told` holds; else nothing is written.
-    pub fn report_if<E: Sink>(self, told: bool, err: &mut E) -> Status
+    /// The same where `err_ok` holds; else nothing is written.
+    pub fn report_if<E: Sink>(self, err_ok: bool, err: &mut E) -> Status
         ensures status { result.code ≡ fault_status self }
-        ensures line { told ≡ true → WritesLine (fault_line self) E.known err.old err.new }
-        ensures still { told ≡ false → err.new ≡ err.old }
+        ensures line { err_ok ≡ true → WritesLine (fault_line self) E.known err.old err.new }
+        ensures still { err_ok ≡ false → err.new ≡ err.old }
     {
-        if told {
+        if err_ok {
             self.report(err)
         } else {
             self.status()

@@ -3,25 +3,25 @@ use Rattle.std.proofs.Common.{◌≡◌, ℕ, zero, suc, ◌<◌, ◌≤◌, ◌
 use Rattle.std.specs.Prelude.{slice_index_or}
 use Rattle.std.proofs.lemmas.List.{get_or_default}
 use Rattle.dcp_pft.specs.declared.carry.Carry.{Carry}
-use Rattle.drm_links.specs.Told.{Known, KnownThrough, IfBothKnown, CountsCall}
+use Rattle.drm_links.specs.Known.{Known, KnownThrough, IfBothKnown, CountsCall}
 use Rattle.drm_links.specs.Link.{Answer, Traffic, rests_of}
-use Rattle.drm_links.specs.Dock.{DockContents, LinkStart, Over, DockBinds, DockCloses, over_of, first_traffic, start_at, after_opening, after_close, Docked, OpeningFinds}
+use Rattle.drm_links.specs.Dock.{DockContents, LinkStart, Over, DockBinds, DockCloses, over_of, first_traffic, start_at, after_opening, after_close, DockKnownThrough, OpeningFinds}
 use Rattle.drm_links.specs.Transmission.{LinkTransmits, SendsAll, SendsNoMore, TakesSends}
 use Rattle.drm_links.specs.ManyCalls.{CountsMany}
 use Rattle.drm_links.specs.declared.dock.Address.{Address}
 use Rattle.drm_links.specs.declared.dock.Opened.TheVariants as opened
 use Rattle.drm_links.specs.declared.link.LinkFault.{LinkFault}
-use Rattle.drm_links.proofs.ToldLemmas.{told_through, Opens-started, Tells-one, Tells-then, Tells-weaker}
+use Rattle.drm_links.proofs.KnownLemmas.{known_through, Opens-started, Tells-one, Tells-then, Tells-weaker}
 use Rattle.recv_reading.specs.declared.options.ReceiveOptions.{ReceiveOptions}
-use Rattle.drm_links.specs.Hearing.{Heard}
+use Rattle.drm_links.specs.Hearing.{LinkHeard}
 use Rattle.recv_reading.specs.Options.{AreInRange}
 use Rattle.recv_reading.specs.Ending.{most_answers}
 use Rattle.recv_reading.proofs.Going.{few_answers}
 use Rattle.link_group.specs.Reaching.{HasGone, HaveGone, HaveLinks, AreUp, ReachesFew, GoesOver, after_reaches, after_closes}
-use Rattle.link_group.specs.Took.{TookBy}
+use Rattle.link_group.specs.MemberTook.{TookBy}
 use Rattle.link_group.specs.declared.member.Member.{Member}
 use Rattle.link_group.proofs.RunLemmas.{over_each}
-use Rattle.dcp_collect.specs.State.{State}
+use Rattle.dcp_collect.specs.CollectorState.{CollectorState}
 use Rattle.drm_gate.specs.declared.tally.Tally.{Tally}
 use Rattle.drm_gate.specs.declared.gate.GateEnded.{GateEnded}
 use Rattle.drm_gate.specs.declared.gate.GateEnded.TheVariants as ended
@@ -31,27 +31,27 @@ use Rattle.drm_gate.specs.Passing.{sent_of}
 use Rattle.drm_gate.specs.Tallies.{over}
 use Rattle.dcp_sender.specs.Resting.{HasNotRested, NeverRests, MakesSends}
 use Rattle.link_group.specs.Binding as hearing
-use Rattle.link_group.proofs.BindLemmas.{heard_told}
-use Rattle.drm_gate.specs.Run.{GateRun, IsFrontOf, IsFrontOfOnward, StopsAt, StopsOver, StopsLast, most_sends}
+use Rattle.link_group.proofs.BindLemmas.{heard_contents}
+use Rattle.drm_gate.specs.Run.{GateRun, IsProperPrefix, IsPrefixOfOnward, StopsAt, StopsOver, StopsLast, most_sends}
 use Rattle.dcp_sender.specs.Targets.{Target, target, targets}
-use Rattle.drm_gate.specs.Targets.{Each, TakesMore, EachTakes, EachSends, AllUp}
+use Rattle.drm_gate.specs.Targets.{EachLink, TakesMore, EachTakes, EachSends, AllUp}
 use Rattle.drm_gate.proofs.Stopping.{took_from}
 use Rattle.drm_gate.proofs.TargetLemmas.{at_place, as_many_targets, all_up}
 use Rattle.cmd_gate.specs.Opening.{no_rests, after_source}
-use Rattle.cmd_gate.specs.Between.{options_of, AreRead, GoesOverLink, GoesPart, GoesOut, passed_of, PassesTo}
-use Rattle.cmd_gate.specs.Run.{PassesOn}
+use Rattle.cmd_gate.specs.Between.{options_of, AreRead, GoesOverLink, GoesPart, RelaysTo, passed_of, PassesTo}
+use Rattle.cmd_gate.specs.Run.{RelaysOverLinks}
 
 -- ---- by what it reads
 
-pub rules_same : (c : State) (options : GateOptions) (rules : ReceiveOptions) → c.window ≡ rules.window → c.reach ≡ rules.reach → c.first ≡ rules.first → options ≡ options_of rules → rules_of c options ≡ rules
+pub rules_same : (c : CollectorState) (options : GateOptions) (rules : ReceiveOptions) → c.window ≡ rules.window → c.reach ≡ rules.reach → c.first ≡ rules.first → options ≡ options_of rules → rules_of c options ≡ rules
 rules_same c options rules window reach first is =
     λ i. record { window = window i; reach = reach i; first = first i; frames = (is i).frames; idle = (is i).idle; limit = (is i).limit }
 
 -- ---- what is told, and when
 
 -- the next opening is the one behind no others
-found_at : (told : DockContents) (at : Address) (start : LinkStart) → (Contains told.failing told.openings → ⊥) → start_at told at ≡ Some start → OpeningFinds told 0 at start
-found_at told at start allowed stands = record { allowed = λ failing. allowed (subst (λ n. Contains told.failing n) (omega arith) failing); stands = stands }
+found_at : (contents : DockContents) (at : Address) (start : LinkStart) → (Contains contents.failing contents.openings → ⊥) → start_at contents at ≡ Some start → OpeningFinds contents 0 at start
+found_at contents at start allowed stands = record { allowed = λ failing. allowed (subst (λ n. Contains contents.failing n) (omega arith) failing); stands = stands }
 
 not_rested : (start : LinkStart) → HasNotRested (first_traffic start)
 not_rested start = record { waits = refl; waiting = refl }
@@ -76,7 +76,7 @@ still_tells rules start (Some x) None valid is calls =
 -- what goes over a new link, and what it tells of that
 pub record Went (start : LinkStart) (a b : Known Traffic) : Type 0 where
   pub traffic : Traffic
-  pub tells : b.told ≡ Some traffic
+  pub tells : b.contents ≡ Some traffic
   pub still : HasNotRested traffic
   pub all : (datagrams : List (List ℕ)) → LinkTransmits a b (SendsAll datagrams) → (traffic.gone ≡ datagrams) × TakesSends start.sends (length traffic.gone) × (traffic.answers ≡ [])
   pub some : (datagrams : List (List ℕ)) → LinkTransmits a b (SendsNoMore datagrams) → (traffic.gone ≡ datagrams) × (start.sends ≡ Some (length traffic.gone)) × (traffic.answers ≡ [])
@@ -84,18 +84,18 @@ pub record Went (start : LinkStart) (a b : Known Traffic) : Type 0 where
 takes_as : (sends : Option ℕ) (xs ys : List (List ℕ)) → xs ≡ ys → TakesSends sends (length xs) → TakesSends sends (length ys)
 takes_as sends xs ys same takes = subst (λ (l : List (List ℕ)). TakesSends sends (length l)) same takes
 
-went_over : (rules : ReceiveOptions) → AreInRange rules → (start : LinkStart) (a b : Known Traffic) → a.told ≡ Some (first_traffic start) → MakesSends (most_sends rules) a b → Went start a b
+went_over : (rules : ReceiveOptions) → AreInRange rules → (start : LinkStart) (a b : Known Traffic) → a.contents ≡ Some (first_traffic start) → MakesSends (most_sends rules) a b → Went start a b
 went_over rules valid start a b new only =
-    let (traffic, tells) = still_tells rules start a.told b.told valid new only.calls in
+    let (traffic, tells) = still_tells rules start a.contents b.contents valid new only.calls in
     record {
       traffic = traffic;
       tells = tells;
-      still = told_through NeverRests a b (first_traffic start) traffic new tells only.still (not_rested start);
+      still = known_through NeverRests a b (first_traffic start) traffic new tells only.still (not_rested start);
       all = λ datagrams sent.
-          let all : SendsAll datagrams (first_traffic start) traffic = told_through (SendsAll datagrams) a b (first_traffic start) traffic new tells sent in
+          let all : SendsAll datagrams (first_traffic start) traffic = known_through (SendsAll datagrams) a b (first_traffic start) traffic new tells sent in
           (all.gone, takes_as start.sends datagrams traffic.gone (sym all.gone) all.taken, all.kept.answers);
       some = λ datagrams sent.
-          let all : SendsNoMore datagrams (first_traffic start) traffic = told_through (SendsNoMore datagrams) a b (first_traffic start) traffic new tells sent in
+          let all : SendsNoMore datagrams (first_traffic start) traffic = known_through (SendsNoMore datagrams) a b (first_traffic start) traffic new tells sent in
           (all.gone, all.no_more ∙ ap (λ (l : List (List ℕ)). Some (length l)) (sym all.gone), all.kept.answers);
     }
 
@@ -107,7 +107,7 @@ module _ (start : LinkStart) (a b : Known Traffic) (w : Went start a b) where
   goes_by true datagrams took = let (gone, takes, none) = w.all datagrams took.sent in (gone, takes, refl)
   goes_by false datagrams took =
       let (gone, no_more, none) = w.some took.front took.sent in
-      (subst (λ (l : List (List ℕ)). IsFrontOf datagrams l) (sym gone) (took.rest, took.some, took.are), no_more, refl)
+      (subst (λ (l : List (List ℕ)). IsProperPrefix datagrams l) (sym gone) (took.rest, took.some, took.are), no_more, refl)
 
   -- nothing was received on it
   received_by : (up : Bool) (datagrams : List (List ℕ)) → TookBy up datagrams a b → w.traffic.answers ≡ []
@@ -119,7 +119,7 @@ module _ (start : LinkStart) (a b : Known Traffic) (w : Went start a b) where
   goes_part rules carry answers last k was up is stops at =
       let (gone, no_more, none) = w.some stops.datagrams stops.sent in
       record {
-        front = subst (λ (l : List (List ℕ)). IsFrontOfOnward rules carry answers l) (sym gone) stops.front;
+        front = subst (λ (l : List (List ℕ)). IsPrefixOfOnward rules carry answers l) (sym gone) stops.front;
         no_more = no_more;
         still = refl;
         at = λ here.
@@ -148,11 +148,11 @@ some_down [] not = absurd (not (λ k none within. absurd (omega (arith, within))
 some_down (t ∷ to) not = down_by t to t.up refl not (some_down to)
 
 abbrev any_target : Target
-any_target = record { up = true; known = record { faults = 0; told = None } }
+any_target = record { up = true; known = record { faults = 0; contents = None } }
 
 module _ {L : Type 0} (rules : ReceiveOptions) (valid : AreInRange rules) (carry : Carry) (to : List Address) (known : L → Known Traffic) (members members' : List (Member L))
     (many : length members ≡ length to) (many' : length members' ≡ length to) (up : AreUp members) (a b c : Known DockContents)
-    (opens : KnownThrough a b (λ before after. after ≡ after_reaches to before)) (links : Docked a b (λ told. HaveLinks known told to members))
+    (opens : KnownThrough a b (λ before after. after ≡ after_reaches to before)) (links : DockKnownThrough a b (λ contents. HaveLinks known contents to members))
     (closed : KnownThrough b c (λ before after. (overs : List Over) → HaveGone known members' overs → after ≡ after_closes overs to before))
     (only : EachSends (most_sends rules) (targets known members) (targets known members')) where
   abbrev olds : List Target
@@ -162,14 +162,14 @@ module _ {L : Type 0} (rules : ReceiveOptions) (valid : AreInRange rules) (carry
   news = targets known members'
 
   -- what holds of a link before and after, by its place
-  at_link : (P : Target → Target → Type 0) → Each P olds news → (k : ℕ) (d : Member L) → k < length to → P (target known (slice_index_or members k d)) (target known (slice_index_or members' k d))
+  at_link : (P : Target → Target → Type 0) → EachLink P olds news → (k : ℕ) (d : Member L) → k < length to → P (target known (slice_index_or members k d)) (target known (slice_index_or members' k d))
   at_link P each k d within =
       let size = as_many_targets known members in
       let here = each k any_target (omega (arith, within, many, size)) in
       subst (λ (t : Target). P t (target known (slice_index_or members' k d))) (at_place known members k any_target d (omega (arith, within, many)))
       (subst (λ (t : Target). P (slice_index_or olds k any_target) t) (at_place known members' k any_target d (omega (arith, within, many'))) here)
 
-  went_at : (k : ℕ) (d : Member L) (start : LinkStart) → k < length to → (known (slice_index_or members k d).link).told ≡ Some (first_traffic start)
+  went_at : (k : ℕ) (d : Member L) (start : LinkStart) → k < length to → (known (slice_index_or members k d).link).contents ≡ Some (first_traffic start)
       → Went start (known (slice_index_or members k d).link) (known (slice_index_or members' k d).link)
   went_at k d start within new =
       went_over rules valid start (known (slice_index_or members k d).link) (known (slice_index_or members' k d).link) new
@@ -204,7 +204,7 @@ module _ {L : Type 0} (rules : ReceiveOptions) (valid : AreInRange rules) (carry
       ))
       closed
 
-  goes_short : (answers : List Answer) (last : ℕ) → Each (λ x y. x.up ≡ true → StopsOver rules carry answers x y) olds news
+  goes_short : (answers : List Answer) (last : ℕ) → EachLink (λ x y. x.up ≡ true → StopsOver rules carry answers x y) olds news
       → ((none : Target) → StopsLast rules carry answers (slice_index_or olds last none) (slice_index_or news last none)) → KnownThrough a c (GoesOver (GoesPart rules carry answers last) to)
   goes_short answers last each at_last =
       over_each (GoesPart rules carry answers last) known to members members' many many' a b c opens links
@@ -234,9 +234,9 @@ module _ {L : Type 0} (rules : ReceiveOptions) (valid : AreInRange rules) (carry
   same_up : (k : ℕ) (none : Target) → k < length news → (slice_index_or news k none).up ≡ (slice_index_or news k any_target).up
   same_up k none within = ap (λ (t : Target). t.up) (get_or_default news k none any_target within)
 
-  pub goes_out : (from from' : Known Traffic) (ended : GateEnded) → GateRun rules carry from from' olds news ended → KnownThrough a c (GoesOut rules carry (Heard from from') to (passed_of ended))
+  pub goes_out : (from from' : Known Traffic) (ended : GateEnded) → GateRun rules carry from from' olds news ended → KnownThrough a c (RelaysTo rules carry (LinkHeard from from') to (passed_of ended))
   goes_out from from' (ended.Done tally) (all_up, sent, all, is) =
-      Tells-weaker (GoesOver (λ k start went. GoesOverLink true (sent_of all.fates) start went) to) (GoesOut rules carry (Heard from from') to (Ok tally)) a c
+      Tells-weaker (GoesOver (λ k start went. GoesOverLink true (sent_of all.fates) start went) to) (RelaysTo rules carry (LinkHeard from from') to (Ok tally)) a c
       (goes_all (sent_of all.fates) (λ k. true) all.sent (λ k none within. all_up k none (omega (arith, within, as_many))))
       (λ x z goes. (
         record {
@@ -249,7 +249,7 @@ module _ {L : Type 0} (rules : ReceiveOptions) (valid : AreInRange rules) (carry
   goes_out from from' ended.SomeFailed (not_up, sent, all) =
       let ups : ℕ → Bool = λ k. (slice_index_or news k any_target).up in
       let down = some_down news not_up in
-      Tells-weaker (GoesOver (λ k start went. GoesOverLink (ups k) (sent_of all.fates) start went) to) (GoesOut rules carry (Heard from from') to (Err (record {}))) a c
+      Tells-weaker (GoesOver (λ k start went. GoesOverLink (ups k) (sent_of all.fates) start went) to) (RelaysTo rules carry (LinkHeard from from') to (Err (record {}))) a c
       (goes_all (sent_of all.fates) ups all.sent (λ k none within. same_up k none (omega (arith, within, as_many))))
       (λ x z goes. inl (
         ups,
@@ -262,7 +262,7 @@ module _ {L : Type 0} (rules : ReceiveOptions) (valid : AreInRange rules) (carry
       ))
   goes_out from from' ended.FromFailed run =
       let ups : ℕ → Bool = λ k. (slice_index_or news k any_target).up in
-      Tells-weaker (GoesOver (λ k start went. GoesOverLink (ups k) (sent_of run.fates) start went) to) (GoesOut rules carry (Heard from from') to (Err (record {}))) a c
+      Tells-weaker (GoesOver (λ k start went. GoesOverLink (ups k) (sent_of run.fates) start went) to) (RelaysTo rules carry (LinkHeard from from') to (Err (record {}))) a c
       (goes_all (sent_of run.fates) ups run.sent (λ k none within. same_up k none (omega (arith, within, as_many))))
       (λ x z goes. inr (inl (
         ups,
@@ -273,7 +273,7 @@ module _ {L : Type 0} (rules : ReceiveOptions) (valid : AreInRange rules) (carry
         },
       )))
   goes_out from from' ended.ToFailed run =
-      Tells-weaker (GoesOver (GoesPart rules carry run.answers run.last) to) (GoesOut rules carry (Heard from from') to (Err (record {}))) a c
+      Tells-weaker (GoesOver (GoesPart rules carry run.answers run.last) to) (RelaysTo rules carry (LinkHeard from from') to (Err (record {}))) a c
       (goes_short run.answers run.last run.each run.at_last)
       (λ x z goes. inr (inr (record {
         answers = run.answers;
@@ -286,8 +286,8 @@ module _ {L : Type 0} (rules : ReceiveOptions) (valid : AreInRange rules) (carry
       })))
 
 pub opened_out : (rules : ReceiveOptions) (carry : Carry) (to : List Address) (from from' : Known Traffic) (passed : Result Tally LinkFault) (a c : Known DockContents)
-    → KnownThrough a c (GoesOut rules carry (Heard from from') to passed) → KnownThrough a c (PassesTo rules carry to from from' passed)
-opened_out rules carry to from from' passed a c goes = Tells-weaker (GoesOut rules carry (Heard from from') to passed) (PassesTo rules carry to from from' passed) a c goes (λ x z out. inr out)
+    → KnownThrough a c (RelaysTo rules carry (LinkHeard from from') to passed) → KnownThrough a c (PassesTo rules carry to from from' passed)
+opened_out rules carry to from from' passed a c goes = Tells-weaker (RelaysTo rules carry (LinkHeard from from') to passed) (PassesTo rules carry to from from' passed) a c goes (λ x z out. inr out)
 
 -- how many calls each link gets, however it ends
 pub only_of : (rules : ReceiveOptions) (carry : Carry) (from from' : Known Traffic) (to to' : List Target) (ended : GateEnded) → GateRun rules carry from from' to to' ended → EachSends (most_sends rules) to to'
@@ -299,19 +299,19 @@ only_of rules carry from from' to to' ended.ToFailed run = run.only
 -- ---- the link that datagrams come from
 
 -- these answers stood ahead of it, and it tells just them: nothing went over it
-heard_all : (rules : ReceiveOptions) (start : LinkStart) (answers : List Answer) (a b : Known Traffic) → AreInRange rules → length answers ≤ most_answers rules → Heard a b answers → a.told ≡ Some (first_traffic start)
-    → (traffic : Traffic) × (b.told ≡ Some traffic) × AreRead start.ahead traffic.answers answers × (over_of traffic ≡ hearing.heard traffic.answers)
-heard_all rules start answers a b valid few came new =
-    let t = heard_told a.told b.told start answers came new (le_trans few (few_answers rules valid)) in
-    let told : t.0.answers ≡ answers = ap (λ (o : Over). o.answers) t.2 in
-    (t.0, t.1, ((t.0.ahead, t.3), told), t.2 ∙ ap hearing.heard (sym told))
+heard_all : (rules : ReceiveOptions) (start : LinkStart) (answers : List Answer) (a b : Known Traffic) → AreInRange rules → length answers ≤ most_answers rules → LinkHeard a b answers → a.contents ≡ Some (first_traffic start)
+    → (traffic : Traffic) × (b.contents ≡ Some traffic) × AreRead start.ahead traffic.answers answers × (over_of traffic ≡ hearing.heard traffic.answers)
+heard_all rules start answers a b valid few answers_heard new =
+    let t = heard_contents a.contents b.contents start answers answers_heard new (le_trans few (few_answers rules valid)) in
+    let contents : t.0.answers ≡ answers = ap (λ (o : Over). o.answers) t.2 in
+    (t.0, t.1, ((t.0.ahead, t.3), contents), t.2 ∙ ap hearing.heard (sym contents))
 
 -- a new link of which something was heard
-module _ (rules : ReceiveOptions) (valid : AreInRange rules) (carry : Carry) (start : LinkStart) (a b : Known Traffic) (new : a.told ≡ Some (first_traffic start)) (to : List Address) (x z : DockContents) where
+module _ (rules : ReceiveOptions) (valid : AreInRange rules) (carry : Carry) (start : LinkStart) (a b : Known Traffic) (new : a.contents ≡ Some (first_traffic start)) (to : List Address) (x z : DockContents) where
   abbrev HasHeard : Result Tally LinkFault → Type 0
-  HasHeard passed = (traffic : Traffic) × (b.told ≡ Some traffic) × (over_of traffic ≡ hearing.heard traffic.answers) × GoesOut rules carry (AreRead start.ahead traffic.answers) to passed x z
+  HasHeard passed = (traffic : Traffic) × (b.contents ≡ Some traffic) × (over_of traffic ≡ hearing.heard traffic.answers) × RelaysTo rules carry (AreRead start.ahead traffic.answers) to passed x z
 
-  heard_some : (passed : Result Tally LinkFault) → GoesOut rules carry (Heard a b) to passed x z → HasHeard passed
+  heard_some : (passed : Result Tally LinkFault) → RelaysTo rules carry (LinkHeard a b) to passed x z → HasHeard passed
   heard_some (Ok tally) (p, counted) =
       let q = p.passed in
       let (traffic, tells, read, over) = heard_all rules start q.answers a b valid q.few q.heard new in (
@@ -374,29 +374,29 @@ closed_heard at (Some t) traffic z w is over closes =
     let same : t ≡ traffic = cc in
     closes ∙ (ap (λ (u : Traffic). after_close at (over_of u) z) same ∙ ap (λ (o : Over). after_close at o z) over)
 
-module _ (rules : ReceiveOptions) (valid : AreInRange rules) (carry : Carry) (from : Address) (to : List Address) (start : LinkStart) (a b : Known Traffic) (new : a.told ≡ Some (first_traffic start))
-    (x y z w : DockContents) (found : OpeningFinds x 0 from start) (at : y ≡ after_opening from x) (closes : DockCloses b.told from z w) where
-  all_closed : (passed : Result Tally LinkFault) → PassesTo rules carry to a b passed y z → PassesOn rules carry from to passed x w
+module _ (rules : ReceiveOptions) (valid : AreInRange rules) (carry : Carry) (from : Address) (to : List Address) (start : LinkStart) (a b : Known Traffic) (new : a.contents ≡ Some (first_traffic start))
+    (x y z w : DockContents) (found : OpeningFinds x 0 from start) (at : y ≡ after_opening from x) (closes : DockCloses b.contents from z w) where
+  all_closed : (passed : Result Tally LinkFault) → PassesTo rules carry to a b passed y z → RelaysOverLinks rules carry from to passed x w
   all_closed passed (inl (failed, same, few)) =
-      let tells : b.told ≡ Some (first_traffic start) = ap (λ (k : Known Traffic). k.told) same ∙ new in
-      let shut : w ≡ after_source from [] z = closed_heard from b.told (first_traffic start) z w tells refl closes in
+      let tells : b.contents ≡ Some (first_traffic start) = ap (λ (k : Known Traffic). k.contents) same ∙ new in
+      let shut : w ≡ after_source from [] z = closed_heard from b.contents (first_traffic start) z w tells refl closes in
       inr (start, found, z, [], shut, inl (failed, refl, subst (λ (d : DockContents). ReachesFew to d z) at few))
   all_closed passed (inr goes) =
       let (traffic, tells, none, out) = heard_some rules valid carry start a b new to y z passed goes in
-      let shut : w ≡ after_source from traffic.answers z = closed_heard from b.told traffic z w tells none closes in
-      inr (start, found, z, traffic.answers, shut, inr (subst (λ (d : DockContents). GoesOut rules carry (AreRead start.ahead traffic.answers) to passed d z) at out))
+      let shut : w ≡ after_source from traffic.answers z = closed_heard from b.contents traffic z w tells none closes in
+      inr (start, found, z, traffic.answers, shut, inr (subst (λ (d : DockContents). RelaysTo rules carry (AreRead start.ahead traffic.answers) to passed d z) at out))
 
 pub passes_on : {L : Type 0} (rules : ReceiveOptions) (carry : Carry) (from : Address) (to : List Address) (known : L → Known Traffic) (first last : L) (passed : Result Tally LinkFault) (a b c d : Known DockContents)
     → AreInRange rules → IfBothKnown a b (DockBinds known from (opened.Link first)) → CountsCall (λ (e : DockContents). e.calls) a b
     → KnownThrough b c (PassesTo rules carry to (known first) (known last) passed)
-    → IfBothKnown c d (DockCloses (known last).told from) → CountsCall (λ (e : DockContents). e.calls) c d → KnownThrough a d (PassesOn rules carry from to passed)
+    → IfBothKnown c d (DockCloses (known last).contents from) → CountsCall (λ (e : DockContents). e.calls) c d → KnownThrough a d (RelaysOverLinks rules carry from to passed)
 passes_on rules carry from to known first last passed a b c d valid opens counts goes closes counts_close =
     let Out : DockContents → DockContents → Type 0 = λ x z. (y : DockContents) × DockBinds known from (opened.Link first) x y × PassesTo rules carry to (known first) (known last) passed y z in
     let out : KnownThrough a c Out =
     Tells-then (DockBinds known from (opened.Link first)) (PassesTo rules carry to (known first) (known last) passed) Out a b c
     (Tells-one (λ (e : DockContents). e.calls) (DockBinds known from (opened.Link first)) a b counts opens) goes (λ x y z p q. (y, p, q)) in
-    Tells-then Out (DockCloses (known last).told from) (PassesOn rules carry from to passed) a c d out
-    (Tells-one (λ (e : DockContents). e.calls) (DockCloses (known last).told from) c d counts_close closes)
+    Tells-then Out (DockCloses (known last).contents from) (RelaysOverLinks rules carry from to passed) a c d out
+    (Tells-one (λ (e : DockContents). e.calls) (DockCloses (known last).contents from) c d counts_close closes)
     (λ x z w (y, opening, over) closing.
     let (start, stands, new) = Opens-started known from first x y opening in
     all_closed rules valid carry from to start (known first) (known last) new x y z w (found_at x from start opening.0 stands) opening.2 closing passed over)

@@ -6,14 +6,14 @@ use Rattle.std.specs.FinMap.{get-remove, get-insert}
 use Rattle.std.specs.Ordering.{nat_cmp, eq_by_cmp}
 use Rattle.std.specs.Cmp.Lexicographic.{slice_cmp, nat_list_cmp_total}
 use Rattle.dcp_pft.specs.declared.carry.Carry.{Carry}
-use Rattle.drm_links.specs.Told.{HasFailed, Known, HasCause, KnownThrough}
+use Rattle.drm_links.specs.Known.{HasFailed, Known, HasCause, KnownThrough}
 use Rattle.drm_links.specs.Link.{Answer}
-use Rattle.drm_links.specs.Sink.{Output, Outputs}
+use Rattle.drm_links.specs.Sink.{Output, OutputsText}
 use Rattle.drm_links.specs.Dock.{DockContents, LinkStart, Over, address_key, start_at, after_opening, after_failure, AreDifferent, OpeningFinds, FindsNone}
 use Rattle.drm_links.specs.Transmission.{TakesSends, TakesFewer}
 use Rattle.drm_links.specs.declared.dock.Address.{Address}
 use Rattle.drm_links.specs.declared.link.LinkFault.{LinkFault}
-use Rattle.drm_links.proofs.ToldLemmas.{Tells-nothing, Tells-weaker, counts_none}
+use Rattle.drm_links.proofs.KnownLemmas.{Tells-nothing, Tells-weaker, counts_none}
 use Rattle.recv_reading.specs.declared.options.ReceiveOptions.{ReceiveOptions}
 use Rattle.recv_reading.specs.OneReading.{BreaksOff}
 use Rattle.link_group.specs.Reaching.{nothing, ReachesNone, ReachesFew, GoesOver, after_reaches}
@@ -25,11 +25,11 @@ use Rattle.cmd_faults.specs.declared.fault.Fault.{Fault}
 use Rattle.cmd_faults.specs.declared.fault.Fault.TheVariants as faults
 use Rattle.cmd_faults.proofs.CauseLemmas.{inner_fault}
 use Rattle.drm_gate.specs.declared.tally.Tally.{Tally}
-use Rattle.drm_gate.specs.Passing.{Fate, sent_of}
+use Rattle.drm_gate.specs.Passing.{Outcome, sent_of}
 use Rattle.cmd_gate.specs.Line.{gate_line, is_clean}
 use Rattle.cmd_gate.specs.Opening.{FailsOpening, after_source}
-use Rattle.cmd_gate.specs.Between.{AreAhead, AreRead, IsPassedOn, GoesOverLink, GoesPart, PassesAll, PassesPart, GoesOut}
-use Rattle.cmd_gate.specs.Run.{PassesOn, WritesTally, LacksSome, FailsGate, HasAll, PassedAll, GateCommandRun}
+use Rattle.cmd_gate.specs.Between.{AreAhead, AreRead, IsRelayed, GoesOverLink, GoesPart, PassesAll, PassesPart, RelaysTo}
+use Rattle.cmd_gate.specs.Run.{RelaysOverLinks, WritesTally, LacksSome, FailsGate, HasAll, PassedAll, GateCommandRun}
 use Rattle.cmd_gate.proofs.ReadingLemmas.{broken, whole, one_passed, front_of_all, takes_fewer, not_both}
 
 pub no_fault : (clean : Bool) (fault : Fault) → Ok clean ≡ Err fault → ⊥
@@ -45,19 +45,19 @@ PassedOn rules carry from to passed before after =
     (IsErr passed × FindsNone before 0 from × (after ≡ after_failure before))
     ⊎ ((source : LinkStart) × OpeningFinds before 0 from source × (mid : DockContents) × (answers : List Answer) × (after ≡ after_source from answers mid)
     × ((IsErr passed × ReachesFew to (after_opening from before) mid)
-    ⊎ GoesOut rules carry (AreAhead source.ahead) to passed (after_opening from before) mid))
+    ⊎ RelaysTo rules carry (AreAhead source.ahead) to passed (after_opening from before) mid))
 
-passed_ahead : (rules : ReceiveOptions) (carry : Carry) (ahead told : List Answer) (fates : List Fate) → IsPassedOn rules carry (AreRead ahead told) fates → IsPassedOn rules carry (AreAhead ahead) fates
-passed_ahead rules carry ahead told fates p =
+passed_ahead : (rules : ReceiveOptions) (carry : Carry) (ahead heard : List Answer) (fates : List Outcome) → IsRelayed rules carry (AreRead ahead heard) fates → IsRelayed rules carry (AreAhead ahead) fates
+passed_ahead rules carry ahead heard fates p =
     record { answers = p.answers; heard = p.heard.0; few = p.few; word = p.word; reading = p.reading; onward = p.onward }
 
-out_ahead : (rules : ReceiveOptions) (carry : Carry) (ahead told : List Answer) (to : List Address) (passed : Result Tally LinkFault) (x z : DockContents)
-    → GoesOut rules carry (AreRead ahead told) to passed x z → GoesOut rules carry (AreAhead ahead) to passed x z
-out_ahead rules carry ahead told to (Ok tally) x z (p, counted) =
-    (record { fates = p.fates; passed = passed_ahead rules carry ahead told p.fates p.passed; goes = p.goes }, counted)
-out_ahead rules carry ahead told to (Err fault) x z (inl (up, down, p)) =
-    inl (up, down, record { fates = p.fates; passed = passed_ahead rules carry ahead told p.fates p.passed; goes = p.goes })
-out_ahead rules carry ahead told to (Err fault) x z (inr (inl (up, p))) =
+out_ahead : (rules : ReceiveOptions) (carry : Carry) (ahead heard : List Answer) (to : List Address) (passed : Result Tally LinkFault) (x z : DockContents)
+    → RelaysTo rules carry (AreRead ahead heard) to passed x z → RelaysTo rules carry (AreAhead ahead) to passed x z
+out_ahead rules carry ahead heard to (Ok tally) x z (p, counted) =
+    (record { fates = p.fates; passed = passed_ahead rules carry ahead heard p.fates p.passed; goes = p.goes }, counted)
+out_ahead rules carry ahead heard to (Err fault) x z (inl (up, down, p)) =
+    inl (up, down, record { fates = p.fates; passed = passed_ahead rules carry ahead heard p.fates p.passed; goes = p.goes })
+out_ahead rules carry ahead heard to (Err fault) x z (inr (inl (up, p))) =
     let b = p.broken in
     inr (inl (
       up,
@@ -67,7 +67,7 @@ out_ahead rules carry ahead told to (Err fault) x z (inr (inl (up, p))) =
         goes = p.goes;
       },
     ))
-out_ahead rules carry ahead told to (Err fault) x z (inr (inr p)) =
+out_ahead rules carry ahead heard to (Err fault) x z (inr (inr p)) =
     inr (inr (record { answers = p.answers; heard = p.heard.0; few = p.few; goes_on = p.goes_on; last = p.last; within = p.within; goes = p.goes }))
 
 few_reached : (to : List Address) (x z : DockContents) → ReachesFew to x z → ReachesNone x to
@@ -75,18 +75,18 @@ few_reached to x z few = record { k = few.k; within = few.within; fails = few.fa
 
 -- ---- what had gone at an address
 
-module _ (told : DockContents) (from : Address) where
-  apart_by : (at : Address) (start : LinkStart) (b : Bool) → eq_by_cmp (slice_cmp nat_cmp) (address_key at) (address_key from) ≡ b → start_at (after_opening from told) at ≡ Some start
+module _ (contents : DockContents) (from : Address) where
+  apart_by : (at : Address) (start : LinkStart) (b : Bool) → eq_by_cmp (slice_cmp nat_cmp) (address_key at) (address_key from) ≡ b → start_at (after_opening from contents) at ≡ Some start
       → eq_by_cmp (slice_cmp nat_cmp) (address_key at) (address_key from) ≡ false
   apart_by at start false is stands = is
   apart_by at start true is stands =
-      let none : start_at (after_opening from told) at ≡ None =
-      get-remove nat_list_cmp_total told.links (address_key from) (address_key at) ∙ ap (λ b. cond b None (map.get told.links (address_key at))) is in
+      let none : start_at (after_opening from contents) at ≡ None =
+      get-remove nat_list_cmp_total contents.links (address_key from) (address_key at) ∙ ap (λ b. cond b None (map.get contents.links (address_key at))) is in
       let clash : None ≡ Some start = sym none ∙ stands in
       absurd cc
 
   -- the link that was read had another one
-  gone_at : (GoesOverLink : ℕ → LinkStart → Over → Type 0) (to : List Address) (answers : List Answer) (mid : DockContents) → AreDifferent to → (goes : GoesOver GoesOverLink to (after_opening from told) mid) → (k : ℕ) (at : Address) → k < length to
+  gone_at : (GoesOverLink : ℕ → LinkStart → Over → Type 0) (to : List Address) (answers : List Answer) (mid : DockContents) → AreDifferent to → (goes : GoesOver GoesOverLink to (after_opening from contents) mid) → (k : ℕ) (at : Address) → k < length to
       → map.get (after_source from answers mid).gone (address_key (slice_index_or to k at)) ≡ Some (slice_index_or goes.overs k nothing).gone
   gone_at GoesOverLink to answers mid different goes k at within =
       let here : Address = slice_index_or to k at in
@@ -94,14 +94,14 @@ module _ (told : DockContents) (from : Address) where
       let other = apart_by here start (eq_by_cmp (slice_cmp nat_cmp) (address_key here) (address_key from)) refl finds.stands in
       get-insert nat_list_cmp_total mid.gone (address_key from) [] (address_key here)
       ∙ (ap (λ b. cond b (Some []) (map.get mid.gone (address_key here))) other
-      ∙ (ap (λ (d : DockContents). map.get d.gone (address_key here)) goes.told
-      ∙ several.gone_at goes.overs to (after_reaches to (after_opening from told)) different goes.goes.as_many k at nothing within))
+      ∙ (ap (λ (d : DockContents). map.get d.gone (address_key here)) goes.contents
+      ∙ several.gone_at goes.overs to (after_reaches to (after_opening from contents)) different goes.goes.as_many k at nothing within))
 
 -- ---- what goes over one of the links, and what becomes of all that is read
 
-module _ (rules : ReceiveOptions) (carry : Carry) (ahead : List Answer) (fates : List Fate) (passed : IsPassedOn rules carry (AreAhead ahead) fates) where
+module _ (rules : ReceiveOptions) (carry : Carry) (ahead : List Answer) (fates : List Outcome) (passed : IsRelayed rules carry (AreAhead ahead) fates) where
   -- it lacks sends where it fails
-  lacks_by : (up : Bool) (fs : List Fate) (start : LinkStart) (went : Over) → IsPassedOn rules carry (AreAhead ahead) fs → up ≡ false → GoesOverLink up (sent_of fs) start went → TakesFewer start.sends (length (sent_of fates))
+  lacks_by : (up : Bool) (fs : List Outcome) (start : LinkStart) (went : Over) → IsRelayed rules carry (AreAhead ahead) fs → up ≡ false → GoesOverLink up (sent_of fs) start went → TakesFewer start.sends (length (sent_of fates))
   lacks_by true fs start went is down goes = absurd (let clash : true ≡ false = down in cc)
   lacks_by false fs start went is down (front, no_more, still) =
       subst (λ (l : List (List ℕ)). TakesFewer start.sends (length l)) (one_passed rules carry ahead fs fates is passed) (takes_fewer start.sends (sent_of fs) went.gone no_more front)
@@ -112,7 +112,7 @@ module _ (rules : ReceiveOptions) (carry : Carry) (ahead : List Answer) (fates :
       takes_fewer start.sends (sent_of fates) went.gone goes.no_more (front_of_all rules carry ahead fates p.answers went.gone p.heard p.goes_on goes.front passed)
 
   -- and where it takes all, all goes over it
-  all_by : (up : Bool) (fs : List Fate) (start : LinkStart) (went : Over) → IsPassedOn rules carry (AreAhead ahead) fs → GoesOverLink up (sent_of fs) start went → TakesSends start.sends (length (sent_of fates)) → went.gone ≡ sent_of fates
+  all_by : (up : Bool) (fs : List Outcome) (start : LinkStart) (went : Over) → IsRelayed rules carry (AreAhead ahead) fs → GoesOverLink up (sent_of fs) start went → TakesSends start.sends (length (sent_of fates)) → went.gone ≡ sent_of fates
   all_by true fs start went is (gone, takes, still) enough = gone ∙ one_passed rules carry ahead fs fates is passed
   all_by false fs start went is goes enough = absurd (not_both start.sends (length (sent_of fates)) (lacks_by false fs start went is refl goes) enough)
 
@@ -120,7 +120,7 @@ module _ (rules : ReceiveOptions) (carry : Carry) (ahead : List Answer) (fates :
 
 module _ (rules : ReceiveOptions) (carry : Carry) (from : Address) (to : List Address) where
   -- one of them fails
-  fails_out : (fault : LinkFault) (x z : DockContents) (source : LinkStart) → GoesOut rules carry (AreAhead source.ahead) to (Err fault) (after_opening from x) z
+  fails_out : (fault : LinkFault) (x z : DockContents) (source : LinkStart) → RelaysTo rules carry (AreAhead source.ahead) to (Err fault) (after_opening from x) z
       → BreaksOff rules source.ahead ⊎ LacksSome rules carry source.ahead (after_opening from x) to
   fails_out fault x z source (inl (up, (k, within, down), p)) = inr (record {
     k = k;
@@ -158,7 +158,7 @@ module _ (rules : ReceiveOptions) (carry : Carry) (from : Address) (to : List Ad
         let (first, there, few) = lacks.lacks any_address in
         let one : first ≡ other = found_once (after_opening from x) k (slice_index_or to k any_address) first other there finds in
         let less : TakesFewer other.sends (length (sent_of p.fates)) = subst (λ (s : LinkStart). TakesFewer s.sends (length (sent_of p.fates))) one
-        (few p.fates (subst (λ (s : LinkStart). IsPassedOn rules carry (AreAhead s.ahead) p.fates) (sym same) p.passed)) in
+        (few p.fates (subst (λ (s : LinkStart). IsRelayed rules carry (AreAhead s.ahead) p.fates) (sym same) p.passed)) in
         not_both other.sends (length (sent_of p.fates)) less (subst (λ (l : List (List ℕ)). TakesSends other.sends (length l)) goes.0 goes.1)
 
     none_fails : FailsGate rules carry from to x → ⊥
@@ -174,7 +174,7 @@ module _ (rules : ReceiveOptions) (carry : Carry) (from : Address) (to : List Ad
 
   -- ---- what has gone over each of them
 
-  module _ (different : AreDifferent to) (x y mid : DockContents) (answers : List Answer) (is : y ≡ after_source from answers mid) (source : LinkStart) (fates : List Fate) (passed : IsPassedOn rules carry (AreAhead source.ahead) fates) where
+  module _ (different : AreDifferent to) (x y mid : DockContents) (answers : List Answer) (is : y ≡ after_source from answers mid) (source : LinkStart) (fates : List Outcome) (passed : IsRelayed rules carry (AreAhead source.ahead) fates) where
     has : (GoesOverLink : ℕ → LinkStart → Over → Type 0) (goes : GoesOver GoesOverLink to (after_opening from x) mid) (k : ℕ) → k < length to → (slice_index_or goes.overs k nothing).gone ≡ sent_of fates → HasAll fates to k y
     has GoesOverLink goes k within same at = ap (λ (d : DockContents). map.get d.gone (address_key (slice_index_or to k at))) is ∙ (gone_at x from GoesOverLink to answers mid different goes k at within ∙ ap Some same)
 
@@ -186,7 +186,7 @@ module _ (rules : ReceiveOptions) (carry : Carry) (from : Address) (to : List Ad
           has (λ j s went. GoesOverLink (up j) (sent_of p.fates) s went) p.goes k within
           (all_by rules carry source.ahead fates passed (up k) p.fates other (slice_index_or p.goes.overs k nothing) p.passed goes (subst (λ (s : LinkStart). TakesSends s.sends (length (sent_of fates))) one enough))
 
-      of_out : (result : Result Tally LinkFault) → GoesOut rules carry (AreAhead source.ahead) to result (after_opening from x) mid → HasAll fates to k y
+      of_out : (result : Result Tally LinkFault) → RelaysTo rules carry (AreAhead source.ahead) to result (after_opening from x) mid → HasAll fates to k y
       of_out (Ok tally) (p, counted) = of_all (λ j. true) p
       of_out (Err fault) (inl (up, down, p)) = of_all up p
       of_out (Err fault) (inr (inl (up, p))) = absurd (whole rules carry source.ahead fates passed (broken rules carry source.ahead p.fates p.broken))
@@ -198,15 +198,15 @@ module _ (rules : ReceiveOptions) (carry : Carry) (from : Address) (to : List Ad
           (lacks_part rules carry source.ahead fates passed p.answers to (after_opening from x) mid p k other (slice_index_or p.goes.overs k nothing) goes)
           (subst (λ (s : LinkStart). TakesSends s.sends (length (sent_of fates))) one enough))
 
-  each_by : AreDifferent to → (result : Result Tally LinkFault) (x y : DockContents) → PassedOn rules carry from to result x y → (FailsOpening x from to → ⊥) → (source : LinkStart) (fates : List Fate) → OpeningFinds x 0 from source
-      → IsPassedOn rules carry (AreAhead source.ahead) fates → (k : ℕ) (at : Address) (start : LinkStart) → k < length to → OpeningFinds (after_opening from x) k (slice_index_or to k at) start
+  each_by : AreDifferent to → (result : Result Tally LinkFault) (x y : DockContents) → PassedOn rules carry from to result x y → (FailsOpening x from to → ⊥) → (source : LinkStart) (fates : List Outcome) → OpeningFinds x 0 from source
+      → IsRelayed rules carry (AreAhead source.ahead) fates → (k : ℕ) (at : Address) (start : LinkStart) → k < length to → OpeningFinds (after_opening from x) k (slice_index_or to k at) start
       → TakesSends start.sends (length (sent_of fates)) → HasAll fates to k y
   each_by different result x y (inl (failed, none, after)) fine source fates found passed k at start within finds enough = absurd (fine (inl none))
   each_by different result x y (inr (first, there, mid, answers, after, inl (failed, few))) fine source fates found passed k at start within finds enough =
       absurd (fine (inr (first, there, few_reached to (after_opening from x) mid few)))
   each_by different result x y (inr (first, there, mid, answers, after, inr goes)) fine source fates found passed k at start within finds enough =
       let one : source ≡ first = found_once x 0 from source first found there in
-      of_out different x y mid answers after first fates (subst (λ (s : LinkStart). IsPassedOn rules carry (AreAhead s.ahead) fates) one passed) k at start within finds enough result goes
+      of_out different x y mid answers after first fates (subst (λ (s : LinkStart). IsRelayed rules carry (AreAhead s.ahead) fates) one passed) k at start within finds enough result goes
 
   -- where none fails all has gone over each
   all_gone : AreDifferent to → (x y mid : DockContents) (answers : List Answer) → y ≡ after_source from answers mid → (source : LinkStart) (p : PassesAll rules carry (AreAhead source.ahead) to (λ k. true) (after_opening from x) mid)
@@ -217,7 +217,7 @@ module _ (rules : ReceiveOptions) (carry : Carry) (from : Address) (to : List Ad
 
   -- ---- the whole run
 
-  forget : (passed : Result Tally LinkFault) (x y : DockContents) → PassesOn rules carry from to passed x y → PassedOn rules carry from to passed x y
+  forget : (passed : Result Tally LinkFault) (x y : DockContents) → RelaysOverLinks rules carry from to passed x y → PassedOn rules carry from to passed x y
   forget passed x y (inl fails) = inl fails
   forget passed x y (inr (source, found, mid, answers, after, inl (failed, none, few))) = inr (source, found, mid, answers, after, inl (failed, few))
   forget passed x y (inr (source, found, mid, answers, after, inr goes)) =
@@ -238,7 +238,7 @@ module _ (rules : ReceiveOptions) (carry : Carry) (from : Address) (to : List Ad
     exactly_by (Ok tally) x y writes passes = inr (λ link. absurd (not_link tally writes link), λ fail. absurd (passes_not tally x y passes fail))
     exactly_by (Err fault) x y writes passes = inr (λ link. fails_by fault x y passes, λ fail. writes.0)
 
-    passed_by : (tally : Tally) (x y : DockContents) → ending ≡ Ok (is_clean tally) → Outputs (known out) (known out') (λ text. text ≡ gate_line tally) → PassedOn rules carry from to (Ok tally) x y
+    passed_by : (tally : Tally) (x y : DockContents) → ending ≡ Ok (is_clean tally) → OutputsText (known out) (known out') (λ text. text ≡ gate_line tally) → PassedOn rules carry from to (Ok tally) x y
         → PassedAll rules carry from to ending x y known out out'
     passed_by tally x y is text (inl (failed, none, after)) = let clash : false ≡ true = failed in absurd cc
     passed_by tally x y is text (inr (source, found, mid, answers, after, inl (failed, few))) = let clash : false ≡ true = failed in absurd cc
@@ -248,7 +248,7 @@ module _ (rules : ReceiveOptions) (carry : Carry) (from : Address) (to : List Ad
       fates = p.fates;
       passed = p.passed;
       gone = λ k within. all_gone different x y mid answers after source p k within;
-      line = subst (λ (t : Tally). Outputs (known out) (known out') (λ written. written ≡ gate_line t)) counted text;
+      line = subst (λ (t : Tally). OutputsText (known out) (known out') (λ written. written ≡ gate_line t)) counted text;
       clean = is ∙ ap (λ (t : Tally). Ok (is_clean t)) counted;
     }
 
@@ -291,18 +291,18 @@ module _ (rules : ReceiveOptions) (carry : Carry) (from : Address) (to : List Ad
     }
 
     module _ {D : Type 0} (dock_known : D → Known DockContents) (dock dock' : D) where
-      pub links_run : (passed : Result Tally LinkFault) → KnownThrough (dock_known dock) (dock_known dock') (PassesOn rules carry from to passed) → WritesTally passed ending known out out'
+      pub links_run : (passed : Result Tally LinkFault) → KnownThrough (dock_known dock) (dock_known dock') (RelaysOverLinks rules carry from to passed) → WritesTally passed ending known out out'
           → OpeningFailed (dock_known dock) (dock_known dock') (IsErr passed) → HasCause (known out) (known out') (ending ≡ Err faults.Write)
           → GateCommandRun rules carry from to ending dock_known dock dock' known out out'
-      links_run passed told writes failed cause = record {
-        run = inr (record { passed = passed; told = told; writes = writes });
+      links_run passed contents writes failed cause = record {
+        run = inr (record { passed = passed; contents = contents; writes = writes });
         kind = kind_by passed writes;
         untouched = λ is. absurd (not_memory passed writes is);
-        exactly = Tells-weaker (PassesOn rules carry from to passed) _ (dock_known dock) (dock_known dock') told (λ x y passes. exactly_by passed x y writes (forget passed x y passes));
-        each = Tells-weaker (PassesOn rules carry from to passed) _ (dock_known dock) (dock_known dock') told
+        exactly = Tells-weaker (RelaysOverLinks rules carry from to passed) _ (dock_known dock) (dock_known dock') contents (λ x y passes. exactly_by passed x y writes (forget passed x y passes));
+        each = Tells-weaker (RelaysOverLinks rules carry from to passed) _ (dock_known dock) (dock_known dock') contents
             (λ x y passes fine source fates found is k at start within finds enough. inr (each_by different passed x y (forget passed x y passes) fine source fates found is k at start within finds enough));
-        complete = λ none. Tells-weaker (PassesOn rules carry from to passed) _ (dock_known dock) (dock_known dock') told (λ x y passes. complete_by passed x y cause none writes (forget passed x y passes));
-        alike = λ clean done. Tells-weaker (PassesOn rules carry from to passed) _ (dock_known dock) (dock_known dock') told (λ x y passes. alike_by passed clean x y writes done (forget passed x y passes));
+        complete = λ none. Tells-weaker (RelaysOverLinks rules carry from to passed) _ (dock_known dock) (dock_known dock') contents (λ x y passes. complete_by passed x y cause none writes (forget passed x y passes));
+        alike = λ clean done. Tells-weaker (RelaysOverLinks rules carry from to passed) _ (dock_known dock) (dock_known dock') contents (λ x y passes. alike_by passed clean x y writes done (forget passed x y passes));
         dock_cause = elim failed [
           | inl same ↦ inl same
           | inr once ↦ inr (to_link passed writes once.0, once.1)

@@ -7,7 +7,7 @@ use Rattle.link_group.specs.Reaching.{ReachesNone}
 
 -- an opening fails: that of the link that is read, or one of the others behind it
 abbrev pub FailsOpening : DockContents → Address → List Address → Type 0
-FailsOpening told from to = FindsNone told 0 from ⊎ ((source : LinkStart) × OpeningFinds told 0 from source × ReachesNone (after_opening from told) to)
+FailsOpening contents from to = FindsNone contents 0 from ⊎ ((source : LinkStart) × OpeningFinds contents 0 from source × ReachesNone (after_opening from contents) to)
 
 -- a link over which these went never rested: neither before one of them nor after the last
 abbrev pub no_rests : List (List ℕ) → List ℕ
@@ -15,4 +15,4 @@ no_rests gone = map (λ _. 0) gone ++ 0 ∷ []
 
 -- where the link that was read was closed, which had given these answers: nothing had gone over it
 abbrev pub after_source : Address → List Answer → DockContents → DockContents
-after_source from answers told = after_close from (record { answers = answers; gone = []; rests = no_rests [] }) told
+after_source from answers contents = after_close from (record { answers = answers; gone = []; rests = no_rests [] }) contents

@@ -2,9 +2,9 @@
 use Rattle.std.specs.Prelude.{ℕ, ◌≡◌, ◌<◌, ◌⊎◌, ◌↔◌, Bool, List, [], length, slice_index_or, Option, Some, Result, Ok, Err, IsErr}
 use Rattle.std.specs.FinMap as map
 use Rattle.dcp_pft.specs.declared.carry.Carry.{Carry}
-use Rattle.drm_links.specs.Told.{HasFailed, Known, HasCause, KnownThrough}
+use Rattle.drm_links.specs.Known.{HasFailed, Known, HasCause, KnownThrough}
 use Rattle.drm_links.specs.Link.{Answer}
-use Rattle.drm_links.specs.Sink.{Output, Outputs, IsFront}
+use Rattle.drm_links.specs.Sink.{Output, OutputsText, IsPrefix}
 use Rattle.drm_links.specs.Dock.{DockContents, LinkStart, address_key, after_opening, after_failure, OpeningFinds, FindsNone}
 use Rattle.drm_links.specs.Transmission.{TakesSends, TakesFewer}
 use Rattle.drm_links.specs.declared.dock.Address.{Address}
@@ -17,30 +17,30 @@ use Rattle.cmd_faults.specs.Causes.{OpeningFailed}
 use Rattle.cmd_faults.specs.declared.fault.Fault.{Fault}
 use Rattle.cmd_faults.specs.declared.fault.Fault.TheVariants as faults
 use Rattle.drm_gate.specs.declared.tally.Tally.{Tally}
-use Rattle.drm_gate.specs.Passing.{Fate, sent_of}
+use Rattle.drm_gate.specs.Passing.{Outcome, sent_of}
 use Rattle.drm_gate.specs.Tallies.{tally_of, over}
 use Rattle.cmd_gate.specs.Line.{gate_line, is_clean}
 use Rattle.cmd_gate.specs.Opening.{FailsOpening, after_source}
-use Rattle.cmd_gate.specs.Between.{AreAhead, AreRead, IsPassedOn, GoesOut}
+use Rattle.cmd_gate.specs.Between.{AreAhead, AreRead, IsRelayed, RelaysTo}
 
 -- ---- what goes out
 
 -- What the dock tells: an opening failed, and the links that were opened are closed; or all links were opened, this went over those
 -- that are sent over of what was ahead of the one that is read, and all were closed. That one had given the answers of which
 -- this became, and no others; where an opening failed none.
-abbrev pub PassesOn : ReceiveOptions → Carry → Address → List Address → Result Tally LinkFault → DockContents → DockContents → Type 0
-PassesOn rules carry from to passed before after =
+abbrev pub RelaysOverLinks : ReceiveOptions → Carry → Address → List Address → Result Tally LinkFault → DockContents → DockContents → Type 0
+RelaysOverLinks rules carry from to passed before after =
     (IsErr passed × FindsNone before 0 from × (after ≡ after_failure before))
     ⊎ ((source : LinkStart) × OpeningFinds before 0 from source × (mid : DockContents) × (answers : List Answer) × (after ≡ after_source from answers mid)
     × ((IsErr passed × (answers ≡ []) × ReachesFew to (after_opening from before) mid)
-    ⊎ GoesOut rules carry (AreRead source.ahead answers) to passed (after_opening from before) mid))
+    ⊎ RelaysTo rules carry (AreRead source.ahead answers) to passed (after_opening from before) mid))
 
 -- How the run ends, and what is written: where all was counted the line of it, or after a failed write a front of that; where a link
 -- failed nothing.
 abbrev pub WritesTally : {O : Type 0} → Result Tally LinkFault → Result Bool Fault → (O → Known Output) → O → O → Type 0
 WritesTally (Ok tally) ending known out out' =
-    ((ending ≡ Ok (is_clean tally)) × Outputs (known out) (known out') (λ text. text ≡ gate_line tally))
-    ⊎ ((ending ≡ Err faults.Write) × Outputs (known out) (known out') (IsFront (gate_line tally)))
+    ((ending ≡ Ok (is_clean tally)) × OutputsText (known out) (known out') (λ text. text ≡ gate_line tally))
+    ⊎ ((ending ≡ Err faults.Write) × OutputsText (known out) (known out') (IsPrefix (gate_line tally)))
 WritesTally (Err fault) ending known out out' = (ending ≡ Err faults.Link) × (out' ≡ out)
 
 -- A run that came to its links.
@@ -48,7 +48,7 @@ pub record LinksRun {D O : Type 0} (rules : ReceiveOptions) (carry : Carry) (fro
     (dock_known : D → Known DockContents) (dock dock' : D) (out_known : O → Known Output) (out out' : O) : Type 0 where
   -- what was counted, or that a link failed
   pub passed : Result Tally LinkFault
-  pub told : KnownThrough (dock_known dock) (dock_known dock') (PassesOn rules carry from to passed)
+  pub contents : KnownThrough (dock_known dock) (dock_known dock') (RelaysOverLinks rules carry from to passed)
   pub writes : WritesTally passed ending out_known out out'
 
 -- memory was wanting: nothing was opened, nothing written
@@ -59,25 +59,25 @@ NoRun ending dock dock' out out' = (ending ≡ Err faults.NoMemory) × (dock' �
 
 -- A link takes fewer sends than what becomes of the answers ahead of another one has datagrams.
 abbrev pub LacksSends : ReceiveOptions → Carry → List Answer → Option ℕ → Type 0
-LacksSends rules carry ahead sends = (fates : List Fate) → IsPassedOn rules carry (AreAhead ahead) fates → TakesFewer sends (length (sent_of fates))
+LacksSends rules carry ahead sends = (fates : List Outcome) → IsRelayed rules carry (AreAhead ahead) fates → TakesFewer sends (length (sent_of fates))
 
 -- The link that is opened at one of these addresses does.
-pub record LacksSome (rules : ReceiveOptions) (carry : Carry) (ahead : List Answer) (told : DockContents) (to : List Address) : Type 0 where
+pub record LacksSome (rules : ReceiveOptions) (carry : Carry) (ahead : List Answer) (contents : DockContents) (to : List Address) : Type 0 where
   pub k : ℕ
   pub within : k < length to
-  pub lacks : (at : Address) → (start : LinkStart) × OpeningFinds told k (slice_index_or to k at) start × LacksSends rules carry ahead start.sends
+  pub lacks : (at : Address) → (start : LinkStart) × OpeningFinds contents k (slice_index_or to k at) start × LacksSends rules carry ahead start.sends
 
 -- An opening fails; or what is ahead of the link that is read breaks off, or one of the others takes too few sends.
 abbrev pub FailsGate : ReceiveOptions → Carry → Address → List Address → DockContents → Type 0
-FailsGate rules carry from to told =
-    FailsOpening told from to
-    ⊎ ((source : LinkStart) × OpeningFinds told 0 from source
-    × (BreaksOff rules source.ahead ⊎ LacksSome rules carry source.ahead (after_opening from told) to))
+FailsGate rules carry from to contents =
+    FailsOpening contents from to
+    ⊎ ((source : LinkStart) × OpeningFinds contents 0 from source
+    × (BreaksOff rules source.ahead ⊎ LacksSome rules carry source.ahead (after_opening from contents) to))
 
 -- ---- the whole run
 
 -- All that becomes of what was ahead of the link that is read has gone at this address.
-abbrev pub HasAll : List Fate → List Address → ℕ → DockContents → Type 0
+abbrev pub HasAll : List Outcome → List Address → ℕ → DockContents → Type 0
 HasAll fates to k after = (at : Address) → map.get after.gone (address_key (slice_index_or to k at)) ≡ Some (sent_of fates)
 
 -- It has gone at each address, and the line of it is written.
@@ -85,10 +85,10 @@ pub record PassedAll {O : Type 0} (rules : ReceiveOptions) (carry : Carry) (from
     (known : O → Known Output) (out out' : O) : Type 0 where
   pub source : LinkStart
   pub finds : OpeningFinds before 0 from source
-  pub fates : List Fate
-  pub passed : IsPassedOn rules carry (AreAhead source.ahead) fates
+  pub fates : List Outcome
+  pub passed : IsRelayed rules carry (AreAhead source.ahead) fates
   pub gone : (k : ℕ) → k < length to → HasAll fates to k after
-  pub line : Outputs (known out) (known out') (λ text. text ≡ gate_line (over (length to) (tally_of fates)))
+  pub line : OutputsText (known out) (known out') (λ text. text ≡ gate_line (over (length to) (tally_of fates)))
   pub clean : ending ≡ Ok (is_clean (tally_of fates))
 
 -- A run of `gate`.
@@ -101,10 +101,10 @@ pub record GateCommandRun {D O : Type 0} (rules : ReceiveOptions) (carry : Carry
   pub untouched : ending ≡ Err faults.NoMemory → (dock' ≡ dock) × (out' ≡ out)
   -- It fails by a link exactly where an opening fails, what is read of the first link ends in `Failed`, or one of the others takes
   -- fewer sends than what becomes of what is read has datagrams.
-  pub exactly : KnownThrough (dock_known dock) (dock_known dock') (λ told _. UnlessMemory ending ((ending ≡ Err faults.Link) ↔ FailsGate rules carry from to told))
+  pub exactly : KnownThrough (dock_known dock) (dock_known dock') (λ contents _. UnlessMemory ending ((ending ≡ Err faults.Link) ↔ FailsGate rules carry from to contents))
   -- Where no opening fails, all has gone over each link that takes all, whatever becomes of the others.
   pub each : KnownThrough (dock_known dock) (dock_known dock') (λ before after. (FailsOpening before from to → ⊥)
-      → (source : LinkStart) (fates : List Fate) → OpeningFinds before 0 from source → IsPassedOn rules carry (AreAhead source.ahead) fates
+      → (source : LinkStart) (fates : List Outcome) → OpeningFinds before 0 from source → IsRelayed rules carry (AreAhead source.ahead) fates
       → (k : ℕ) (at : Address) (start : LinkStart) → k < length to → OpeningFinds (after_opening from before) k (slice_index_or to k at) start
       → TakesSends start.sends (length (sent_of fates)) → UnlessMemory ending (HasAll fates to k after))
   -- Where no link and no write fails, all has gone over each, and the line of it is written.

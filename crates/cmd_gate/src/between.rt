@@ -1,10 +1,10 @@
 //! A link that is read and others that are sent over: they are opened, passed over, and closed.
 
 ghost use Rattle.std.specs.Prelude.{◌≡◌, IsErr, length, vec_len, vec_capacity};
-ghost use Rattle.drm_links.specs.Told.{KnownThrough};
+ghost use Rattle.drm_links.specs.Known.{KnownThrough};
 ghost use Rattle.cmd_faults.specs.Causes.{OpeningFailed};
 ghost use Rattle.cmd_gate.specs.Between.{IsSetUp, PassesTo, options_of, passed_of};
-ghost use Rattle.cmd_gate.specs.Run.{PassesOn};
+ghost use Rattle.cmd_gate.specs.Run.{RelaysOverLinks};
 
 use drm_gate::{Gate, GateEnded, GateOptions, Tally, gate_one};
 use drm_links::{Address, Addresses, Dock, Link, LinkFault, Opened};
@@ -23,7 +23,7 @@ pub(crate) fn pass_between<D: Dock>(
     dock: &mut D,
 ) -> Result<Tally, LinkFault>
     requires { IsSetUp gate.old rules.now to.now (vec_len room) (vec_capacity room) (length buffer.old) }
-    ensures told { KnownThrough (D.known dock.old) (D.known dock.new) (PassesOn rules.now gate.old.carry from to.now result) }
+    ensures passes_on { KnownThrough (D.known dock.old) (D.known dock.new) (RelaysOverLinks rules.now gate.old.carry from to.now result) }
     ensures cause { OpeningFailed (D.known dock.old) (D.known dock.new) (IsErr result) }
 {
     match dock.bind(from) {
@@ -47,7 +47,7 @@ fn pass_to<L: Link, D: Dock>(
     dock: &mut D,
 ) -> Result<Tally, LinkFault>
     requires { IsSetUp gate.old rules.now to.now (vec_len room) (vec_capacity room) (length buffer.old) }
-    ensures told { KnownThrough (D.known dock.old) (D.known dock.new)
+    ensures passes_on { KnownThrough (D.known dock.old) (D.known dock.new)
         (PassesTo rules.now gate.old.carry to.now (L.known source.old) (L.known source.new) result) }
     ensures cause { OpeningFailed (D.known dock.old) (D.known dock.new) (IsErr result) }
 {

@@ -4,9 +4,9 @@ use Rattle.drm_schedule.specs.declared.plan.Plan.{Plan}
 use Rattle.plan_script.specs.declared.delivery.Delivery.{Delivery}
 use Rattle.plan_script.specs.declared.fault.ScriptFault.{ScriptFault}
 use Rattle.plan_script.specs.declared.fault.ScriptFault.TheVariants as script
-use Rattle.plan_script.specs.Script.{Fault, script_of_text}
+use Rattle.plan_script.specs.Script.{ScriptTextFault, script_of_text}
 use Rattle.plan_script.specs.Steps.{ReadsScript}
-use Rattle.drm_links.specs.Told.{Known}
+use Rattle.drm_links.specs.Known.{Known}
 use Rattle.drm_links.specs.Shelf.{Files}
 use Rattle.cmd_load.specs.declared.loading.ScheduleFault.{ScheduleFault}
 use Rattle.cmd_load.specs.declared.loading.ScheduleFault.TheVariants.{NoMemory, Line, Read}
@@ -22,7 +22,7 @@ abbrev pub lifted : {T : Type 0} → Result T ScriptFault → Result T ScheduleF
 lifted (Ok x) = Ok x
 lifted (Err fault) = Err (text_fault_of fault)
 
-by_reading : (came : Result (List (List Delivery)) ScriptFault) (said : Result (List (List Delivery)) Fault) → ReadsScript came said → GivesUnlessMemory (lifted came) (by_script said)
+by_reading : (outcome : Result (List (List Delivery)) ScriptFault) (said : Result (List (List Delivery)) ScriptTextFault) → ReadsScript outcome said → GivesUnlessMemory (lifted outcome) (by_script said)
 by_reading (Ok feeds) said reads = inr (ap by_script (sym reads))
 by_reading (Err script.NoMemory) said reads = inl refl
 by_reading (Err (script.Line line reason)) said reads = inr (ap by_script (sym reads))
@@ -30,11 +30,11 @@ by_reading (Err (script.Line line reason)) said reads = inr (ap by_script (sym r
 pub script_only : (plan : Plan) (name : List ℕ) → LoadsOnly (script_named plan name)
 script_only plan name = then_only (load_for 0 name longest_text) (λ t. given (script_in plan t)) (load_only 0 name longest_text) (λ t. given_only (script_in plan t))
 
-pub script_comes : (came : Result (List (List Delivery)) ScriptFault) (plan : Plan) (name text : List ℕ) (a b : Known Files) → ReadBy (load_for 0 name longest_text) (Ok text) a b
-    → ReadsScript came (script_of_text plan text) → ReadBy (script_named plan name) (lifted came) a b
-script_comes came plan name text a b loaded reads =
-    ReadBy-then (load_for 0 name longest_text) (λ t. given (script_in plan t)) text (lifted came) a b b (load_only 0 name longest_text) loaded
-    (ReadBy-gives (lifted came) (script_in plan text) b (by_reading came (script_of_text plan text) reads))
+pub script_comes : (outcome : Result (List (List Delivery)) ScriptFault) (plan : Plan) (name text : List ℕ) (a b : Known Files) → ReadBy (load_for 0 name longest_text) (Ok text) a b
+    → ReadsScript outcome (script_of_text plan text) → ReadBy (script_named plan name) (lifted outcome) a b
+script_comes outcome plan name text a b loaded reads =
+    ReadBy-then (load_for 0 name longest_text) (λ t. given (script_in plan t)) text (lifted outcome) a b b (load_only 0 name longest_text) loaded
+    (ReadBy-gives (lifted outcome) (script_in plan text) b (by_reading outcome (script_of_text plan text) reads))
 
 -- ---- which faults are those of a load
 

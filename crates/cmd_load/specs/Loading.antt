@@ -1,7 +1,7 @@
 -- What is read from a shelf, load by load.
 use Rattle.std.specs.Prelude.{ℕ, ◌≡◌, ◌+◌, ◌≤◌, ◌⊎◌, List, [], ◌∷◌, ◌++◌, length, Result, Ok, Err}
 use Rattle.drm_schedule.specs.declared.invalid.Reason.TheVariants as reasons
-use Rattle.drm_links.specs.Told.{Known}
+use Rattle.drm_links.specs.Known.{Known}
 use Rattle.drm_links.specs.declared.shelf.Loaded.{Loaded}
 use Rattle.drm_links.specs.declared.shelf.Loaded.TheVariants as loads
 use Rattle.drm_links.specs.Shelf.{Files, ShelfSupplies, load_of, after_loads}
@@ -9,26 +9,26 @@ use Rattle.cmd_load.specs.declared.loading.ScheduleFault.{ScheduleFault}
 use Rattle.cmd_load.specs.declared.loading.ScheduleFault.TheVariants.{NoMemory, Line, Read}
 
 -- what came of the loads, and what the shelf tells after them
-pub record Step (T : Type 0) : Type 0 where
-  pub came : Result T ScheduleFault
-  pub told : Files
+pub record ShelfStep (T : Type 0) : Type 0 where
+  pub outcome : Result T ScheduleFault
+  pub contents : Files
 
 -- what comes from a shelf that tells this
-abbrev pub Reading : Type 0 → Type 0
-Reading T = Files → Step T
+abbrev pub ShelfReading : Type 0 → Type 0
+ShelfReading T = Files → ShelfStep T
 
 -- without a load
-abbrev pub given : {T : Type 0} → Result T ScheduleFault → Reading T
-given came told = record { came = came; told = told }
+abbrev pub given : {T : Type 0} → Result T ScheduleFault → ShelfReading T
+given outcome contents = record { outcome = outcome; contents = contents }
 
-abbrev pub after : {A B : Type 0} → Result A ScheduleFault → (A → Reading B) → Reading B
-after (Ok x) next told = next x told
-after (Err fault) next told = record { came = Err fault; told = told }
+abbrev pub after : {A B : Type 0} → Result A ScheduleFault → (A → ShelfReading B) → ShelfReading B
+after (Ok x) next contents = next x contents
+after (Err fault) next contents = record { outcome = Err fault; contents = contents }
 
 -- one reading after another, up to a fault
 infixl 10 ◌>>=◌
-abbrev pub ◌>>=◌ : {A B : Type 0} → Reading A → (A → Reading B) → Reading B
-(reading >>= next) told = after (reading told).came next (reading told).told
+abbrev pub ◌>>=◌ : {A B : Type 0} → ShelfReading A → (A → ShelfReading B) → ShelfReading B
+(reading >>= next) contents = after (reading contents).outcome next (reading contents).contents
 
 -- the bytes of a load, or the fault that it is in this line
 abbrev pub bytes_or_fault : ℕ → Loaded → Result (List ℕ) ScheduleFault
@@ -38,8 +38,8 @@ bytes_or_fault line loads.Failed = Err Read
 bytes_or_fault line loads.NoMemory = Err NoMemory
 
 -- one load, which this line asks for
-abbrev pub load_for : ℕ → List ℕ → ℕ → Reading (List ℕ)
-load_for line name limit told = record { came = bytes_or_fault line (load_of told name limit); told = after_loads (name ∷ []) told }
+abbrev pub load_for : ℕ → List ℕ → ℕ → ShelfReading (List ℕ)
+load_for line name limit contents = record { outcome = bytes_or_fault line (load_of contents name limit); contents = after_loads (name ∷ []) contents }
 
 -- Files of these names were loaded, the first of those that are loaded up to `last`, and behind them at most one for which memory
 -- ran out. The shelf tells nothing else anew.
@@ -47,16 +47,16 @@ pub record MadeSome (last before after : Files) : Type 0 where
   pub names : List (List ℕ)
   pub lost : ℕ
   pub one : lost ≤ 1
-  pub told : after ≡ record before { loads = before.loads + length names + lost; names = before.names ++ names }
+  pub contents : after ≡ record before { loads = before.loads + length names + lost; names = before.names ++ names }
   pub few : after.loads ≤ last.loads
   pub later : List (List ℕ)
   pub first : last.names ≡ after.names ++ later
 
 -- Where a shelf tells, this came of it by this reading, or memory ran out; then no more loads were made than the reading makes.
-abbrev pub ReadBy : {T : Type 0} → Reading T → Result T ScheduleFault → Known Files → Known Files → Type 0
-ReadBy reading came before after =
-    ShelfSupplies before after (λ x y. (reading x ≡ record { came = came; told = y }) ⊎ ((came ≡ Err NoMemory) × MadeSome (reading x).told x y))
+abbrev pub ReadBy : {T : Type 0} → ShelfReading T → Result T ScheduleFault → Known Files → Known Files → Type 0
+ReadBy reading outcome before after =
+    ShelfSupplies before after (λ x y. (reading x ≡ record { outcome = outcome; contents = y }) ⊎ ((outcome ≡ Err NoMemory) × MadeSome (reading x).contents x y))
 
 -- it is this, unless memory ran out
 abbrev pub GivesUnlessMemory : {T : Type 0} → Result T ScheduleFault → Result T ScheduleFault → Type 0
-GivesUnlessMemory came is = (came ≡ Err NoMemory) ⊎ (came ≡ is)
+GivesUnlessMemory outcome is = (outcome ≡ Err NoMemory) ⊎ (outcome ≡ is)

@@ -1,7 +1,7 @@
 //! Files of a schedule, from a shelf.
 
 ghost use Rattle.std.specs.Prelude.{◌≡◌, ◌≤◌, IfOk, length};
-ghost use Rattle.drm_links.specs.Told.{HasCause};
+ghost use Rattle.drm_links.specs.Known.{HasCause};
 ghost use Rattle.cmd_load.specs.Loading.{load_for, ReadBy};
 
 use cmd_faults::Fault;

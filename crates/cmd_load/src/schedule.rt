@@ -1,7 +1,7 @@
 //! The schedule of a text on a shelf.
 
 ghost use Rattle.std.specs.Prelude.{◌≡◌, length};
-ghost use Rattle.drm_links.specs.Told.{HasCause};
+ghost use Rattle.drm_links.specs.Known.{HasCause};
 ghost use Rattle.cmd_load.specs.Loading.{ReadBy, GivesUnlessMemory};
 ghost use Rattle.cmd_load.specs.Schedule.{by_lines, with_files, by_validity, schedule_named};
 ghost use Rattle.drm_plan.specs.Draft.{valid_of};

@@ -1,7 +1,7 @@
 //! The script of a text on a shelf.
 
 ghost use Rattle.std.specs.Prelude.{◌≡◌, Err, IfOk};
-ghost use Rattle.drm_links.specs.Told.{HasCause};
+ghost use Rattle.drm_links.specs.Known.{HasCause};
 ghost use Rattle.plan_script.specs.Script.{IsScript};
 ghost use Rattle.cmd_load.specs.Loading.{ReadBy};
 ghost use Rattle.cmd_load.specs.Scripts.{script_named};

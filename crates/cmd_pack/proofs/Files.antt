@@ -6,7 +6,7 @@ use Rattle.std.proofs.lemmas.List.{take_at, drop_at}
 use Rattle.cmd_faults.specs.declared.units.UnitsReason.{UnitsReason}
 use Rattle.cmd_faults.specs.declared.units.UnitsReason.TheVariants.{Empty, TooLong, Cut}
 use Rattle.cmd_faults.specs.declared.units.UnitsFault.{UnitsFault}
-use Rattle.cmd_pack.specs.Units.{BeginsWith, AreUnits, said_length, IsWrong, IsWrongAt, ComesTo}
+use Rattle.cmd_pack.specs.Units.{BeginsWith, AreUnits, said_length, IsWrongUnit, IsWrongAt, UnitsComeTo}
 
 -- one unit more
 pub units_more : (units : List (List ℕ)) (unit rest more bytes : List ℕ) → AreUnits units rest bytes → BeginsWith unit more rest → AreUnits (units ++ unit ∷ []) more bytes
@@ -32,18 +32,18 @@ one_begin unit other rest more bytes b c =
 begin_said : (unit rest bytes : List ℕ) → BeginsWith unit rest bytes → said_length bytes ≡ length unit
 begin_said unit rest bytes b = ap (from_be_bytes w32) (ap (take 4) b.all ∙ take_at b.head (unit ++ rest) 4 b.four) ∙ b.says
 
-pub wrong_begin : (reason : UnitsReason) (unit rest bytes : List ℕ) → IsWrong reason bytes → BeginsWith unit rest bytes → ⊥
+pub wrong_begin : (reason : UnitsReason) (unit rest bytes : List ℕ) → IsWrongUnit reason bytes → BeginsWith unit rest bytes → ⊥
 wrong_begin Empty unit rest bytes wrong b = let e = begin_said unit rest bytes b in omega (arith, wrong.1, e, b.is_unit.0)
 wrong_begin TooLong unit rest bytes wrong b = let e = begin_said unit rest bytes b in omega (arith, wrong.1, e, b.is_unit.1)
 wrong_begin Cut unit rest bytes (some, inl few) b = omega (arith, few, begin_size unit rest bytes b)
 wrong_begin Cut unit rest bytes (some, inr cut) b = omega (arith, cut.2, begin_size unit rest bytes b, begin_said unit rest bytes b)
 
-wrong_some : (reason : UnitsReason) (bytes : List ℕ) → IsWrong reason bytes → 1 ≤ length bytes
+wrong_some : (reason : UnitsReason) (bytes : List ℕ) → IsWrongUnit reason bytes → 1 ≤ length bytes
 wrong_some Empty bytes wrong = omega (arith, wrong.0)
 wrong_some TooLong bytes wrong = omega (arith, wrong.0)
 wrong_some Cut bytes wrong = wrong.0
 
-one_reason : (r s : UnitsReason) (bytes : List ℕ) → IsWrong r bytes → IsWrong s bytes → r ≡ s
+one_reason : (r s : UnitsReason) (bytes : List ℕ) → IsWrongUnit r bytes → IsWrongUnit s bytes → r ≡ s
 one_reason Empty Empty bytes a b = refl
 one_reason Empty TooLong bytes a b = absurd (omega (arith, a.1, b.1))
 one_reason Empty Cut bytes a (some, inl few) = absurd (omega (arith, a.0, few))
@@ -79,7 +79,7 @@ one_way (u ∷ units) (v ∷ others) rest more bytes (left, first, are) (left', 
 one_fault : (f g : UnitsFault) (bytes : List ℕ) → IsWrongAt f bytes → IsWrongAt g bytes → f ≡ g
 one_fault f g bytes a b =
     let (units, rest) = one_way a.units b.units a.rest b.rest bytes a.are b.are (λ u m. wrong_begin f.reason u m a.rest a.wrong) (λ u m. wrong_begin g.reason u m b.rest b.wrong) in
-    let reason : f.reason ≡ g.reason = one_reason f.reason g.reason a.rest a.wrong (subst (IsWrong g.reason) (sym rest) b.wrong) in
+    let reason : f.reason ≡ g.reason = one_reason f.reason g.reason a.rest a.wrong (subst (IsWrongUnit g.reason) (sym rest) b.wrong) in
     let at : f.at ≡ g.at = omega (arith, a.at, b.at, ap length rest) in
     ap₂ (λ n r. record { at = n; reason = r }) at reason
 
@@ -88,7 +88,7 @@ not_both units f bytes are b =
     let (same, rest) = one_way units b.units [] b.rest bytes are b.are none_begins (λ u m. wrong_begin f.reason u m b.rest b.wrong) in
     omega (arith, ap length rest, wrong_some f.reason b.rest b.wrong)
 
-pub one_coming : (bytes : List ℕ) (r s : Result (List (List ℕ)) UnitsFault) → ComesTo bytes r → ComesTo bytes s → r ≡ s
+pub one_coming : (bytes : List ℕ) (r s : Result (List (List ℕ)) UnitsFault) → UnitsComeTo bytes r → UnitsComeTo bytes s → r ≡ s
 one_coming bytes (Ok units) (Ok others) a b = ap Ok (one_way units others [] [] bytes a.1 b.1 none_begins none_begins).0
 one_coming bytes (Ok units) (Err f) a (inl much) = absurd (omega (arith, a.0, much.0))
 one_coming bytes (Ok units) (Err f) a (inr wrong) = absurd (not_both units f bytes a.1 wrong.1)

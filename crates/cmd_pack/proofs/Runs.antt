@@ -2,44 +2,44 @@
 use Rattle.std.proofs.Common.{◌≡◌, ℕ, ◌<◌, inl, inr, List, [], ◌++◌, length, refl, sym, ap, subst, ◌∙◌, arith, length-append}
 use Rattle.std.specs.Prelude.{◌↔◌, Result, Ok, Err}
 use Rattle.std.proofs.lemmas.List.{append-nil}
-use Rattle.drm_links.specs.Told.{Known, HasCause}
-use Rattle.drm_links.specs.Source.{Input, Inputs}
-use Rattle.drm_links.specs.Sink.{Output, Outputs}
-use Rattle.drm_links.proofs.ToldLemmas.{Inputs-nothing, Inputs-weaker, Inputs-both}
+use Rattle.drm_links.specs.Known.{Known, HasCause}
+use Rattle.drm_links.specs.Source.{Input, InputsBytes}
+use Rattle.drm_links.specs.Sink.{Output, OutputsText}
+use Rattle.drm_links.proofs.KnownLemmas.{InputsBytes-nothing, InputsBytes-weaker, InputsBytes-both}
 use Rattle.cmd_faults.specs.Fault.{UnlessMemory}
 use Rattle.cmd_faults.specs.declared.units.UnitsFault.{UnitsFault}
 use Rattle.cmd_faults.specs.declared.fault.Fault.{Fault}
 use Rattle.cmd_faults.specs.declared.fault.Fault.TheVariants as faults
-use Rattle.cmd_pack.specs.Units.{ComesTo}
+use Rattle.cmd_pack.specs.Units.{UnitsComeTo}
 use Rattle.cmd_pack.specs.Input.{ReadsFile}
 use Rattle.cmd_pack.specs.Packed.{ArePacked}
-use Rattle.cmd_pack.specs.Pack.{PackEnds, CanEnd, PackRun}
+use Rattle.cmd_pack.specs.Pack.{PackEnds, CanEndPacking, PackRun}
 use Rattle.cmd_pack.proofs.Files.{one_coming}
 
 -- ---- what was read, and what was left of the input
 
-all_read : (bytes : List ℕ) (before after : Known Input) → ReadsFile bytes before after → length bytes < 16777217 → Inputs before after (λ left rest. left ≡ bytes)
+all_read : (bytes : List ℕ) (before after : Known Input) → ReadsFile bytes before after → length bytes < 16777217 → InputsBytes before after (λ left rest. left ≡ bytes)
 all_read bytes before after reads short =
     let P : List ℕ → List ℕ → Type 0 = λ left rest. left ≡ bytes ++ rest in
     let Q : List ℕ → List ℕ → Type 0 = λ left rest. rest ≡ [] in
-    let both : Inputs before after (λ left rest. P left rest × Q left rest) = Inputs-both P Q before after reads.front (reads.all short) in
-    Inputs-weaker (λ left rest. P left rest × Q left rest) (λ left rest. left ≡ bytes) before after both (λ left rest (is, none). is ∙ (ap (λ l. bytes ++ l) none ∙ append-nil bytes))
+    let both : InputsBytes before after (λ left rest. P left rest × Q left rest) = InputsBytes-both P Q before after reads.front (reads.all short) in
+    InputsBytes-weaker (λ left rest. P left rest × Q left rest) (λ left rest. left ≡ bytes) before after both (λ left rest (is, none). is ∙ (ap (λ l. bytes ++ l) none ∙ append-nil bytes))
 
-pub comes_left : (bytes : List ℕ) (came : Result (List (List ℕ)) UnitsFault) (before after : Known Input) → ReadsFile bytes before after → ComesTo bytes came → Inputs before after (λ left _. ComesTo left came)
+pub comes_left : (bytes : List ℕ) (outcome : Result (List (List ℕ)) UnitsFault) (before after : Known Input) → ReadsFile bytes before after → UnitsComeTo bytes outcome → InputsBytes before after (λ left _. UnitsComeTo left outcome)
 comes_left bytes (Ok units) before after reads comes =
-    Inputs-weaker (λ left rest. left ≡ bytes) (λ left _. ComesTo left (Ok units)) before after (all_read bytes before after reads (omega (arith, comes.0)))
-    (λ left rest is. subst (λ l. ComesTo l (Ok units)) (sym is) comes)
+    InputsBytes-weaker (λ left rest. left ≡ bytes) (λ left _. UnitsComeTo left (Ok units)) before after (all_read bytes before after reads (omega (arith, comes.0)))
+    (λ left rest is. subst (λ l. UnitsComeTo l (Ok units)) (sym is) comes)
 comes_left bytes (Err fault) before after reads (inl much) =
-    Inputs-weaker (λ left rest. left ≡ bytes ++ rest) (λ left _. ComesTo left (Err fault)) before after reads.front
+    InputsBytes-weaker (λ left rest. left ≡ bytes ++ rest) (λ left _. UnitsComeTo left (Err fault)) before after reads.front
     (λ left rest is. inl (omega (arith, much.0, ap length is, length-append bytes rest), much.1))
 comes_left bytes (Err fault) before after reads (inr wrong) =
-    Inputs-weaker (λ left rest. left ≡ bytes) (λ left _. ComesTo left (Err fault)) before after (all_read bytes before after reads (omega (arith, wrong.0)))
-    (λ left rest is. subst (λ l. ComesTo l (Err fault)) (sym is) (inr wrong))
+    InputsBytes-weaker (λ left rest. left ≡ bytes) (λ left _. UnitsComeTo left (Err fault)) before after (all_read bytes before after reads (omega (arith, wrong.0)))
+    (λ left rest is. subst (λ l. UnitsComeTo l (Err fault)) (sym is) (inr wrong))
 
 -- ---- how it ends
 
 module _ {O : Type 0} (id d : ℕ) (before after : Known Input) (known : O → Known Output) (out out' : O) where
-  can_by : (fault : Fault) → PackEnds id d (Err fault) before after known out out' → CanEnd fault
+  can_by : (fault : Fault) → PackEnds id d (Err fault) before after known out out' → CanEndPacking fault
   can_by faults.NoMemory ends = tt
   can_by (faults.Units fault) ends = tt
   can_by faults.Read ends = tt
@@ -56,25 +56,25 @@ module _ {O : Type 0} (id d : ℕ) (before after : Known Input) (known : O → K
   can_by faults.Link ends = ends
 
   abbrev Refused : Result (Unit {0}) Fault → List ℕ → Type 0
-  Refused ending left = (fault : UnitsFault) → (ending ≡ Err (faults.Units fault)) ↔ ComesTo left (Err fault)
+  Refused ending left = (fault : UnitsFault) → (ending ≡ Err (faults.Units fault)) ↔ UnitsComeTo left (Err fault)
 
   abbrev Exact : Result (Unit {0}) Fault → List ℕ → List ℕ → Type 0
   Exact ending left rest = UnlessMemory ending (Refused ending left)
 
-  refused_by : (ending : Result (Unit {0}) Fault) (came : Result (List (List ℕ)) UnitsFault) (left : List ℕ) → ((fault : UnitsFault) → (ending ≡ Err (faults.Units fault)) ↔ (came ≡ Err fault)) → ComesTo left came → Refused ending left
-  refused_by ending came left same comes fault =
-      ((λ is. subst (ComesTo left) ((same fault).0 is) comes), (λ also. (same fault).1 (one_coming left came (Err fault) comes also)))
+  refused_by : (ending : Result (Unit {0}) Fault) (outcome : Result (List (List ℕ)) UnitsFault) (left : List ℕ) → ((fault : UnitsFault) → (ending ≡ Err (faults.Units fault)) ↔ (outcome ≡ Err fault)) → UnitsComeTo left outcome → Refused ending left
+  refused_by ending outcome left same comes fault =
+      ((λ is. subst (UnitsComeTo left) ((same fault).0 is) comes), (λ also. (same fault).1 (one_coming left outcome (Err fault) comes also)))
 
-  exact_by : (ending : Result (Unit {0}) Fault) (came : Result (List (List ℕ)) UnitsFault) (bytes : List ℕ) → ((fault : UnitsFault) → (ending ≡ Err (faults.Units fault)) ↔ (came ≡ Err fault))
-      → ReadsFile bytes before after → ComesTo bytes came → Inputs before after (Exact ending)
-  exact_by ending came bytes same reads comes =
-      Inputs-weaker (λ left _. ComesTo left came) (Exact ending) before after (comes_left bytes came before after reads comes) (λ left rest is. inr (refused_by ending came left same is))
+  exact_by : (ending : Result (Unit {0}) Fault) (outcome : Result (List (List ℕ)) UnitsFault) (bytes : List ℕ) → ((fault : UnitsFault) → (ending ≡ Err (faults.Units fault)) ↔ (outcome ≡ Err fault))
+      → ReadsFile bytes before after → UnitsComeTo bytes outcome → InputsBytes before after (Exact ending)
+  exact_by ending outcome bytes same reads comes =
+      InputsBytes-weaker (λ left _. UnitsComeTo left outcome) (Exact ending) before after (comes_left bytes outcome before after reads comes) (λ left rest is. inr (refused_by ending outcome left same is))
 
-  exact : (ending : Result (Unit {0}) Fault) → PackEnds id d ending before after known out out' → (ending ≡ Err faults.Read → ⊥) → Inputs before after (Exact ending)
+  exact : (ending : Result (Unit {0}) Fault) → PackEnds id d ending before after known out out' → (ending ≡ Err faults.Read → ⊥) → InputsBytes before after (Exact ending)
   exact (Ok done) (bytes, reads, units, comes, text) no_read = exact_by (Ok done) (Ok units) bytes (λ fault. ((λ e. absurd (cc)), (λ e. absurd (cc)))) reads comes
   exact (Err faults.Write) (bytes, reads, units, comes, text, are, front) no_read = exact_by (Err faults.Write) (Ok units) bytes (λ fault. ((λ e. absurd (cc)), (λ e. absurd (cc)))) reads comes
   exact (Err (faults.Units f)) (bytes, reads, comes, same) no_read = exact_by (Err (faults.Units f)) (Err f) bytes (λ fault. ((λ e. let is : f ≡ fault = cc in ap Err is), (λ e. let is : f ≡ fault = cc in ap (λ k. Err (faults.Units k)) is))) reads comes
-  exact (Err faults.NoMemory) (same, kept) no_read = subst (λ k. Inputs before k (Exact (Err faults.NoMemory))) (sym same) (Inputs-nothing (Exact (Err faults.NoMemory)) before (λ left. inl refl))
+  exact (Err faults.NoMemory) (same, kept) no_read = subst (λ k. InputsBytes before k (Exact (Err faults.NoMemory))) (sym same) (InputsBytes-nothing (Exact (Err faults.NoMemory)) before (λ left. inl refl))
   exact (Err faults.Read) ends no_read = absurd (no_read refl)
   exact (Err (faults.Capture fault)) ends no_read = absurd ends
   exact (Err faults.CaptureTooLong) ends no_read = absurd ends
@@ -89,19 +89,19 @@ module _ {O : Type 0} (id d : ℕ) (before after : Known Input) (known : O → K
 
   -- nothing is lost
   abbrev Done : Result (Unit {0}) Fault → List ℕ → List ℕ → Type 0
-  Done ending left rest = (units : List (List ℕ)) → ComesTo left (Ok units) → UnlessMemory ending ((ending ≡ Ok tt) × Outputs (known out) (known out') (ArePacked id d units))
+  Done ending left rest = (units : List (List ℕ)) → UnitsComeTo left (Ok units) → UnlessMemory ending ((ending ≡ Ok tt) × OutputsText (known out) (known out') (ArePacked id d units))
 
-  whole : (ending : Result (Unit {0}) Fault) → PackEnds id d ending before after known out out' → (ending ≡ Err faults.Read → ⊥) → (ending ≡ Err faults.Write → ⊥) → Inputs before after (Done ending)
+  whole : (ending : Result (Unit {0}) Fault) → PackEnds id d ending before after known out out' → (ending ≡ Err faults.Read → ⊥) → (ending ≡ Err faults.Write → ⊥) → InputsBytes before after (Done ending)
   whole (Ok done) (bytes, reads, units, comes, text) no_read no_write =
-      Inputs-weaker (λ left _. ComesTo left (Ok units)) (Done (Ok done)) before after (comes_left bytes (Ok units) before after reads comes)
+      InputsBytes-weaker (λ left _. UnitsComeTo left (Ok units)) (Done (Ok done)) before after (comes_left bytes (Ok units) before after reads comes)
       (λ left rest is others also.
       let same : Ok units ≡ Ok others = one_coming left (Ok units) (Ok others) is also in
       let units_are : units ≡ others = cc in
-      inr (refl, subst (λ us. Outputs (known out) (known out') (ArePacked id d us)) units_are text))
+      inr (refl, subst (λ us. OutputsText (known out) (known out') (ArePacked id d us)) units_are text))
   whole (Err (faults.Units f)) (bytes, reads, comes, same) no_read no_write =
-      Inputs-weaker (λ left _. ComesTo left (Err f)) (Done (Err (faults.Units f))) before after (comes_left bytes (Err f) before after reads comes)
+      InputsBytes-weaker (λ left _. UnitsComeTo left (Err f)) (Done (Err (faults.Units f))) before after (comes_left bytes (Err f) before after reads comes)
       (λ left rest is others also. absurd (let clash : Err f ≡ Ok others = one_coming left (Err f) (Ok others) is also in cc))
-  whole (Err faults.NoMemory) (same, kept) no_read no_write = subst (λ k. Inputs before k (Done (Err faults.NoMemory))) (sym same) (Inputs-nothing (Done (Err faults.NoMemory)) before (λ left units comes. inl refl))
+  whole (Err faults.NoMemory) (same, kept) no_read no_write = subst (λ k. InputsBytes before k (Done (Err faults.NoMemory))) (sym same) (InputsBytes-nothing (Done (Err faults.NoMemory)) before (λ left units comes. inl refl))
   whole (Err faults.Read) ends no_read no_write = absurd (no_read refl)
   whole (Err faults.Write) ends no_read no_write = absurd (no_write refl)
   whole (Err (faults.Capture fault)) ends no_read no_write = absurd ends

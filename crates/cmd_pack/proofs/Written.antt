@@ -4,19 +4,19 @@ use Rattle.std.specs.Prelude.{Result, Ok, Err}
 use Rattle.std.proofs.Math.Nat.{div-add-mod', add-mul}
 use Rattle.std.proofs.lemmas.Nat.{div-mul-add}
 use Rattle.std.proofs.lemmas.List.{append-nil}
-use Rattle.drm_links.specs.Told.{Known}
-use Rattle.drm_links.specs.Sink.{Output, Outputs, WritesWhole}
-use Rattle.drm_links.proofs.ToldLemmas.{Outputs-nothing, Outputs-then, Outputs-weaker}
+use Rattle.drm_links.specs.Known.{Known}
+use Rattle.drm_links.specs.Sink.{Output, OutputsText, WritesWhole}
+use Rattle.drm_links.proofs.KnownLemmas.{OutputsText-nothing, OutputsText-then, OutputsText-weaker}
 use Rattle.drm_links.proofs.WritingLemmas.{Writes-broken, Writes-whole}
-use Rattle.drm_data.specs.Packet.{Packet}
+use Rattle.drm_data.specs.PacketFields.{PacketFields}
 use Rattle.drm_data.specs.Units.{unit_packet, packet_count, next_continuity, packets_from, unit_packets, packets_after, packets}
-use Rattle.drm_data.specs.Writing.{IsWritten, Packing, new_packer, after_packet}
+use Rattle.drm_data.specs.Writing.{IsWrittenPacket, Packing, new_packer, after_packet}
 use Rattle.law_data.proofs.Totals.{some_written}
 use Rattle.cmd_pack.specs.Units.{BeginsWith, AreUnits}
 use Rattle.cmd_pack.specs.Packed.{AreWritten, after_unit}
 use Rattle.cmd_pack.proofs.Files.{one_begin, begin_size}
 
-written_join : (d : ℕ) (ps qs : List Packet) (s t : List ℕ) → AreWritten d ps s → AreWritten d qs t → AreWritten d (ps ++ qs) (s ++ t)
+written_join : (d : ℕ) (ps qs : List PacketFields) (s t : List ℕ) → AreWritten d ps s → AreWritten d qs t → AreWritten d (ps ++ qs) (s ++ t)
 written_join d [] qs s t a b = subst (λ l. AreWritten d qs (l ++ t)) (sym a) b
 written_join d (p ∷ ps) qs s t (bytes, more, one, others, is) b =
     (bytes, more ++ t, one, written_join d ps qs more t others b, ap (λ l. l ++ t) is ∙ append_assoc bytes more t)
@@ -48,7 +48,7 @@ some_after id d continuity (unit ∷ units) small few =
 -- the first packets of a unit were written, and what is written of the others behind them is all of it
 pub record Wrote (start : Packing) (unit : List ℕ) (k : ℕ) (p : Packing) (a b : Known Output) : Type 0 where
   pub written : List ℕ
-  pub text : Outputs a b (λ t. t ≡ written)
+  pub text : OutputsText a b (λ t. t ≡ written)
   pub still : b.faults ≡ a.faults
   pub id : p.id ≡ start.id
   pub size : p.length ≡ start.length
@@ -60,7 +60,7 @@ pub record Wrote (start : Packing) (unit : List ℕ) (k : ℕ) (p : Packing) (a 
 pub wrote_none : (start : Packing) (unit : List ℕ) (a : Known Output) → start.continuity < 8 → Wrote start unit 0 start a a
 wrote_none start unit a few = record {
   written = [];
-  text = Outputs-nothing a (λ t. t ≡ []) refl;
+  text = OutputsText-nothing a (λ t. t ≡ []) refl;
   still = refl;
   id = refl;
   size = refl;
@@ -72,28 +72,28 @@ wrote_none start unit a few = record {
       subst (λ m. AreWritten start.length (packets_from start.id start.length start.continuity unit 0 m) more) none are);
 }
 
-step_by : (id d continuity : ℕ) (unit : List ℕ) (k n : ℕ) (bytes more : List ℕ) → k < n → IsWritten d (unit_packet id d continuity unit k) bytes
+step_by : (id d continuity : ℕ) (unit : List ℕ) (k n : ℕ) (bytes more : List ℕ) → k < n → IsWrittenPacket d (unit_packet id d continuity unit k) bytes
     → AreWritten d (packets_from id d (next_continuity continuity) unit (k + 1) (n - (k + 1))) more → AreWritten d (packets_from id d continuity unit k (n - k)) (bytes ++ more)
 step_by id d continuity unit k n bytes more below one others =
     let size : n - k ≡ suc (n - (k + 1)) = omega (arith, below) in
     subst (λ m. AreWritten d (packets_from id d continuity unit k m) (bytes ++ more)) (sym size) (bytes, more, one, others, refl)
 
 -- what is written of this packet and the others
-next_all : (start p : Packing) (unit : List ℕ) (k : ℕ) (a b : Known Output) (bytes more : List ℕ) → (i : Wrote start unit k p a b) → k < packet_count start.length (length unit) → IsWritten start.length (unit_packet p.id p.length p.continuity unit k) bytes
+next_all : (start p : Packing) (unit : List ℕ) (k : ℕ) (a b : Known Output) (bytes more : List ℕ) → (i : Wrote start unit k p a b) → k < packet_count start.length (length unit) → IsWrittenPacket start.length (unit_packet p.id p.length p.continuity unit k) bytes
     → AreWritten start.length (packets_from start.id start.length (next_continuity p.continuity) unit (k + 1) (packet_count start.length (length unit) - (k + 1))) more
     → AreWritten start.length (unit_packets start.id start.length start.continuity unit) (i.written ++ (bytes ++ more))
 next_all start p unit k a b bytes more i below one others =
-    let P : ℕ → Type 0 = λ n. IsWritten start.length (unit_packet n p.length p.continuity unit k) bytes in
-    let Q : ℕ → Type 0 = λ n. IsWritten start.length (unit_packet start.id n p.continuity unit k) bytes in
+    let P : ℕ → Type 0 = λ n. IsWrittenPacket start.length (unit_packet n p.length p.continuity unit k) bytes in
+    let Q : ℕ → Type 0 = λ n. IsWrittenPacket start.length (unit_packet start.id n p.continuity unit k) bytes in
     i.all (bytes ++ more) (step_by start.id start.length p.continuity unit k (packet_count start.length (length unit)) bytes more below (subst Q i.size (subst P i.id one)) others)
 
 pub wrote_one : (start p q : Packing) (unit : List ℕ) (k : ℕ) (a b c : Known Output) (bytes : List ℕ) → Wrote start unit k p a b → k < packet_count start.length (length unit)
-    → IsWritten start.length (unit_packet p.id p.length p.continuity unit k) bytes → q ≡ after_packet p → Outputs b c (λ t. t ≡ bytes) → c.faults ≡ b.faults → Wrote start unit (k + 1) q a c
+    → IsWrittenPacket start.length (unit_packet p.id p.length p.continuity unit k) bytes → q ≡ after_packet p → OutputsText b c (λ t. t ≡ bytes) → c.faults ≡ b.faults → Wrote start unit (k + 1) q a c
 wrote_one start p q unit k a b c bytes i below one after text still =
     let next : q.continuity ≡ next_continuity p.continuity = ap (λ (x : Packing). x.continuity) after in
     record {
       written = i.written ++ bytes;
-      text = Outputs-then (λ t. t ≡ i.written) (λ t. t ≡ bytes) (λ t. t ≡ i.written ++ bytes) a b c i.text text (λ x y u v. ap (λ l. l ++ y) u ∙ ap (λ l. i.written ++ l) v);
+      text = OutputsText-then (λ t. t ≡ i.written) (λ t. t ≡ bytes) (λ t. t ≡ i.written ++ bytes) a b c i.text text (λ x y u v. ap (λ l. l ++ y) u ∙ ap (λ l. i.written ++ l) v);
       still = still ∙ i.still;
       id = ap (λ (x : Packing). x.id) after ∙ i.id;
       size = ap (λ (x : Packing). x.length) after ∙ i.size;
@@ -110,7 +110,7 @@ abbrev pub WritesUnit : {E : Type 0} → Result (Unit {0}) E → ℕ → ℕ →
 WritesUnit result id d continuity unit a b = (text : List ℕ) × AreWritten d (unit_packets id d continuity unit) text × WritesWhole result a b text
 
 pub wrote_broken : {E F : Type 0} (start p : Packing) (unit : List ℕ) (k : ℕ) (a b c : Known Output) (bytes : List ℕ) (r : Result (Unit {0}) E) (other : E) (fault : F) → start.id < 4
-    → Wrote start unit k p a b → k < packet_count start.length (length unit) → IsWritten start.length (unit_packet p.id p.length p.continuity unit k) bytes → r ≡ Err other → WritesWhole r b c bytes
+    → Wrote start unit k p a b → k < packet_count start.length (length unit) → IsWrittenPacket start.length (unit_packet p.id p.length p.continuity unit k) bytes → r ≡ Err other → WritesWhole r b c bytes
     → (let broken : Result (Unit {0}) F = Err fault in WritesUnit broken start.id start.length start.continuity unit a c)
 wrote_broken start p unit k a b c bytes r other fault small i below one is writes =
     let n : ℕ = packet_count start.length (length unit) in
@@ -118,7 +118,7 @@ wrote_broken start p unit k a b c bytes r other fault small i below one is write
       i.written ++ (bytes ++ more),
       next_all start p unit k a b bytes more i below one others,
       Writes-broken (i.written ++ (bytes ++ more)) bytes more a b c r other fault
-          (Outputs-weaker (λ t. t ≡ i.written) (λ t. t ++ (bytes ++ more) ≡ i.written ++ (bytes ++ more)) a b i.text (λ t e. ap (λ l. l ++ (bytes ++ more)) e)) i.still is writes,
+          (OutputsText-weaker (λ t. t ≡ i.written) (λ t. t ++ (bytes ++ more) ≡ i.written ++ (bytes ++ more)) a b i.text (λ t e. ap (λ l. l ++ (bytes ++ more)) e)) i.still is writes,
     )
 
 pub wrote_all : {E : Type 0} (start p : Packing) (unit : List ℕ) (k : ℕ) (a b : Known Output) → Wrote start unit k p a b → packet_count start.length (length unit) ≤ k
@@ -141,7 +141,7 @@ pub record Packs (id d : ℕ) (bytes rest : List ℕ) (p : Packing) (a b : Known
   pub few : p.continuity < 8
   pub still : b.faults ≡ a.faults
   pub all : (units : List (List ℕ)) → AreUnits units [] bytes
-      → (left : List (List ℕ)) × (written : List ℕ) × AreUnits left [] rest × Outputs a b (λ t. t ≡ written)
+      → (left : List (List ℕ)) × (written : List ℕ) × AreUnits left [] rest × OutputsText a b (λ t. t ≡ written)
       × ((more : List ℕ) → AreWritten d (packets_after id d p.continuity left) more → AreWritten d (packets id d units) (written ++ more))
 
 pub packs_none : (id d : ℕ) (bytes : List ℕ) (p : Packing) (a : Known Output) → p ≡ new_packer id d → Packs id d bytes bytes p a a
@@ -152,7 +152,7 @@ packs_none id d bytes p a new =
       size = ap (λ (x : Packing). x.length) new;
       few = omega (arith, none);
       still = refl;
-      all = λ units are. (units, [], are, Outputs-nothing a (λ t. t ≡ []) refl, λ more written. subst (λ n. AreWritten d (packets_after id d n units) more) none written);
+      all = λ units are. (units, [], are, OutputsText-nothing a (λ t. t ≡ []) refl, λ more written. subst (λ n. AreWritten d (packets_after id d n units) more) none written);
     }
 
 -- the first unit of the rest
@@ -168,7 +168,7 @@ next_unit (u ∷ left) unit behind rest (more, first, are) begins =
     record { others = left; is = ap (λ l. l ∷ left) same; are = subst (AreUnits left []) same_rest are }
 
 pub packs_one : (id d : ℕ) (bytes rest unit behind : List ℕ) (p q : Packing) (a b c : Known Output) (text : List ℕ)
-    → Packs id d bytes rest p a b → BeginsWith unit behind rest → AreWritten d (unit_packets p.id d p.continuity unit) text → Outputs b c (λ t. t ≡ text) → c.faults ≡ b.faults → q ≡ after_unit p unit
+    → Packs id d bytes rest p a b → BeginsWith unit behind rest → AreWritten d (unit_packets p.id d p.continuity unit) text → OutputsText b c (λ t. t ≡ text) → c.faults ≡ b.faults → q ≡ after_unit p unit
     → Packs id d bytes behind q a c
 packs_one id d bytes rest unit behind p q a b c text i begins one out still after =
     let count : ℕ = packet_count d (length unit) in
@@ -180,12 +180,12 @@ packs_one id d bytes rest unit behind p q a b c text i begins one out still afte
       few = omega (arith, continuity);
       still = still ∙ i.still;
       all = λ units are.
-          let (left, written, are_left, came, all) = i.all units are in
+          let (left, written, are_left, outcome, all) = i.all units are in
           let next = next_unit left unit behind rest are_left begins in (
             next.others,
             written ++ text,
             next.are,
-            Outputs-then (λ t. t ≡ written) (λ t. t ≡ text) (λ t. t ≡ written ++ text) a b c came out (λ x y u v. ap (λ l. l ++ y) u ∙ ap (λ l. written ++ l) v),
+            OutputsText-then (λ t. t ≡ written) (λ t. t ≡ text) (λ t. t ≡ written ++ text) a b c outcome out (λ x y u v. ap (λ l. l ++ y) u ∙ ap (λ l. written ++ l) v),
             λ more others.
                 let moved : AreWritten d (packets_after id d ((p.continuity + count) % 8) next.others) more = subst (λ n. AreWritten d (packets_after id d n next.others) more) continuity others in
                 let whole : AreWritten d (packets_after id d p.continuity (unit ∷ next.others)) (text ++ more) =
@@ -205,7 +205,7 @@ pub packs_broken : {E F : Type 0} (id d : ℕ) (bytes rest unit behind : List �
 packs_broken id d bytes rest unit behind p a b c text r other fault small i begins one is writes units are =
     let count : ℕ = packet_count d (length unit) in
     let mine : AreWritten d (unit_packets id d p.continuity unit) text = subst (λ n. AreWritten d (unit_packets n d p.continuity unit) text) i.id_is one in
-    let (left, written, are_left, came, all) = i.all units are in
+    let (left, written, are_left, outcome, all) = i.all units are in
     let next = next_unit left unit behind rest are_left begins in
     let (more, others) = some_after id d ((p.continuity + count) % 8) next.others small (omega arith) in
     let whole : AreWritten d (packets_after id d p.continuity (unit ∷ next.others)) (text ++ more) =
@@ -213,20 +213,20 @@ packs_broken id d bytes rest unit behind p a b c text r other fault small i begi
       written ++ (text ++ more),
       all (text ++ more) (subst (λ l. AreWritten d (packets_after id d p.continuity l) (text ++ more)) (sym next.is) whole),
       Writes-broken (written ++ (text ++ more)) text more a b c r other fault
-          (Outputs-weaker (λ t. t ≡ written) (λ t. t ++ (text ++ more) ≡ written ++ (text ++ more)) a b came (λ t e. ap (λ l. l ++ (text ++ more)) e)) i.still is writes,
+          (OutputsText-weaker (λ t. t ≡ written) (λ t. t ++ (text ++ more) ≡ written ++ (text ++ more)) a b outcome (λ t e. ap (λ l. l ++ (text ++ more)) e)) i.still is writes,
     )
 
 -- no unit begins the rest
 pub packs_all : {E : Type 0} (id d : ℕ) (bytes rest : List ℕ) (p : Packing) (a b : Known Output) → Packs id d bytes rest p a b → ((unit behind : List ℕ) → BeginsWith unit behind rest → ⊥)
     → (let done : Result (Unit {0}) E = Ok tt in WritesPackets done id d bytes a b)
 packs_all {E} id d bytes rest p a b i stuck units are =
-    let (left, written, are_left, came, all) = i.all units are in by left written are_left came all
+    let (left, written, are_left, outcome, all) = i.all units are in by left written are_left outcome all
   where
-    by : (left : List (List ℕ)) (written : List ℕ) → AreUnits left [] rest → Outputs a b (λ t. t ≡ written)
+    by : (left : List (List ℕ)) (written : List ℕ) → AreUnits left [] rest → OutputsText a b (λ t. t ≡ written)
         → ((more : List ℕ) → AreWritten d (packets_after id d p.continuity left) more → AreWritten d (packets id d units) (written ++ more))
         → (text : List ℕ) × AreWritten d (packets id d units) text × (let done : Result (Unit {0}) E = Ok tt in WritesWhole done a b text)
-    by [] written are_left came all = (written, subst (λ l. AreWritten d (packets id d units) l) (append-nil written) (all [] refl), Writes-whole written a b came i.still)
-    by (u ∷ left) written (more, first, others) came all = absurd (stuck u more first)
+    by [] written are_left outcome all = (written, subst (λ l. AreWritten d (packets id d units) l) (append-nil written) (all [] refl), Writes-whole written a b outcome i.still)
+    by (u ∷ left) written (more, first, others) outcome all = absurd (stuck u more first)
 
 -- a number of packets, as it is computed
 ceil_by : (d q r : ℕ) → 1 ≤ d → r < d → q + min 1 r ≡ (q * d + r + (d - 1)) / d

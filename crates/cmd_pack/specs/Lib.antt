@@ -1,5 +1,5 @@
 pub mod Units
-pub mod Front
+pub mod UnitFront
 pub mod Input
 pub mod Packed
 pub mod Pack

@@ -1,13 +1,13 @@
 -- Units as the bytes of their packets.
 use Rattle.std.specs.Prelude.{ℕ, ◌≡◌, ◌+◌, ◌%◌, List, [], ◌∷◌, ◌++◌, length}
-use Rattle.drm_data.specs.Packet.{Packet}
+use Rattle.drm_data.specs.PacketFields.{PacketFields}
 use Rattle.drm_data.specs.Units.{packets, packet_count}
-use Rattle.drm_data.specs.Writing.{IsWritten, Packing}
+use Rattle.drm_data.specs.Writing.{IsWrittenPacket, Packing}
 
 -- the bytes of packets one after another
-abbrev pub AreWritten : ℕ → List Packet → List ℕ → Type 0
+abbrev pub AreWritten : ℕ → List PacketFields → List ℕ → Type 0
 AreWritten d [] text = text ≡ []
-AreWritten d (p ∷ ps) text = (bytes : List ℕ) × (more : List ℕ) × IsWritten d p bytes × AreWritten d ps more × (text ≡ bytes ++ more)
+AreWritten d (p ∷ ps) text = (bytes : List ℕ) × (more : List ℕ) × IsWrittenPacket d p bytes × AreWritten d ps more × (text ≡ bytes ++ more)
 
 -- the bytes of the packets of units, under this packet id and data length
 abbrev pub ArePacked : ℕ → ℕ → List (List ℕ) → List ℕ → Type 0

@@ -29,10 +29,10 @@ abbrev pub said_length : List ℕ → ℕ
 said_length bytes = from_be_bytes w32 (take 4 bytes)
 
 -- What is wrong at the front of these bytes, which aren't all of a file's units.
-abbrev pub IsWrong : UnitsReason → List ℕ → Type 0
-IsWrong Empty bytes = (4 ≤ length bytes) × (said_length bytes ≡ 0)
-IsWrong TooLong bytes = (4 ≤ length bytes) × (most_unit < said_length bytes)
-IsWrong Cut bytes =
+abbrev pub IsWrongUnit : UnitsReason → List ℕ → Type 0
+IsWrongUnit Empty bytes = (4 ≤ length bytes) × (said_length bytes ≡ 0)
+IsWrongUnit TooLong bytes = (4 ≤ length bytes) × (most_unit < said_length bytes)
+IsWrongUnit Cut bytes =
     (1 ≤ length bytes)
     × ((length bytes < 4) ⊎ ((1 ≤ said_length bytes) × (said_length bytes ≤ most_unit) × (length bytes < 4 + said_length bytes)))
 
@@ -46,9 +46,9 @@ pub record IsWrongAt (fault : UnitsFault) (bytes : List ℕ) : Type 0 where
   pub rest : List ℕ
   pub are : AreUnits units rest bytes
   pub at : fault.at + length rest ≡ length bytes
-  pub wrong : IsWrong fault.reason rest
+  pub wrong : IsWrongUnit fault.reason rest
 
 -- What the bytes of a file come to: units, or the first fault.
-abbrev pub ComesTo : List ℕ → Result (List (List ℕ)) UnitsFault → Type 0
-ComesTo bytes (Ok units) = (length bytes ≤ most_bytes) × AreUnits units [] bytes
-ComesTo bytes (Err fault) = IsTooMuch fault bytes ⊎ ((length bytes ≤ most_bytes) × IsWrongAt fault bytes)
+abbrev pub UnitsComeTo : List ℕ → Result (List (List ℕ)) UnitsFault → Type 0
+UnitsComeTo bytes (Ok units) = (length bytes ≤ most_bytes) × AreUnits units [] bytes
+UnitsComeTo bytes (Err fault) = IsTooMuch fault bytes ⊎ ((length bytes ≤ most_bytes) × IsWrongAt fault bytes)

@@ -1,7 +1,7 @@
 //! The command `pack`.
 
 ghost use Rattle.std.specs.Prelude.{◌≡◌, ◌<◌, ◌≤◌, Err, IfOk, length};
-ghost use Rattle.drm_links.specs.Told.{HasCause};
+ghost use Rattle.drm_links.specs.Known.{HasCause};
 ghost use Rattle.cmd_pack.specs.Pack.{PackEnds, PackRun, JudgesInput};
 
 use crate::packing::write_packets;
@@ -45,16 +45,16 @@ fn pack_whole<I: Source, O: Sink>(
     ensures read { HasCause (I.known input.old) (I.known input.new) (result ≡ Err Fault.Read) }
     ensures write { HasCause (O.known out.old) (O.known out.new) (result ≡ Err Fault.Write) }
 {
-    let mut room = room_for(alloc, MOST_BYTES + 1)?;
-    let len = read_front(input, &mut room)?;
-    check(&room[..len])?;
-    write_packets(id, length, &room[..len], out)?;
+    let mut buffer = room_for(alloc, MOST_BYTES + 1)?;
+    let len = read_front(input, &mut buffer)?;
+    check(&buffer[..len])?;
+    write_packets(id, length, &buffer[..len], out)?;
     Ok(())
 }
 
 // Room for so many bytes.
 fn room_for(alloc: Global, len: usize) -> Result<Vec<u8>, NoMemory>
-    ensures { IfOk result (λ room. length room.items ≡ len) }
+    ensures { IfOk result (λ buffer. length buffer.items ≡ len) }
 {
     zeros(alloc, len)
 }

@@ -7,7 +7,7 @@ ghost use Rattle.law_data.specs.Losses.{IsUnit};
 ghost use Rattle.cmd_pack.specs.Units.{AreUnits};
 ghost use Rattle.cmd_pack.specs.Packed.{AreWritten, ArePacked, after_unit};
 
-use crate::units::{Front, front_of};
+use crate::units::{UnitFront, front_of};
 use drm_data::Packer;
 use drm_links::{Sink, WriteFault, write_all};
 
@@ -31,12 +31,12 @@ pub(crate) fn write_packets<O: Sink>(
     let mut rest = bytes;
     'units: loop {
         match front_of(rest) {
-            Front::Unit { unit, rest: behind } => {
+            UnitFront::Unit { unit, rest: behind } => {
                 write_unit(&mut packer, length, unit, out)?;
                 rest = behind;
             }
-            Front::End => return Ok(()),
-            Front::Wrong(_) => return Ok(()),
+            UnitFront::End => return Ok(()),
+            UnitFront::Wrong(_) => return Ok(()),
         }
     }
 }
@@ -58,11 +58,11 @@ fn write_unit<O: Sink>(
         × WritesWhole result (O.known out.old) (O.known out.new) text }
     ensures after { OnOk result (packer.new ≡ after_unit packer.old unit.now) }
 {
-    let mut room = [0; MOST_PACKET];
+    let mut buffer = [0; MOST_PACKET];
     let count = unit.len().div_ceil(usize::from(length));
     for k in 0..count {
-        let len = packer.unit_packet(unit, k, &mut room);
-        write_all(out, &room[..len])?;
+        let len = packer.unit_packet(unit, k, &mut buffer);
+        write_all(out, &buffer[..len])?;
     }
     Ok(())
 }

@@ -1,6 +1,6 @@
 //! Units as they stand in a file.
 
-ghost use Rattle.cmd_pack.specs.Front.{IsFrontOf, IsCutOf, FindsFault};
+ghost use Rattle.cmd_pack.specs.UnitFront.{IsFrontOf, IsCutOf, FindsFault};
 
 use cmd_faults::{Fault, UnitsFault, UnitsReason};
 
@@ -9,7 +9,7 @@ const MOST_UNIT: usize = 65_535;
 
 /// What stands at the front of bytes.
 #[derive(Drop)]
-pub(crate) enum Front<'a> {
+pub(crate) enum UnitFront<'a> {
     /// There are no bytes.
     End,
     /// A unit, and the bytes behind it.
@@ -17,31 +17,31 @@ pub(crate) enum Front<'a> {
     Wrong(UnitsReason),
 }
 
-pub(crate) fn front_of(bytes: &[u8]) -> Front<'_>
+pub(crate) fn front_of(bytes: &[u8]) -> UnitFront<'_>
     ensures { IsFrontOf bytes.now result }
 {
     if bytes.is_empty() {
-        return Front::End;
+        return UnitFront::End;
     }
     let Some((head, behind)) = bytes.split_first_chunk() else {
-        return Front::Wrong(UnitsReason::Cut);
+        return UnitFront::Wrong(UnitsReason::Cut);
     };
     cut(u32::from_be_bytes(*head) as usize, behind)
 }
 
 // A unit of so many bytes, cut from the bytes behind its length.
-fn cut(len: usize, behind: &[u8]) -> Front<'_>
+fn cut(len: usize, behind: &[u8]) -> UnitFront<'_>
     ensures { IsCutOf len behind.now result }
 {
     if len == 0 {
-        Front::Wrong(UnitsReason::Empty)
+        UnitFront::Wrong(UnitsReason::Empty)
     } else if len > MOST_UNIT {
-        Front::Wrong(UnitsReason::TooLong)
+        UnitFront::Wrong(UnitsReason::TooLong)
     } else if len > behind.len() {
-        Front::Wrong(UnitsReason::Cut)
+        UnitFront::Wrong(UnitsReason::Cut)
     } else {
         let (unit, rest) = behind.split_at(len);
-        Front::Unit { unit, rest }
+        UnitFront::Unit { unit, rest }
     }
 }
 
@@ -52,9 +52,9 @@ pub(crate) fn judge(bytes: &[u8]) -> Result<(), Fault>
     let mut rest = bytes;
     'units: loop {
         match front_of(rest) {
-            Front::End => return Ok(()),
-            Front::Unit { rest: behind, .. } => rest = behind,
-            Front::Wrong(reason) => {
+            UnitFront::End => return Ok(()),
+            UnitFront::Unit { rest: behind, .. } => rest = behind,
+            UnitFront::Wrong(reason) => {
                 let at = (bytes.len() - rest.len()) as u64;
                 return Err(Fault::Units(UnitsFault { at, reason }));
             }

@@ -1,17 +1,17 @@
 -- What is read of links is what stood ahead of those that a dock had at their addresses.
 use Rattle.std.proofs.Common.{◌≡◌, ℕ, ◌<◌, inl, inr, List, [], length, slice_index_or, Option, None, Some, IsNone, All, Err, sym, ◌∙◌, ap, subst, arith}
-use Rattle.drm_links.specs.Told.{Known}
+use Rattle.drm_links.specs.Known.{Known}
 use Rattle.drm_links.specs.Link.{Traffic}
 use Rattle.drm_links.specs.Dock.{DockContents, LinkStart, OpeningFinds, FindsNone}
 use Rattle.drm_links.specs.declared.dock.Address.{Address}
 use Rattle.drm_links.proofs.Places.{index_of}
 use Rattle.drm_paths.specs.State.{PathState, new_path}
 use Rattle.drm_paths.specs.Closing.{of_path, AreCounted, AllAgree}
-use Rattle.cli_paths.specs.declared.request.Request.{Request}
-use Rattle.cmd_paths.specs.declared.fault.Fault.TheVariants as faults
+use Rattle.cli_paths.specs.declared.request.PathsRequest.{PathsRequest}
+use Rattle.cmd_paths.specs.declared.fault.PathsFault.TheVariants as faults
 use Rattle.cmd_paths.specs.Ahead.{IsAllOf, BreaksOff}
 use Rattle.cmd_paths.specs.Opening.{HaveLinks}
-use Rattle.cmd_paths.specs.Run.{options_in, IsInRange, AreEntries, FailsSome, ReadAll, DiffersAt}
+use Rattle.cmd_paths.specs.Run.{options_in, IsPathsRequestInRange, AreEntries, FailsSome, ReadAll, DiffersAt}
 use Rattle.cmd_paths.specs.Links.{BreaksSome, EndsLinks}
 use Rattle.cmd_paths.specs.Links as Links
 use Rattle.cmd_paths.proofs.OneReading.{whole_is_whole}
@@ -22,17 +22,17 @@ some_is None start is none = cc
 some_is (Some x) start is none = cc
 
 -- where a link is found, it is found
-not_none : (told : DockContents) (k : ℕ) (at : Address) (start : LinkStart) → OpeningFinds told k at start → FindsNone told k at → ⊥
-not_none told k at start finds (inl fails) = finds.allowed fails
-not_none told k at start finds (inr none) = some_is _ start finds.stands none
+not_none : (contents : DockContents) (k : ℕ) (at : Address) (start : LinkStart) → OpeningFinds contents k at start → FindsNone contents k at → ⊥
+not_none contents k at start finds (inl fails) = finds.allowed fails
+not_none contents k at start finds (inr none) = some_is _ start finds.stands none
 
 one_start : (found : Option LinkStart) (start other : LinkStart) → found ≡ Some start → found ≡ Some other → other ≡ start
 one_start None start other is also = absurd (cc)
 one_start (Some x) start other is also = cc
 
-module _ {L : Type 0} (request : Request) (range : IsInRange request) (known : L → Known Traffic) (links : List L) (many : length links ≡ length request.addresses)
-    (told : DockContents) (have : HaveLinks known told request.addresses links) where
-  pub read_all : (paths : List PathState) → Links.ReadAll (options_in request) known links paths → ReadAll request told paths
+module _ {L : Type 0} (request : PathsRequest) (range : IsPathsRequestInRange request) (known : L → Known Traffic) (links : List L) (many : length links ≡ length request.addresses)
+    (contents : DockContents) (have : HaveLinks known contents request.addresses links) where
+  pub read_all : (paths : List PathState) → Links.ReadAll (options_in request) known links paths → ReadAll request contents paths
   read_all paths read = record {
     as_many = read.as_many ∙ many;
     numbers = λ k d within. read.numbers k d (omega (arith, within, many));
@@ -43,9 +43,9 @@ module _ {L : Type 0} (request : Request) (range : IsInRange request) (known : L
   }
 
   -- a journal that agrees with them has what they read
-  pub entries_ahead : (paths : List PathState) (entries : List (ℕ × List ℕ)) → Links.ReadAll (options_in request) known links paths → AreCounted entries paths → AllAgree entries paths → AreEntries request told entries
+  pub entries_ahead : (paths : List PathState) (entries : List (ℕ × List ℕ)) → Links.ReadAll (options_in request) known links paths → AreCounted entries paths → AllAgree entries paths → AreEntries request contents entries
   entries_ahead paths entries read counted agree =
-      let all : ReadAll request told paths = read_all paths read in
+      let all : ReadAll request contents paths = read_all paths read in
       let size : length paths ≡ length request.addresses = all.as_many in
       let d : PathState = new_path 0 in
       record {
@@ -57,7 +57,7 @@ module _ {L : Type 0} (request : Request) (range : IsInRange request) (known : L
         others = subst (λ n. All (λ e. e.0 < n) entries) size counted.numbered;
       }
 
-  pub fails_ahead : BreaksSome (options_in request) known links → FailsSome request told
+  pub fails_ahead : BreaksSome (options_in request) known links → FailsSome request contents
   fails_ahead breaks =
       let within : breaks.k < length request.addresses = (let w = breaks.within in omega (arith, w, many)) in
       record {
@@ -70,7 +70,7 @@ module _ {L : Type 0} (request : Request) (range : IsInRange request) (known : L
             inr (start, finds, (taken, read_ahead request range start (known (slice_index_or links breaks.k link)) new taken _ reads));
       }
 
-  pub none_fails : (paths : List PathState) → Links.ReadAll (options_in request) known links paths → FailsSome request told → ⊥
+  pub none_fails : (paths : List PathState) → Links.ReadAll (options_in request) known links paths → FailsSome request contents → ⊥
   none_fails paths read fails =
       let inside : fails.k < length links = (let w = fails.within in omega (arith, w, many)) in
       let (link, is) = index_of links fails.k inside in
@@ -80,12 +80,12 @@ module _ {L : Type 0} (request : Request) (range : IsInRange request) (known : L
       let taken = (slice_index_or paths fails.k d).taken in
       let all = whole_ahead request range start (known (slice_index_or links fails.k link)) new taken (read.each fails.k link d inside) in
       elim (fails.fails at) [
-        | inl none ↦ not_none told fails.k (slice_index_or request.addresses fails.k at) start finds none
+        | inl none ↦ not_none contents fails.k (slice_index_or request.addresses fails.k at) start finds none
         | inr found ↦
             let same : found.0 ≡ start = one_start _ start found.0 finds.stands found.1.stands in
             whole_is_whole (options_in request) start.ahead taken all (subst (λ (s : LinkStart). BreaksOff (options_in request) s.ahead) same found.2)
       ]
 
-  pub differ_ahead : (path at : ℕ) → EndsLinks request known links (Err (faults.Differs path at)) → DiffersAt request told path at
+  pub differ_ahead : (path at : ℕ) → EndsLinks request known links (Err (faults.Differs path at)) → DiffersAt request contents path at
   differ_ahead path at (difference, path_is, at_is, are) =
       record { paths = are.paths; read = read_all are.paths are.read; journal = are.journal; difference = difference; closes = are.closes; path_is = path_is; at_is = at_is }

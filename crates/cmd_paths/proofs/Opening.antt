@@ -1,7 +1,7 @@
 -- Links that are opened for paths, as what they are the links of.
 use Rattle.std.proofs.Common.{◌≡◌, ℕ, List, [], length, map, drop, ap, ◌∙◌, arith}
 use Rattle.std.proofs.lemmas.List.{length-drop, length-map}
-use Rattle.drm_links.specs.Told.{Known, KnownThrough}
+use Rattle.drm_links.specs.Known.{Known, KnownThrough}
 use Rattle.drm_links.specs.Link.{Traffic}
 use Rattle.drm_links.specs.Dock.{DockContents}
 use Rattle.drm_links.specs.declared.dock.Address.{Address}
@@ -13,10 +13,10 @@ abbrev pub itself : {L : Type 0} → L → L
 itself link = link
 
 -- no job is left, so the links of all were closed
-pub closed_over : {X L : Type 0} (link_of : X → L) (known : L → Known Traffic) (addresses : List Address) (jobs : List X) (k : ℕ) (a b : Known DockContents) → [] ≡ drop k jobs
-    → KnownThrough a b (Closing known (as_members itself (map link_of jobs)) addresses k) → KnownThrough a b (IsClosed known addresses (map link_of jobs))
-closed_over link_of known addresses jobs k a b none closing =
-    let size = ap length none ∙ length-drop k jobs in
-    let mapped = length-map jobs link_of in
-    let sized = members_many itself (map link_of jobs) in
-    closed_all known (as_members itself (map link_of jobs)) addresses k a b (omega (arith, size, mapped, sized)) closing
+pub closed_over : {X L : Type 0} (link_of : X → L) (known : L → Known Traffic) (addresses : List Address) (receivers : List X) (k : ℕ) (a b : Known DockContents) → [] ≡ drop k receivers
+    → KnownThrough a b (Closing known (as_members itself (map link_of receivers)) addresses k) → KnownThrough a b (IsClosed known addresses (map link_of receivers))
+closed_over link_of known addresses receivers k a b none closing =
+    let size = ap length none ∙ length-drop k receivers in
+    let mapped = length-map receivers link_of in
+    let sized = members_many itself (map link_of receivers) in
+    closed_all known (as_members itself (map link_of receivers)) addresses k a b (omega (arith, size, mapped, sized)) closing

@@ -1,26 +1,26 @@
 -- Runs by how they end.
 use Rattle.std.proofs.Common.{◌≡◌, ℕ, ◌⊎◌, ◌↔◌, inl, inr, Bool, List, length, slice_index_or, Result, Ok, Err, refl, sym, ◌∙◌, ap, subst, arith, le_trans}
-use Rattle.drm_links.specs.Told.{Known, HasFailed, HasCause, KnownThrough}
+use Rattle.drm_links.specs.Known.{Known, HasFailed, HasCause, KnownThrough}
 use Rattle.drm_links.specs.Link.{Answer, Traffic}
-use Rattle.drm_links.specs.Sink.{Output, Outputs, IsFront}
-use Rattle.drm_links.specs.Dock.{DockContents, Docked}
-use Rattle.drm_links.proofs.ToldLemmas.{counts_none, Tells-nothing, Tells-weaker}
+use Rattle.drm_links.specs.Sink.{Output, OutputsText, IsPrefix}
+use Rattle.drm_links.specs.Dock.{DockContents, DockKnownThrough}
+use Rattle.drm_links.proofs.KnownLemmas.{counts_none, Tells-nothing, Tells-weaker}
 use Rattle.cmd_faults.specs.Causes.{OpeningFailed}
 use Rattle.report_text.specs.Reports.{Report}
 use Rattle.link_group.proofs.OpeningLemmas.{docked_both, docked_weaker}
 use Rattle.link_group.specs.Binding.{HearsEach, BindsFew}
 use Rattle.link_group.proofs.BindLemmas.{docked_then, went_over, hears_each}
-use Rattle.cli_paths.specs.declared.request.Request.{Request}
+use Rattle.cli_paths.specs.declared.request.PathsRequest.{PathsRequest}
 use Rattle.report_journal.specs.Journal.{datagrams}
 use Rattle.report_journal.specs.Report.{IsReportOf}
 use Rattle.drm_paths.specs.declared.run.PathOptions.{PathOptions}
 use Rattle.drm_paths.specs.declared.run.PathEnded.{PathEnded}
 use Rattle.drm_paths.specs.declared.run.PathEnded.TheVariants as ended
 use Rattle.drm_paths.specs.Reading.{PathEnds}
-use Rattle.cmd_paths.specs.declared.fault.Fault.{Fault}
-use Rattle.cmd_paths.specs.declared.fault.Fault.TheVariants as faults
+use Rattle.cmd_paths.specs.declared.fault.PathsFault.{PathsFault}
+use Rattle.cmd_paths.specs.declared.fault.PathsFault.TheVariants as faults
 use Rattle.cmd_paths.specs.Opening.{HaveLinks, IsClosed}
-use Rattle.cmd_paths.specs.Run.{settings_in, options_in, IsInRange, AreEntries, FailsSome, DiffersAt, WritesReport, WroteReport, IsDiffering, AreAll, AreCut, AreBroken, ReadsBy, OpensEach, PathsRun}
+use Rattle.cmd_paths.specs.Run.{settings_in, options_in, IsPathsRequestInRange, AreEntries, FailsSome, DiffersAt, WritesReport, WroteReport, IsDiffering, AreAll, AreCut, AreBroken, ReadsBy, OpensEach, PathsRun}
 use Rattle.drm_paths.specs.State.{PathState}
 use Rattle.cmd_paths.specs.Links.{EndsLinks, PathFaultFits, RunsOver, RunsLinks}
 use Rattle.cmd_paths.specs.Links as Links
@@ -29,37 +29,37 @@ use Rattle.cmd_paths.proofs.Hearing.{few_answers}
 use Rattle.cmd_paths.proofs.Opening.{itself}
 
 -- it fails by a link exactly where some link does, unless memory runs out
-abbrev Exactly : Request → Result Bool Fault → DockContents → Type 0
-Exactly request ending told = (ending ≡ Err faults.NoMemory) ⊎ ((ending ≡ Err faults.Link) ↔ FailsSome request told)
+abbrev Exactly : PathsRequest → Result Bool PathsFault → DockContents → Type 0
+Exactly request ending contents = (ending ≡ Err faults.NoMemory) ⊎ ((ending ≡ Err faults.Link) ↔ FailsSome request contents)
 
-abbrev Done : {O : Type 0} → Request → Result Bool Fault → (O → Known Output) → O → O → DockContents → Type 0
-Done request ending known out out' told =
-    (FailsSome request told → ⊥) → (ending ≡ Err faults.NoMemory) ⊎ (IsDiffering ending ⊎ WroteReport (settings_in request) (AreEntries request told) ending known out out')
+abbrev Done : {O : Type 0} → PathsRequest → Result Bool PathsFault → (O → Known Output) → O → O → DockContents → Type 0
+Done request ending known out out' contents =
+    (FailsSome request contents → ⊥) → (ending ≡ Err faults.NoMemory) ⊎ (IsDiffering ending ⊎ WroteReport (settings_in request) (AreEntries request contents) ending known out out')
 
-done_by : {O : Type 0} (request : Request) (ending : Result Bool Fault) (known : O → Known Output) (out out' : O) (told : DockContents)
-    → (ending ≡ Err faults.Words → ⊥) → (ending ≡ Err faults.Write → ⊥) → WritesReport (settings_in request) (AreEntries request told) ending known out out'
-    → Exactly request ending told → Done request ending known out out' told
-done_by request (Ok clean) known out out' told words write writes exactly none = inr (inr (clean, refl, writes))
-done_by request (Err faults.NoMemory) known out out' told words write writes exactly none = inl refl
-done_by request (Err faults.Words) known out out' told words write writes exactly none = absurd (words refl)
-done_by request (Err faults.Write) known out out' told words write writes exactly none = absurd (write refl)
-done_by request (Err faults.Link) known out out' told words write writes (inl memory) none = inl memory
-done_by request (Err faults.Link) known out out' told words write writes (inr both) none = absurd (none (both.0 refl))
-done_by request (Err (faults.Differs path at)) known out out' told words write writes exactly none = inr (inl (path, at, refl))
+done_by : {O : Type 0} (request : PathsRequest) (ending : Result Bool PathsFault) (known : O → Known Output) (out out' : O) (contents : DockContents)
+    → (ending ≡ Err faults.Words → ⊥) → (ending ≡ Err faults.Write → ⊥) → WritesReport (settings_in request) (AreEntries request contents) ending known out out'
+    → Exactly request ending contents → Done request ending known out out' contents
+done_by request (Ok clean) known out out' contents words write writes exactly none = inr (inr (clean, refl, writes))
+done_by request (Err faults.NoMemory) known out out' contents words write writes exactly none = inl refl
+done_by request (Err faults.Words) known out out' contents words write writes exactly none = absurd (words refl)
+done_by request (Err faults.Write) known out out' contents words write writes exactly none = absurd (write refl)
+done_by request (Err faults.Link) known out out' contents words write writes (inl memory) none = inl memory
+done_by request (Err faults.Link) known out out' contents words write writes (inr both) none = absurd (none (both.0 refl))
+done_by request (Err (faults.Differs path at)) known out out' contents words write writes exactly none = inr (inl (path, at, refl))
 
 -- what follows from the rest: where nothing fails the report is written
-pub paths_run : {D O : Type 0} (request : Request) (ending : Result Bool Fault) (dock_known : D → Known DockContents) (dock dock' : D) (out_known : O → Known Output) (out out' : O)
+pub paths_run : {D O : Type 0} (request : PathsRequest) (ending : Result Bool PathsFault) (dock_known : D → Known DockContents) (dock dock' : D) (out_known : O → Known Output) (out out' : O)
     → (ending ≡ Err faults.Words → ⊥)
     → KnownThrough (dock_known dock) (dock_known dock') (OpensEach request ending)
-    → Docked (dock_known dock) (dock_known dock') (λ told. WritesReport (settings_in request) (AreEntries request told) ending out_known out out')
-    → ((fault : Fault) → ending ≡ Err fault → (fault ≡ faults.Write → ⊥) → out' ≡ out)
-    → Docked (dock_known dock) (dock_known dock') (Exactly request ending)
-    → Docked (dock_known dock) (dock_known dock') (λ told. (path at : ℕ) → ending ≡ Err (faults.Differs path at) → DiffersAt request told path at)
+    → DockKnownThrough (dock_known dock) (dock_known dock') (λ contents. WritesReport (settings_in request) (AreEntries request contents) ending out_known out out')
+    → ((fault : PathsFault) → ending ≡ Err fault → (fault ≡ faults.Write → ⊥) → out' ≡ out)
+    → DockKnownThrough (dock_known dock) (dock_known dock') (Exactly request ending)
+    → DockKnownThrough (dock_known dock) (dock_known dock') (λ contents. (path at : ℕ) → ending ≡ Err (faults.Differs path at) → DiffersAt request contents path at)
     → OpeningFailed (dock_known dock) (dock_known dock') (ending ≡ Err faults.Link)
     → HasCause (out_known out) (out_known out') (ending ≡ Err faults.Write)
     → PathsRun request ending dock_known dock dock' out_known out out'
 paths_run request ending dock_known dock dock' out_known out out' kind opens writes unwritten exactly differs dock_cause cause =
-    let W : DockContents → Type 0 = λ told. WritesReport (settings_in request) (AreEntries request told) ending out_known out out' in
+    let W : DockContents → Type 0 = λ contents. WritesReport (settings_in request) (AreEntries request contents) ending out_known out out' in
     let E : DockContents → Type 0 = Exactly request ending in
     let a = dock_known dock in
     let b = dock_known dock' in
@@ -70,18 +70,18 @@ paths_run request ending dock_known dock dock' out_known out out' kind opens wri
       unwritten = unwritten;
       exactly = exactly;
       differs = differs;
-      complete = λ taken. docked_weaker (λ told. W told × E told) (Done request ending out_known out out') a b (docked_both W E a b writes exactly)
-          (λ told both. done_by request ending out_known out out' told kind (λ is. taken (cause.once is)) both.0 both.1);
+      complete = λ taken. docked_weaker (λ contents. W contents × E contents) (Done request ending out_known out out') a b (docked_both W E a b writes exactly)
+          (λ contents both. done_by request ending out_known out out' contents kind (λ is. taken (cause.once is)) both.0 both.1);
       dock_cause = dock_cause;
       write_cause = cause;
     }
 
 -- ---- an opening failed, or there was no memory to begin with
 
-other_fault : (fault other : Fault) → (let e : Result Bool Fault = Err fault in e) ≡ Err other → fault ≡ other
+other_fault : (fault other : PathsFault) → (let e : Result Bool PathsFault = Err fault in e) ≡ Err other → fault ≡ other
 other_fault fault other is = cc
 
-pub opening_failed : {D O : Type 0} (request : Request) (dock_known : D → Known DockContents) (dock dock' : D) (out_known : O → Known Output) (out : O)
+pub opening_failed : {D O : Type 0} (request : PathsRequest) (dock_known : D → Known DockContents) (dock dock' : D) (out_known : O → Known Output) (out : O)
     → KnownThrough (dock_known dock) (dock_known dock') (BindsFew request.addresses) → HasFailed (dock_known dock) (dock_known dock')
     → PathsRun request (Err faults.Link) dock_known dock dock' out_known out out
 opening_failed request dock_known dock dock' out_known out few failed =
@@ -90,11 +90,11 @@ opening_failed request dock_known dock dock' out_known out few failed =
     paths_run request (Err faults.Link) dock_known dock dock' out_known out out
     (λ is. cc)
     (Tells-weaker (BindsFew request.addresses) (OpensEach request (Err faults.Link)) a b few (λ x y binds. inr (inl (refl, binds))))
-    (Tells-weaker (BindsFew request.addresses) (λ told _. WritesReport (settings_in request) (AreEntries request told) (Err faults.Link) out_known out out) a b few (λ x y binds. refl))
+    (Tells-weaker (BindsFew request.addresses) (λ contents _. WritesReport (settings_in request) (AreEntries request contents) (Err faults.Link) out_known out out) a b few (λ x y binds. refl))
     (λ other is any. refl)
-    (Tells-weaker (BindsFew request.addresses) (λ told _. Exactly request (Err faults.Link) told) a b few
+    (Tells-weaker (BindsFew request.addresses) (λ contents _. Exactly request (Err faults.Link) contents) a b few
     (λ x y binds. inr (λ is. record { k = binds.k; within = binds.within; fails = λ at. inl (binds.fails at) }, λ any. refl)))
-    (Tells-weaker (BindsFew request.addresses) (λ told _. (path at : ℕ) → (let e : Result Bool Fault = Err faults.Link in e) ≡ Err (faults.Differs path at) → DiffersAt request told path at) a b few
+    (Tells-weaker (BindsFew request.addresses) (λ contents _. (path at : ℕ) → (let e : Result Bool PathsFault = Err faults.Link in e) ≡ Err (faults.Differs path at) → DiffersAt request contents path at) a b few
     (λ x y binds path at is. absurd (cc)))
     (inr (refl, failed))
     (counts_none (λ is. cc) refl)
@@ -103,7 +103,7 @@ opening_failed request dock_known dock dock' out_known out few failed =
 untouched : (P : DockContents → DockContents → Type 0) (a b : Known DockContents) → b ≡ a → ((x : DockContents) → P x x) → KnownThrough a b P
 untouched P a b same holds = subst (λ m. KnownThrough a m P) (sym same) (Tells-nothing P a holds)
 
-pub not_begun : {D O : Type 0} (request : Request) (dock_known : D → Known DockContents) (dock dock' : D) (out_known : O → Known Output) (out : O)
+pub not_begun : {D O : Type 0} (request : PathsRequest) (dock_known : D → Known DockContents) (dock dock' : D) (out_known : O → Known Output) (out : O)
     → dock_known dock' ≡ dock_known dock → PathsRun request (Err faults.NoMemory) dock_known dock dock' out_known out out
 not_begun request dock_known dock dock' out_known out same =
     let a = dock_known dock in
@@ -111,10 +111,10 @@ not_begun request dock_known dock dock' out_known out same =
     paths_run request (Err faults.NoMemory) dock_known dock dock' out_known out out
     (λ is. cc)
     (untouched (OpensEach request (Err faults.NoMemory)) a b same (λ x. inr (inr (refl, refl))))
-    (untouched (λ told _. WritesReport (settings_in request) (AreEntries request told) (Err faults.NoMemory) out_known out out) a b same (λ x. refl))
+    (untouched (λ contents _. WritesReport (settings_in request) (AreEntries request contents) (Err faults.NoMemory) out_known out out) a b same (λ x. refl))
     (λ other is any. refl)
-    (untouched (λ told _. Exactly request (Err faults.NoMemory) told) a b same (λ x. inl refl))
-    (untouched (λ told _. (path at : ℕ) → (let e : Result Bool Fault = Err faults.NoMemory in e) ≡ Err (faults.Differs path at) → DiffersAt request told path at) a b same (λ x path at is. absurd (cc)))
+    (untouched (λ contents _. Exactly request (Err faults.NoMemory) contents) a b same (λ x. inl refl))
+    (untouched (λ contents _. (path at : ℕ) → (let e : Result Bool PathsFault = Err faults.NoMemory in e) ≡ Err (faults.Differs path at) → DiffersAt request contents path at) a b same (λ x path at is. absurd (cc)))
     (inl (ap (λ (k : Known DockContents). k.faults) same))
     (counts_none (λ is. cc) refl)
 
@@ -136,7 +136,7 @@ reads_memory options ended.Limit sound answers taken ends = inl (taken, inr ends
 reads_memory options ended.NoMemory sound answers taken ends = inr (taken, ends)
 reads_memory options ended.LinkFailed sound answers taken ends = absurd (sound refl)
 
-reads_fault : (options : PathOptions) (fault : Fault) (why : PathEnded) → PathFaultFits (let r : Result Report Fault = Err fault in r) why → (answers : List Answer) (taken : List (List ℕ)) → PathEnds options answers taken why
+reads_fault : (options : PathOptions) (fault : PathsFault) (why : PathEnded) → PathFaultFits (let r : Result Report PathsFault = Err fault in r) why → (answers : List Answer) (taken : List (List ℕ)) → PathEnds options answers taken why
     → ReadsBy options (Err fault) answers
 reads_fault options faults.Link why fits answers taken ends = reads_link options why answers taken ends
 reads_fault options faults.NoMemory why fits answers taken ends = reads_memory options why fits answers taken ends
@@ -146,8 +146,8 @@ reads_fault options (faults.Differs path at) why fits answers taken ends = eithe
 
 -- ---- all links were opened
 
-module _ {D O L : Type 0} (request : Request) (range : IsInRange request) (dock_known : D → Known DockContents) (dock dock' : D) (out_known : O → Known Output) (known : L → Known Traffic)
-    (result : Result Report Fault) (run : RunsOver request known result (dock_known dock) (dock_known dock')) where
+module _ {D O L : Type 0} (request : PathsRequest) (range : IsPathsRequestInRange request) (dock_known : D → Known DockContents) (dock dock' : D) (out_known : O → Known Output) (known : L → Known Traffic)
+    (result : Result Report PathsFault) (run : RunsOver request known result (dock_known dock) (dock_known dock')) where
   abbrev links : List L
   links = run.links
 
@@ -157,32 +157,32 @@ module _ {D O L : Type 0} (request : Request) (range : IsInRange request) (dock_
   still : (dock_known dock').faults ≡ (dock_known dock).faults
   still = run.still
 
-  have : Docked (dock_known dock) (dock_known dock') (λ told. HaveLinks known told request.addresses links)
-  have = docked_then (λ told. HaveLinks known told request.addresses links) (IsClosed known request.addresses run.read.last) (dock_known dock) run.mid (dock_known dock') run.have run.read.closed
+  have : DockKnownThrough (dock_known dock) (dock_known dock') (λ contents. HaveLinks known contents request.addresses links)
+  have = docked_then (λ contents. HaveLinks known contents request.addresses links) (IsClosed known request.addresses run.read.last) (dock_known dock) run.mid (dock_known dock') run.have run.read.closed
 
-  then_docked : (P : DockContents → Type 0) → ((told : DockContents) → HaveLinks known told request.addresses links → P told) → Docked (dock_known dock) (dock_known dock') P
-  then_docked P then_is = docked_weaker (λ told. HaveLinks known told request.addresses links) P (dock_known dock) (dock_known dock') have then_is
+  then_docked : (P : DockContents → Type 0) → ((contents : DockContents) → HaveLinks known contents request.addresses links → P contents) → DockKnownThrough (dock_known dock) (dock_known dock') P
+  then_docked P then_is = docked_weaker (λ contents. HaveLinks known contents request.addresses links) P (dock_known dock) (dock_known dock') have then_is
 
   -- what was read of each link
-  opens : (ending : Result Bool Fault)
+  opens : (ending : Result Bool PathsFault)
       → ((why : PathEnded) → PathFaultFits result why → (answers : List Answer) (taken : List (List ℕ)) → PathEnds (options_in request) answers taken why → ReadsBy (options_in request) ending answers)
       → KnownThrough (dock_known dock) (dock_known dock') (OpensEach request ending)
   opens ending reads =
       Tells-weaker (HearsEach (ReadsBy (options_in request) ending) request.addresses) (OpensEach request ending) (dock_known dock) (dock_known dock')
       (hears_each itself known (ReadsBy (options_in request) ending) request.addresses links run.read.last many (run.read.read.as_many ∙ many) (dock_known dock) run.mid (dock_known dock') run.opened run.have
-      (λ k d start within told.
+      (λ k d start within contents.
       let r = run.read.read.each k d (omega (arith, within, many)) in
-      went_over known (ReadsBy (options_in request) ending) (slice_index_or links k d) (slice_index_or run.read.last k d) start r.2.answers told r.2.heard (le_trans r.2.few (few_answers request range))
+      went_over known (ReadsBy (options_in request) ending) (slice_index_or links k d) (slice_index_or run.read.last k d) start r.2.answers contents r.2.heard (le_trans r.2.few (few_answers request range))
       (reads r.0 r.3 r.2.answers r.1 r.2.ends))
       run.read.closed)
       (λ x y each. inl each)
 
-  none_ends : (ending : Result Bool Fault) (paths : List PathState) → Links.ReadAll (options_in request) known links paths → (ending ≡ Err faults.Link → ⊥) → (told : DockContents) → HaveLinks known told request.addresses links → Exactly request ending told
-  none_ends ending paths read other told has =
-      inr (λ is. absurd (other is), λ fails. absurd (none_fails request range known links many told has paths read fails))
+  none_ends : (ending : Result Bool PathsFault) (paths : List PathState) → Links.ReadAll (options_in request) known links paths → (ending ≡ Err faults.Link → ⊥) → (contents : DockContents) → HaveLinks known contents request.addresses links → Exactly request ending contents
+  none_ends ending paths read other contents has =
+      inr (λ is. absurd (other is), λ fails. absurd (none_fails request range known links many contents has paths read fails))
 
   -- reading or closing ended it early
-  pub links_failed : (fault : Fault) (out : O) → result ≡ Err fault → PathsRun request (Err fault) dock_known dock dock' out_known out out
+  pub links_failed : (fault : PathsFault) (out : O) → result ≡ Err fault → PathsRun request (Err fault) dock_known dock dock' out_known out out
   links_failed fault out is =
       let ends : EndsLinks request known links (Err fault) = subst (EndsLinks request known links) is run.ends in
       paths_run request (Err fault) dock_known dock dock' out_known out out
@@ -195,46 +195,46 @@ module _ {D O L : Type 0} (request : Request) (range : IsInRange request) (dock_
       (inl still)
       (counts_none (not_write fault ends) refl)
     where
-      not_words : (fault : Fault) → EndsLinks request known links (Err fault) → (let e : Result Bool Fault = Err fault in e) ≡ Err faults.Words → ⊥
+      not_words : (fault : PathsFault) → EndsLinks request known links (Err fault) → (let e : Result Bool PathsFault = Err fault in e) ≡ Err faults.Words → ⊥
       not_words faults.Words ends is = ends
       not_words faults.NoMemory ends is = cc
       not_words faults.Link ends is = cc
       not_words faults.Write ends is = ends
       not_words (faults.Differs path at) ends is = cc
 
-      not_write : (fault : Fault) → EndsLinks request known links (Err fault) → (let e : Result Bool Fault = Err fault in e) ≡ Err faults.Write → ⊥
+      not_write : (fault : PathsFault) → EndsLinks request known links (Err fault) → (let e : Result Bool PathsFault = Err fault in e) ≡ Err faults.Write → ⊥
       not_write faults.Words ends is = ends
       not_write faults.NoMemory ends is = cc
       not_write faults.Link ends is = cc
       not_write faults.Write ends is = ends
       not_write (faults.Differs path at) ends is = cc
 
-      nothing : (fault : Fault) → EndsLinks request known links (Err fault) → (told : DockContents) → HaveLinks known told request.addresses links
-          → WritesReport (settings_in request) (AreEntries request told) (Err fault) out_known out out
-      nothing faults.Words ends told has = refl
-      nothing faults.NoMemory ends told has = refl
-      nothing faults.Link ends told has = refl
-      nothing faults.Write ends told has = absurd ends
-      nothing (faults.Differs path at) ends told has = refl
+      nothing : (fault : PathsFault) → EndsLinks request known links (Err fault) → (contents : DockContents) → HaveLinks known contents request.addresses links
+          → WritesReport (settings_in request) (AreEntries request contents) (Err fault) out_known out out
+      nothing faults.Words ends contents has = refl
+      nothing faults.NoMemory ends contents has = refl
+      nothing faults.Link ends contents has = refl
+      nothing faults.Write ends contents has = absurd ends
+      nothing (faults.Differs path at) ends contents has = refl
 
-      exactly : (fault : Fault) → EndsLinks request known links (Err fault) → (told : DockContents) → HaveLinks known told request.addresses links → Exactly request (Err fault) told
-      exactly faults.Words ends told has = absurd ends
-      exactly faults.NoMemory ends told has = inl refl
-      exactly faults.Link ends told has = inr (λ is. fails_ahead request range known links many told has ends, λ any. refl)
-      exactly faults.Write ends told has = absurd ends
-      exactly (faults.Differs path at) ends told has = none_ends (Err (faults.Differs path at)) ends.3.paths ends.3.read (λ is. cc) told has
+      exactly : (fault : PathsFault) → EndsLinks request known links (Err fault) → (contents : DockContents) → HaveLinks known contents request.addresses links → Exactly request (Err fault) contents
+      exactly faults.Words ends contents has = absurd ends
+      exactly faults.NoMemory ends contents has = inl refl
+      exactly faults.Link ends contents has = inr (λ is. fails_ahead request range known links many contents has ends, λ any. refl)
+      exactly faults.Write ends contents has = absurd ends
+      exactly (faults.Differs path at) ends contents has = none_ends (Err (faults.Differs path at)) ends.3.paths ends.3.read (λ is. cc) contents has
 
-      differs : (fault : Fault) → EndsLinks request known links (Err fault) → (told : DockContents) → HaveLinks known told request.addresses links
-          → (path at : ℕ) → (let e : Result Bool Fault = Err fault in e) ≡ Err (faults.Differs path at) → DiffersAt request told path at
-      differs faults.Words ends told has path at is = absurd ends
-      differs faults.NoMemory ends told has path at is = absurd (cc)
-      differs faults.Link ends told has path at is = absurd (cc)
-      differs faults.Write ends told has path at is = absurd ends
-      differs (faults.Differs p n) ends told has path at is =
+      differs : (fault : PathsFault) → EndsLinks request known links (Err fault) → (contents : DockContents) → HaveLinks known contents request.addresses links
+          → (path at : ℕ) → (let e : Result Bool PathsFault = Err fault in e) ≡ Err (faults.Differs path at) → DiffersAt request contents path at
+      differs faults.Words ends contents has path at is = absurd ends
+      differs faults.NoMemory ends contents has path at is = absurd (cc)
+      differs faults.Link ends contents has path at is = absurd (cc)
+      differs faults.Write ends contents has path at is = absurd ends
+      differs (faults.Differs p n) ends contents has path at is =
           let same : faults.Differs p n ≡ faults.Differs path at = other_fault (faults.Differs p n) (faults.Differs path at) is in
           let same_path : p ≡ path = cc in
           let same_at : n ≡ at = cc in
-          subst (λ m. DiffersAt request told path m) same_at (subst (λ m. DiffersAt request told m n) same_path (differ_ahead request range known links many told has p n ends))
+          subst (λ m. DiffersAt request contents path m) same_at (subst (λ m. DiffersAt request contents m n) same_path (differ_ahead request range known links many contents has p n ends))
 
   module _ (report : Report) (is : result ≡ Ok report) (out out' : O) where
     ends : EndsLinks request known links (Ok report)
@@ -249,40 +249,40 @@ module _ {D O L : Type 0} (request : Request) (range : IsInRange request) (dock_
     report_is : IsReportOf (settings_in request) (datagrams entries) report.text report.clean
     report_is = ends.closes.3
 
-    are_entries : (told : DockContents) → HaveLinks known told request.addresses links → AreEntries request told entries
-    are_entries told has = entries_ahead request range known links many told has ends.paths entries ends.read ends.closes.1 ends.closes.2
+    are_entries : (contents : DockContents) → HaveLinks known contents request.addresses links → AreEntries request contents entries
+    are_entries contents has = entries_ahead request range known links many contents has ends.paths entries ends.read ends.closes.1 ends.closes.2
 
     -- the report was written
-    pub written : (clean : Bool) → clean ≡ report.clean → Outputs (out_known out) (out_known out') (λ text. text ≡ report.text) → HasCause (out_known out) (out_known out') (let e : Result Bool Fault = Ok clean in e ≡ Err faults.Write)
+    pub written : (clean : Bool) → clean ≡ report.clean → OutputsText (out_known out) (out_known out') (λ text. text ≡ report.text) → HasCause (out_known out) (out_known out') (let e : Result Bool PathsFault = Ok clean in e ≡ Err faults.Write)
         → PathsRun request (Ok clean) dock_known dock dock' out_known out out'
     written clean clean_is text cause =
         paths_run request (Ok clean) dock_known dock dock' out_known out out'
         (λ is. cc)
         (opens (Ok clean) all_of)
-        (then_docked _ (λ told has. (entries, are_entries told has, report, report_is, text, clean_is)))
+        (then_docked _ (λ contents has. (entries, are_entries contents has, report, report_is, text, clean_is)))
         (λ fault is other. absurd (cc))
         (then_docked _ (none_ends (Ok clean) ends.paths ends.read (λ is. cc)))
-        (then_docked _ (λ told has path at is. absurd (cc)))
+        (then_docked _ (λ contents has path at is. absurd (cc)))
         (inl still)
         cause
 
     -- a write failed
-    pub unfinished : Outputs (out_known out) (out_known out') (IsFront report.text) → HasCause (out_known out) (out_known out') (let e : Result Bool Fault = Err faults.Write in e ≡ Err faults.Write)
+    pub unfinished : OutputsText (out_known out) (out_known out') (IsPrefix report.text) → HasCause (out_known out) (out_known out') (let e : Result Bool PathsFault = Err faults.Write in e ≡ Err faults.Write)
         → PathsRun request (Err faults.Write) dock_known dock dock' out_known out out'
     unfinished text cause =
         paths_run request (Err faults.Write) dock_known dock dock' out_known out out'
         (λ is. cc)
         (opens (Err faults.Write) all_of)
-        (then_docked _ (λ told has. (entries, are_entries told has, report, report_is, text)))
+        (then_docked _ (λ contents has. (entries, are_entries contents has, report, report_is, text)))
         (λ fault is other. absurd (other (sym (other_fault faults.Write fault is))))
         (then_docked _ (none_ends (Err faults.Write) ends.paths ends.read (λ is. cc)))
-        (then_docked _ (λ told has path at is. absurd (cc)))
+        (then_docked _ (λ contents has path at is. absurd (cc)))
         (inl still)
         cause
 
 -- a run that ends early, by how its links ended
-pub ended_early : {D O L : Type 0} (request : Request) (range : IsInRange request) (dock_known : D → Known DockContents) (dock dock' : D) (out_known : O → Known Output) (known : L → Known Traffic) (fault : Fault) (out : O)
-    → RunsLinks request known (let r : Result Report Fault = Err fault in r) (dock_known dock) (dock_known dock') → PathsRun request (Err fault) dock_known dock dock' out_known out out
+pub ended_early : {D O L : Type 0} (request : PathsRequest) (range : IsPathsRequestInRange request) (dock_known : D → Known DockContents) (dock dock' : D) (out_known : O → Known Output) (known : L → Known Traffic) (fault : PathsFault) (out : O)
+    → RunsLinks request known (let r : Result Report PathsFault = Err fault in r) (dock_known dock) (dock_known dock') → PathsRun request (Err fault) dock_known dock dock' out_known out out
 ended_early request range dock_known dock dock' out_known known fault out (inl (memory, same)) =
     let is : faults.NoMemory ≡ fault = cc in
     subst (λ f. PathsRun request (Err f) dock_known dock dock' out_known out out) is (not_begun request dock_known dock dock' out_known out same)
@@ -292,7 +292,7 @@ ended_early request range dock_known dock dock' out_known known fault out (inr (
 ended_early request range dock_known dock dock' out_known known fault out (inr (inr run)) = links_failed request range dock_known dock dock' out_known known (Err fault) run fault out refl
 
 -- its links were run over where it has a report
-pub ran_over : {L : Type 0} (request : Request) (known : L → Known Traffic) (report : Report) (a b : Known DockContents) → RunsLinks request known (let r : Result Report Fault = Ok report in r) a b
+pub ran_over : {L : Type 0} (request : PathsRequest) (known : L → Known Traffic) (report : Report) (a b : Known DockContents) → RunsLinks request known (let r : Result Report PathsFault = Ok report in r) a b
     → RunsOver request known (Ok report) a b
 ran_over request known report a b (inl (memory, same)) = absurd (cc)
 ran_over request known report a b (inr (inl (link, few, failed))) = absurd (cc)

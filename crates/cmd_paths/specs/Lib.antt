@@ -1,6 +1,6 @@
 pub mod Faults
 pub mod Ahead
-pub mod Jobs
+pub mod Receivers
 pub mod Opening
 pub mod Run
 pub mod Links

@@ -1,12 +1,12 @@
 -- The links of a run, read side by side.
 use Rattle.std.specs.Prelude.{ℕ, ◌≡◌, ◌<◌, ◌⊎◌, List, length, slice_index_or, Result, Ok, Err}
-use Rattle.drm_links.specs.Told.{Known, HasFailed, KnownThrough}
+use Rattle.drm_links.specs.Known.{Known, HasFailed, KnownThrough}
 use Rattle.drm_links.specs.Link.{Traffic}
-use Rattle.drm_links.specs.Dock.{DockContents, Docked, after_openings}
+use Rattle.drm_links.specs.Dock.{DockContents, DockKnownThrough, after_openings}
 use Rattle.link_group.specs.Binding.{BindsFew}
-use Rattle.drm_links.specs.Hearing.{Heard}
+use Rattle.drm_links.specs.Hearing.{LinkHeard}
 use Rattle.report_text.specs.Reports.{Report}
-use Rattle.cli_paths.specs.declared.request.Request.{Request}
+use Rattle.cli_paths.specs.declared.request.PathsRequest.{PathsRequest}
 use Rattle.report_journal.specs.Journal.{JournalState}
 use Rattle.drm_paths.specs.declared.run.PathOptions.{PathOptions}
 use Rattle.drm_paths.specs.declared.run.PathEnded.{PathEnded}
@@ -19,12 +19,12 @@ use Rattle.drm_paths.specs.declared.close.Closed.{Closed}
 use Rattle.drm_paths.specs.declared.close.Closed.TheVariants as closed
 use Rattle.cmd_paths.specs.Opening.{HaveLinks, IsClosed}
 use Rattle.cmd_paths.specs.Run.{settings_in, options_in}
-use Rattle.cmd_paths.specs.declared.fault.Fault.{Fault}
-use Rattle.cmd_paths.specs.declared.fault.Fault.TheVariants as faults
+use Rattle.cmd_paths.specs.declared.fault.PathsFault.{PathsFault}
+use Rattle.cmd_paths.specs.declared.fault.PathsFault.TheVariants as faults
 
 -- a path over this link took these datagrams, and ended so
 abbrev pub ReadsLink : PathOptions → Known Traffic → List (List ℕ) → PathEnded → Type 0
-ReadsLink options link taken why = (after : Known Traffic) × ReadsPath options (Heard link after) taken why
+ReadsLink options link taken why = (after : Known Traffic) × ReadsPath options (LinkHeard link after) taken why
 
 -- and nothing failed
 abbrev pub ReadsWhole : PathOptions → Known Traffic → List (List ℕ) → Type 0
@@ -50,14 +50,14 @@ BreaksNone {L} options known links =
     → (taken : List (List ℕ)) × (let link = known (slice_index_or links k none) in ReadsWhole options link taken ⊎ ReadsLink options link taken NoMemory)
 
 -- All links were read, and their book was closed so.
-pub record AreClosed {L : Type 0} (request : Request) (known : L → Known Traffic) (links : List L) (closed : Closed) : Type 0 where
+pub record AreClosed {L : Type 0} (request : PathsRequest) (known : L → Known Traffic) (links : List L) (closed : Closed) : Type 0 where
   pub paths : List PathState
   pub read : ReadAll (options_in request) known links paths
   pub journal : JournalState
   pub closes : BookCloses (settings_in request) journal paths closed
 
 -- How the reading of these links ends.
-abbrev pub EndsLinks : {L : Type 0} → Request → (L → Known Traffic) → List L → Result Report Fault → Type 0
+abbrev pub EndsLinks : {L : Type 0} → PathsRequest → (L → Known Traffic) → List L → Result Report PathsFault → Type 0
 EndsLinks request known links (Ok ending) = AreClosed request known links (closed.Whole ending)
 EndsLinks request known links (Err faults.NoMemory) = BreaksNone (options_in request) known links
 EndsLinks request known links (Err faults.Words) = ⊥
@@ -67,44 +67,44 @@ EndsLinks request known links (Err (faults.Differs path at)) =
     (difference : Difference) × (path ≡ difference.path) × (at ≡ difference.at) × AreClosed request known links (closed.Differ difference)
 
 -- what may end a path of a run that ends so
-abbrev pub PathFaultFits : {T : Type 0} → Result T Fault → PathEnded → Type 0
+abbrev pub PathFaultFits : {T : Type 0} → Result T PathsFault → PathEnded → Type 0
 PathFaultFits (Err faults.Link) why = Unit {0}
 PathFaultFits (Err faults.NoMemory) why = why ≡ LinkFailed → ⊥
 PathFaultFits result why = (why ≡ Idle) ⊎ (why ≡ Limit)
 
 -- These links were read by paths, of a run that ends so, and now are the last ones.
-pub record AreRead {L T : Type 0} (options : PathOptions) (known : L → Known Traffic) (links last : List L) (result : Result T Fault) : Type 0 where
+pub record AreRead {L T : Type 0} (options : PathOptions) (known : L → Known Traffic) (links last : List L) (result : Result T PathsFault) : Type 0 where
   pub as_many : length last ≡ length links
   pub each : (k : ℕ) (d : L) → k < length links
       → (why : PathEnded) × (taken : List (List ℕ))
-      × ReadsPath options (Heard (known (slice_index_or links k d)) (known (slice_index_or last k d))) taken why × PathFaultFits result why
+      × ReadsPath options (LinkHeard (known (slice_index_or links k d)) (known (slice_index_or last k d))) taken why × PathFaultFits result why
 
 -- These links were read, and then closed.
-pub record ReadsAndCloses {L T : Type 0} (request : Request) (known : L → Known Traffic) (links : List L) (result : Result T Fault) (before after : Known DockContents) : Type 0 where
+pub record ReadsAndCloses {L T : Type 0} (request : PathsRequest) (known : L → Known Traffic) (links : List L) (result : Result T PathsFault) (before after : Known DockContents) : Type 0 where
   pub last : List L
   pub read : AreRead (options_in request) known links last result
   pub closed : KnownThrough before after (IsClosed known request.addresses last)
 
 -- The links were opened, read and closed.
-pub record RunsOver {L : Type 0} (request : Request) (known : L → Known Traffic) (result : Result Report Fault) (before after : Known DockContents) : Type 0 where
+pub record RunsOver {L : Type 0} (request : PathsRequest) (known : L → Known Traffic) (result : Result Report PathsFault) (before after : Known DockContents) : Type 0 where
   pub links : List L
   pub many : length links ≡ length request.addresses
   pub mid : Known DockContents
-  pub opened : KnownThrough before mid (λ told told'. told' ≡ after_openings request.addresses told)
-  pub have : Docked before mid (λ told. HaveLinks known told request.addresses links)
+  pub opened : KnownThrough before mid (λ contents contents'. contents' ≡ after_openings request.addresses contents)
+  pub have : DockKnownThrough before mid (λ contents. HaveLinks known contents request.addresses links)
   pub ends : EndsLinks request known links result
   pub read : ReadsAndCloses request known links result mid after
   pub still : after.faults ≡ before.faults
 
 -- There was no memory to begin with, or an opening failed, or the links were read.
-abbrev pub RunsLinks : {L : Type 0} → Request → (L → Known Traffic) → Result Report Fault → Known DockContents → Known DockContents → Type 0
+abbrev pub RunsLinks : {L : Type 0} → PathsRequest → (L → Known Traffic) → Result Report PathsFault → Known DockContents → Known DockContents → Type 0
 RunsLinks request known result before after =
     ((result ≡ Err faults.NoMemory) × (after ≡ before))
     ⊎ ((result ≡ Err faults.Link) × KnownThrough before after (BindsFew request.addresses) × HasFailed before after)
     ⊎ RunsOver request known result before after
 
 -- how a run ends that is closed so
-abbrev pub ending_of : Closed → Result Report Fault
+abbrev pub ending_of : Closed → Result Report PathsFault
 ending_of (closed.Whole ending) = Ok ending
 ending_of (closed.Differ difference) = Err (faults.Differs difference.path difference.at)
 ending_of closed.NoMemory = Err faults.NoMemory

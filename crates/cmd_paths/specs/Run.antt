@@ -1,15 +1,15 @@
 -- The run of several paths.
 use Rattle.std.specs.Prelude.{ℕ, ◌≡◌, ◌<◌, ◌≤◌, ◌⊎◌, ◌↔◌, All, Bool, List, length, slice_index_or, Result, Ok, Err}
-use Rattle.drm_links.specs.Told.{Known, HasFailed, HasCause, KnownThrough}
+use Rattle.drm_links.specs.Known.{Known, HasFailed, HasCause, KnownThrough}
 use Rattle.drm_links.specs.Link.{Answer}
-use Rattle.drm_links.specs.Sink.{Output, Outputs, IsFront}
-use Rattle.drm_links.specs.Dock.{DockContents, LinkStart, AreDifferent, OpeningFinds, FindsNone, Docked}
+use Rattle.drm_links.specs.Sink.{Output, OutputsText, IsPrefix}
+use Rattle.drm_links.specs.Dock.{DockContents, LinkStart, AreDifferent, OpeningFinds, FindsNone, DockKnownThrough}
 use Rattle.drm_links.specs.declared.dock.Address.{Address}
 use Rattle.cmd_faults.specs.Causes.{OpeningFailed}
 use Rattle.cmd_faults.specs.Fault.{WritesLine}
-use Rattle.cli_paths.specs.declared.request.Request.{Request}
+use Rattle.cli_paths.specs.declared.request.PathsRequest.{PathsRequest}
 use Rattle.cli_paths.specs.Line.{IsPathsLine}
-use Rattle.report_journal.specs.declared.settings.Settings.{Settings}
+use Rattle.report_journal.specs.declared.options.JournalOptions.{JournalOptions}
 use Rattle.report_journal.specs.Journal.{JournalState, AreInRange, datagrams}
 use Rattle.report_journal.specs.Report.{IsReportOf}
 use Rattle.report_text.specs.Reports.{Report}
@@ -23,20 +23,20 @@ use Rattle.drm_paths.specs.declared.close.Closed.TheVariants.{Differ}
 use Rattle.link_group.specs.Binding.{HearsEach, BindsFew}
 use Rattle.cmd_paths.specs.Ahead.{IsAllOf, BreaksOff}
 use Rattle.cmd_paths.specs.Faults.{fault_line}
-use Rattle.cmd_paths.specs.declared.fault.Fault.{Fault}
-use Rattle.cmd_paths.specs.declared.fault.Fault.TheVariants as faults
+use Rattle.cmd_paths.specs.declared.fault.PathsFault.{PathsFault}
+use Rattle.cmd_paths.specs.declared.fault.PathsFault.TheVariants as faults
 
 -- by what the report of a request is made
-abbrev pub settings_in : Request → Settings
+abbrev pub settings_in : PathsRequest → JournalOptions
 settings_in request = settings_of request.window request.reach request.first request.frames
 
 -- when each path has read enough
-abbrev pub options_in : Request → PathOptions
+abbrev pub options_in : PathsRequest → PathOptions
 options_in request = record { idle = request.idle; limit = request.limit }
 
 -- each number is in its range, and the addresses are two to four different ones
-pub record IsInRange (request : Request) : Type 0 where
-  pub settings : AreInRange (settings_in request)
+pub record IsPathsRequestInRange (request : PathsRequest) : Type 0 where
+  pub options : AreInRange (settings_in request)
   pub options : AreReasonable (options_in request)
   pub few_idles : request.idle ≤ 1000000
   pub some_paths : 2 ≤ length request.addresses
@@ -45,31 +45,31 @@ pub record IsInRange (request : Request) : Type 0 where
 
 -- The entries of path k are all datagrams that are read of the k-th link, each once, in their order, and there are no others:
 -- only the order between paths is free.
-pub record AreEntries (request : Request) (told : DockContents) (entries : List (ℕ × List ℕ)) : Type 0 where
+pub record AreEntries (request : PathsRequest) (contents : DockContents) (entries : List (ℕ × List ℕ)) : Type 0 where
   pub each : (k : ℕ) (at : Address) → k < length request.addresses
-      → (start : LinkStart) × OpeningFinds told k (slice_index_or request.addresses k at) start × IsAllOf (options_in request) start.ahead (of_path k entries)
+      → (start : LinkStart) × OpeningFinds contents k (slice_index_or request.addresses k at) start × IsAllOf (options_in request) start.ahead (of_path k entries)
   pub others : All (λ e. e.0 < length request.addresses) entries
 
 -- Opening some address fails, or what is read of some link ends in `Failed`.
-pub record FailsSome (request : Request) (told : DockContents) : Type 0 where
+pub record FailsSome (request : PathsRequest) (contents : DockContents) : Type 0 where
   pub k : ℕ
   pub within : k < length request.addresses
-  pub fails : (at : Address) → FindsNone told k (slice_index_or request.addresses k at)
-      ⊎ ((start : LinkStart) × OpeningFinds told k (slice_index_or request.addresses k at) start × BreaksOff (options_in request) start.ahead)
+  pub fails : (at : Address) → FindsNone contents k (slice_index_or request.addresses k at)
+      ⊎ ((start : LinkStart) × OpeningFinds contents k (slice_index_or request.addresses k at) start × BreaksOff (options_in request) start.ahead)
 
 -- These are the paths of the request: each took all datagrams that are read of the link at its address.
-pub record ReadAll (request : Request) (told : DockContents) (paths : List PathState) : Type 0 where
+pub record ReadAll (request : PathsRequest) (contents : DockContents) (paths : List PathState) : Type 0 where
   pub as_many : length paths ≡ length request.addresses
   pub numbers : (k : ℕ) (d : PathState) → k < length request.addresses → (slice_index_or paths k d).number ≡ k
   pub each : (k : ℕ) (at : Address) (d : PathState) → k < length request.addresses
-      → (start : LinkStart) × OpeningFinds told k (slice_index_or request.addresses k at) start
+      → (start : LinkStart) × OpeningFinds contents k (slice_index_or request.addresses k at) start
       × IsAllOf (options_in request) start.ahead (slice_index_or paths k d).taken
 
 -- All links are read, and their book is closed by a difference at this place of this path. What its journal has, as many entries
 -- as were read and each of one of the paths, differs there first from what was read.
-pub record DiffersAt (request : Request) (told : DockContents) (path at : ℕ) : Type 0 where
+pub record DiffersAt (request : PathsRequest) (contents : DockContents) (path at : ℕ) : Type 0 where
   pub paths : List PathState
-  pub read : ReadAll request told paths
+  pub read : ReadAll request contents paths
   pub journal : JournalState
   pub difference : Difference
   pub closes : BookCloses (settings_in request) journal paths (Differ difference)
@@ -77,21 +77,21 @@ pub record DiffersAt (request : Request) (told : DockContents) (path at : ℕ) :
   pub at_is : at ≡ difference.at
 
 -- What is written: the report of such entries; after a failed write a front of it; after another fault nothing.
-abbrev pub WritesReport : {O : Type 0} → Settings → (List (ℕ × List ℕ) → Type 0) → Result Bool Fault → (O → Known Output) → O → O → Type 0
+abbrev pub WritesReport : {O : Type 0} → JournalOptions → (List (ℕ × List ℕ) → Type 0) → Result Bool PathsFault → (O → Known Output) → O → O → Type 0
 WritesReport by are (Ok clean) known out out' =
     (entries : List (ℕ × List ℕ)) × are entries × (r : Report) × IsReportOf by (datagrams entries) r.text r.clean
-    × Outputs (known out) (known out') (λ text. text ≡ r.text) × (clean ≡ r.clean)
+    × OutputsText (known out) (known out') (λ text. text ≡ r.text) × (clean ≡ r.clean)
 WritesReport by are (Err faults.Write) known out out' =
     (entries : List (ℕ × List ℕ)) × are entries × (r : Report) × IsReportOf by (datagrams entries) r.text r.clean
-    × Outputs (known out) (known out') (IsFront r.text)
+    × OutputsText (known out) (known out') (IsPrefix r.text)
 WritesReport by are (Err fault) known out out' = out' ≡ out
 
 -- The run is done, and the report is written.
-abbrev pub WroteReport : {O : Type 0} → Settings → (List (ℕ × List ℕ) → Type 0) → Result Bool Fault → (O → Known Output) → O → O → Type 0
+abbrev pub WroteReport : {O : Type 0} → JournalOptions → (List (ℕ × List ℕ) → Type 0) → Result Bool PathsFault → (O → Known Output) → O → O → Type 0
 WroteReport by are ending known out out' = (clean : Bool) × (ending ≡ Ok clean) × WritesReport by are (Ok clean) known out out'
 
 -- it ends by a difference
-abbrev pub IsDiffering : Result Bool Fault → Type 0
+abbrev pub IsDiffering : Result Bool PathsFault → Type 0
 IsDiffering ending = (path : ℕ) × (at : ℕ) × (ending ≡ Err (faults.Differs path at))
 
 -- a path ends after these answers by its options, for want of memory, or by a link that failed
@@ -105,56 +105,56 @@ abbrev pub AreBroken : PathOptions → List Answer → Type 0
 AreBroken options answers = (taken : List (List ℕ)) × PathEnds options answers taken LinkFailed
 
 -- What is read of each link: all up to the end of its path. Where memory was wanting, or a link failed, some path ended by that.
-abbrev pub ReadsBy : PathOptions → Result Bool Fault → List Answer → Type 0
+abbrev pub ReadsBy : PathOptions → Result Bool PathsFault → List Answer → Type 0
 ReadsBy options (Err faults.Link) answers = AreAll options answers ⊎ AreCut options answers ⊎ AreBroken options answers
 ReadsBy options (Err faults.NoMemory) answers = AreAll options answers ⊎ AreCut options answers
 ReadsBy options ending answers = AreAll options answers
 
 -- Each address is opened once, in their order, to receive, up to one that fails; or memory was wanting before. What is said of reading is
 -- read of each link, nothing is sent over it, and it is closed. Nothing else is asked of the dock.
-abbrev pub OpensEach : Request → Result Bool Fault → DockContents → DockContents → Type 0
+abbrev pub OpensEach : PathsRequest → Result Bool PathsFault → DockContents → DockContents → Type 0
 OpensEach request ending before after =
     HearsEach (ReadsBy (options_in request) ending) request.addresses before after
     ⊎ ((ending ≡ Err faults.Link) × BindsFew request.addresses before after)
     ⊎ ((ending ≡ Err faults.NoMemory) × (after ≡ before))
 
 -- A run of a request.
-pub record PathsRun {D O : Type 0} (request : Request) (ending : Result Bool Fault)
+pub record PathsRun {D O : Type 0} (request : PathsRequest) (ending : Result Bool PathsFault)
     (dock_known : D → Known DockContents) (dock dock' : D)
     (out_known : O → Known Output) (out out' : O) : Type 0 where
   pub kind : ending ≡ Err faults.Words → ⊥
   -- Where the dock tells: what is read of the links is this, and nothing else is asked of them.
   pub opens : KnownThrough (dock_known dock) (dock_known dock') (OpensEach request ending)
   -- Where the dock tells: the report is that of all that is read of the links that it opened. Nothing else is written.
-  pub writes : Docked (dock_known dock) (dock_known dock') (λ told.
-      WritesReport (settings_in request) (AreEntries request told) ending out_known out out')
+  pub writes : DockKnownThrough (dock_known dock) (dock_known dock') (λ contents.
+      WritesReport (settings_in request) (AreEntries request contents) ending out_known out out')
   -- Nothing is written where a run ends by another fault than a failed write.
-  pub unwritten : (fault : Fault) → ending ≡ Err fault → (fault ≡ faults.Write → ⊥) → out' ≡ out
+  pub unwritten : (fault : PathsFault) → ending ≡ Err fault → (fault ≡ faults.Write → ⊥) → out' ≡ out
   -- It fails by a link exactly where an opening fails, or what is read of some link ends in `Failed`.
-  pub exactly : Docked (dock_known dock) (dock_known dock') (λ told.
-      (ending ≡ Err faults.NoMemory) ⊎ ((ending ≡ Err faults.Link) ↔ FailsSome request told))
+  pub exactly : DockKnownThrough (dock_known dock) (dock_known dock') (λ contents.
+      (ending ≡ Err faults.NoMemory) ⊎ ((ending ≡ Err faults.Link) ↔ FailsSome request contents))
   -- A difference is told only where the book was closed by it.
-  pub differs : Docked (dock_known dock) (dock_known dock') (λ told.
-      (path at : ℕ) → ending ≡ Err (faults.Differs path at) → DiffersAt request told path at)
+  pub differs : DockKnownThrough (dock_known dock) (dock_known dock') (λ contents.
+      (path at : ℕ) → ending ≡ Err (faults.Differs path at) → DiffersAt request contents path at)
   -- Where no link and no write fails, and memory suffices, the report is written, unless a difference was found.
-  pub complete : (HasFailed (out_known out) (out_known out') → ⊥) → Docked (dock_known dock) (dock_known dock') (λ told.
-      (FailsSome request told → ⊥) → (ending ≡ Err faults.NoMemory) ⊎ (IsDiffering ending
-      ⊎ WroteReport (settings_in request) (AreEntries request told) ending out_known out out'))
+  pub complete : (HasFailed (out_known out) (out_known out') → ⊥) → DockKnownThrough (dock_known dock) (dock_known dock') (λ contents.
+      (FailsSome request contents → ⊥) → (ending ≡ Err faults.NoMemory) ⊎ (IsDiffering ending
+      ⊎ WroteReport (settings_in request) (AreEntries request contents) ending out_known out out'))
   -- The count of faults of the dock rose, by one, exactly where an opening failed; that of out exactly where a write ended the run.
   pub dock_cause : OpeningFailed (dock_known dock) (dock_known dock') (ending ≡ Err faults.Link)
   pub write_cause : HasCause (out_known out) (out_known out') (ending ≡ Err faults.Write)
 
 -- What a run writes to err: the line of its fault, and else nothing.
-abbrev pub ReportsFault : {E : Type 0} → Result Bool Fault → (E → Known Output) → E → E → Type 0
+abbrev pub ReportsFault : {E : Type 0} → Result Bool PathsFault → (E → Known Output) → E → E → Type 0
 ReportsFault (Ok clean) known err err' = err' ≡ err
 ReportsFault (Err fault) known err err' = WritesLine (fault_line fault) known err err'
 
 -- the words ask for no run
 abbrev pub AsksForNothing : List (List ℕ) → Type 0
-AsksForNothing words = (request : Request) → IsPathsLine words request → ⊥
+AsksForNothing words = (request : PathsRequest) → IsPathsLine words request → ⊥
 
 -- What comes of words that ask for a run: it; or memory ran out while they were read, and nothing was touched.
-abbrev pub RunsPaths : {D O : Type 0} → Request → Result Bool Fault → (D → Known DockContents) → D → D → (O → Known Output) → O → O → Type 0
+abbrev pub RunsPaths : {D O : Type 0} → PathsRequest → Result Bool PathsFault → (D → Known DockContents) → D → D → (O → Known Output) → O → O → Type 0
 RunsPaths request ending dock_known dock dock' out_known out out' =
     PathsRun request ending dock_known dock dock' out_known out out'
     ⊎ ((ending ≡ Err faults.NoMemory) × (dock' ≡ dock) × (out' ≡ out))

@@ -1,25 +1,25 @@
 //! The run of several paths.
 
 ghost use Rattle.std.specs.Prelude.{◌≡◌, ◌⊎◌, ◌<◌, ◌≤◌, All, map, length, string_bytes, vec_len, Bool, Result, Err};
-ghost use Rattle.drm_links.specs.Told.{HasCause};
+ghost use Rattle.drm_links.specs.Known.{HasCause};
 ghost use Rattle.drm_paths.specs.State.{settings_of};
-ghost use Rattle.cli_paths.specs.declared.request.Request.{Request};
+ghost use Rattle.cli_paths.specs.declared.request.PathsRequest.{PathsRequest};
 ghost use Rattle.cli_paths.specs.Line.{IsPathsLine};
-ghost use Rattle.cmd_paths.specs.declared.fault.Fault.{Fault};
+ghost use Rattle.cmd_paths.specs.declared.fault.PathsFault.{PathsFault};
 ghost use Rattle.cmd_paths.specs.Faults.{status_of, fault_line};
 ghost use Rattle.cmd_faults.specs.Fault.{WritesLine};
-ghost use Rattle.cmd_paths.specs.Jobs.{HaveNewPaths};
+ghost use Rattle.cmd_paths.specs.Receivers.{HaveNewPaths};
 ghost use Rattle.cmd_paths.specs.Links.{EndsLinks, ReadsAndCloses, RunsLinks, ending_of};
-ghost use Rattle.cmd_paths.specs.Run.{IsInRange, settings_in, PathsRun, RunsPaths, ReportsFault, AsksForNothing};
+ghost use Rattle.cmd_paths.specs.Run.{IsPathsRequestInRange, settings_in, PathsRun, RunsPaths, ReportsFault, AsksForNothing};
 
-use crate::fault::Fault;
-use crate::job::{PathJob, run_all, seats_of, some_failed, some_ran_out};
+use crate::fault::PathsFault;
 use crate::open::{close_links, open_links, room_for};
-use cli_paths::{Request, read_paths};
+use crate::receiver::{PathReceiver, run_all, seats_of, some_failed, some_ran_out};
+use cli_paths::{PathsRequest, read_paths};
 use cli_syntax::WordsFault;
 use drm_links::{Dock, Link, Sink, Status};
 use drm_paths::{Closed, PathOptions, Road, Shared, close_paths, open_paths};
-use report_journal::{Ending, Settings};
+use report_journal::{Ending, JournalOptions};
 use std::alloc::Global;
 use std::marker::Brand;
 use std::sync::Wait;
@@ -43,13 +43,13 @@ pub fn run_paths<R: Threads + Wait + Sync, O: Sink, E: Sink, D: Dock>(
 where
     D::L: Link + Send,
     // Words that ask for a run are one, or memory ran out while they were read.
-    ensures runs { (request : Request) → IsPathsLine (map string_bytes words.now) request
-        → (ending : Result Bool Fault) × (result.code ≡ status_of ending) × ReportsFault ending E.known err.old err.new
+    ensures runs { (request : PathsRequest) → IsPathsLine (map string_bytes words.now) request
+        → (ending : Result Bool PathsFault) × (result.code ≡ status_of ending) × ReportsFault ending E.known err.old err.new
         × RunsPaths request ending D.known dock.old dock.new O.known out.old out.new }
     // Words that ask for none are refused, and nothing is touched.
     ensures nothing { AsksForNothing (map string_bytes words.now)
-        → (ending : Result Bool Fault) × (result.code ≡ status_of ending) × ReportsFault ending E.known err.old err.new
-        × ((ending ≡ Err Fault.Words) ⊎ (ending ≡ Err Fault.NoMemory)) × (dock.new ≡ dock.old) × (out.new ≡ out.old) }
+        → (ending : Result Bool PathsFault) × (result.code ≡ status_of ending) × ReportsFault ending E.known err.old err.new
+        × ((ending ≡ Err PathsFault.Words) ⊎ (ending ≡ Err PathsFault.NoMemory)) × (dock.new ≡ dock.old) × (out.new ≡ out.old) }
     // 2: the words ask for nothing.
     ensures words { result.code ≡ 2 → AsksForNothing (map string_bytes words.now) }
     // 5: the count of faults of out rose, by one; else it stayed.
@@ -67,9 +67,9 @@ where
 /// status.
 pub fn no_memory<E: Sink>(err: &mut E) -> Status
     ensures status { result.code ≡ 1 }
-    ensures line { WritesLine (fault_line Fault.NoMemory) E.known err.old err.new }
+    ensures line { WritesLine (fault_line PathsFault.NoMemory) E.known err.old err.new }
 {
-    Fault::NoMemory.report(err)
+    PathsFault::NoMemory.report(err)
 }
 
 fn execute<R: Threads + Wait + Sync, O: Sink, D: Dock>(
@@ -78,33 +78,33 @@ fn execute<R: Threads + Wait + Sync, O: Sink, D: Dock>(
     words: &[String],
     out: &mut O,
     dock: &mut D,
-) -> Result<bool, Fault>
+) -> Result<bool, PathsFault>
 where
     D::L: Link + Send,
-    ensures runs { (request : Request) → IsPathsLine (map string_bytes words.now) request
+    ensures runs { (request : PathsRequest) → IsPathsLine (map string_bytes words.now) request
         → RunsPaths request result D.known dock.old dock.new O.known out.old out.new }
     ensures nothing { AsksForNothing (map string_bytes words.now)
-        → ((result ≡ Err Fault.Words) ⊎ (result ≡ Err Fault.NoMemory)) × (dock.new ≡ dock.old) × (out.new ≡ out.old) }
-    ensures words { result ≡ Err Fault.Words → AsksForNothing (map string_bytes words.now) }
-    ensures write { HasCause (O.known out.old) (O.known out.new) (result ≡ Err Fault.Write) }
+        → ((result ≡ Err PathsFault.Words) ⊎ (result ≡ Err PathsFault.NoMemory)) × (dock.new ≡ dock.old) × (out.new ≡ out.old) }
+    ensures words { result ≡ Err PathsFault.Words → AsksForNothing (map string_bytes words.now) }
+    ensures write { HasCause (O.known out.old) (O.known out.new) (result ≡ Err PathsFault.Write) }
 {
     match read_paths(alloc, words) {
         Ok(request) => run_request(rt, alloc, &request, out, dock),
-        Err(WordsFault::Words) => Err(Fault::Words),
-        Err(WordsFault::NoMemory) => Err(Fault::NoMemory),
+        Err(WordsFault::Words) => Err(PathsFault::Words),
+        Err(WordsFault::NoMemory) => Err(PathsFault::NoMemory),
     }
 }
 
 fn run_request<R: Threads + Wait + Sync, O: Sink, D: Dock>(
     rt: &R,
     alloc: Global,
-    request: &Request,
+    request: &PathsRequest,
     out: &mut O,
     dock: &mut D,
-) -> Result<bool, Fault>
+) -> Result<bool, PathsFault>
 where
     D::L: Link + Send,
-    requires { IsInRange request.now }
+    requires { IsPathsRequestInRange request.now }
     ensures { PathsRun request.now result D.known dock.old dock.new O.known out.old out.new }
 {
     let blank = Blank::new(request.addresses.len() as u64);
@@ -117,28 +117,28 @@ fn run_links<G: Road + Send + Sync, R: Threads + Wait + Sync, D: Dock>(
     rt: &R,
     alloc: Global,
     blank: Blank,
-    request: &Request,
+    request: &PathsRequest,
     dock: &mut D,
-) -> Result<Ending, Fault>
+) -> Result<Ending, PathsFault>
 where
     D::L: Link + Send,
     requires blank { (blank.name ≡ G.name) × (blank.parts ≡ G.parts) × (G.parts ≡ length request.now.addresses) }
-    requires settings { settings_in request.now ≡ settings_of G.window G.reach G.first G.frames }
-    requires range { IsInRange request.now }
+    requires options { settings_in request.now ≡ settings_of G.window G.reach G.first G.frames }
+    requires range { IsPathsRequestInRange request.now }
     ensures { RunsLinks request.now D.L.known result (D.known dock.old) (D.known dock.new) }
 {
-    let settings = Settings {
+    let options = JournalOptions {
         window: request.window,
         reach: request.reach,
         first: request.first,
         frames: request.frames,
     };
-    let (shared, paths) = open_paths::<G>(alloc, blank, settings, request.addresses.len() as u8)?;
+    let (shared, paths) = open_paths::<G>(alloc, blank, options, request.addresses.len() as u8)?;
     let seats = seats_of(alloc, paths)?;
     let room = room_for(alloc, &request.addresses)?;
     match open_links(alloc, room, seats, &request.addresses, dock) {
-        Ok(jobs) => read_links(rt, alloc, request, shared, dock, jobs),
-        Err(_) => Err(Fault::Link),
+        Ok(receivers) => read_links(rt, alloc, request, shared, dock, receivers),
+        Err(_) => Err(PathsFault::Link),
     }
 }
 
@@ -146,22 +146,22 @@ where
 fn read_links<G: Road + Send + Sync, R: Threads + Wait + Sync, D: Dock>(
     rt: &R,
     alloc: Global,
-    request: &Request,
+    request: &PathsRequest,
     shared: Shared<G>,
     dock: &mut D,
-    mut jobs: Vec<PathJob<G, D::L>>,
-) -> Result<Ending, Fault>
+    mut receivers: Vec<PathReceiver<G, D::L>>,
+) -> Result<Ending, PathsFault>
 where
     D::L: Link + Send,
-    requires settings { settings_in request.now ≡ settings_of G.window G.reach G.first G.frames }
-    requires range { IsInRange request.now }
-    requires new { HaveNewPaths jobs.items }
-    requires buffers { All (λ job. vec_len job.buffer ≡ 65536) jobs.items }
-    requires at_least_one { 0 < vec_len jobs }
-    requires parts { G.parts ≡ vec_len jobs }
-    requires same_count { vec_len jobs ≡ length request.now.addresses }
-    ensures ends { EndsLinks request.now D.L.known (map (λ job. job.link) jobs.items) result }
-    ensures closed { ReadsAndCloses request.now D.L.known (map (λ job. job.link) jobs.items) result
+    requires options { settings_in request.now ≡ settings_of G.window G.reach G.first G.frames }
+    requires range { IsPathsRequestInRange request.now }
+    requires new { HaveNewPaths receivers.items }
+    requires buffers { All (λ receiver. vec_len receiver.buffer ≡ 65536) receivers.items }
+    requires at_least_one { 0 < vec_len receivers }
+    requires parts { G.parts ≡ vec_len receivers }
+    requires same_count { vec_len receivers ≡ length request.now.addresses }
+    ensures ends { EndsLinks request.now D.L.known (map (λ receiver. receiver.link) receivers.items) result }
+    ensures closed { ReadsAndCloses request.now D.L.known (map (λ receiver. receiver.link) receivers.items) result
         (D.known dock.old) (D.known dock.new) }
     ensures cause { (D.known dock.new).faults ≡ (D.known dock.old).faults }
 {
@@ -169,30 +169,30 @@ where
         idle: request.idle,
         limit: request.limit,
     };
-    run_all(rt, alloc, &shared, &options, jobs.as_mut_slice());
-    let failed = some_failed(jobs.as_slice());
-    let ran_out = some_ran_out(jobs.as_slice());
-    let handed = close_links(alloc, dock, &request.addresses, jobs);
+    run_all(rt, alloc, &shared, &options, receivers.as_mut_slice());
+    let failed = some_failed(receivers.as_slice());
+    let ran_out = some_ran_out(receivers.as_slice());
+    let handed = close_links(alloc, dock, &request.addresses, receivers);
     if failed {
-        return Err(Fault::Link);
+        return Err(PathsFault::Link);
     }
     if ran_out {
-        return Err(Fault::NoMemory);
+        return Err(PathsFault::NoMemory);
     }
     let paths = handed?;
     closed(close_paths(alloc, shared, paths))
 }
 
 // How a run ends that is closed so.
-fn closed(closed: Closed) -> Result<Ending, Fault>
+fn closed(closed: Closed) -> Result<Ending, PathsFault>
     ensures { result ≡ ending_of closed }
 {
     match closed {
         Closed::Whole(ending) => Ok(ending),
-        Closed::Differ(difference) => Err(Fault::Differs {
+        Closed::Differ(difference) => Err(PathsFault::Differs {
             path: difference.path,
             at: difference.at,
         }),
-        Closed::NoMemory => Err(Fault::NoMemory),
+        Closed::NoMemory => Err(PathsFault::NoMemory),
     }
 }

@@ -9,7 +9,7 @@ use text_output::{Piece, write_pieces};
 
 /// A fault of a run. Each has a status and a line.
 #[derive(Clone, Copy, Debug, PartialEq, Eq)]
-pub enum Fault {
+pub enum PathsFault {
     NoMemory,
     /// The words are no command line.
     Words,
@@ -21,29 +21,29 @@ pub enum Fault {
     Differs { path: u8, at: u64 },
 }
 
-impl From<NoMemory> for Fault {
+impl From<NoMemory> for PathsFault {
     ghost use Rattle.std.specs.Prelude.{◌≡◌};
-    ghost use Rattle.cmd_paths.specs.declared.fault.Fault.TheVariants as faults;
+    ghost use Rattle.cmd_paths.specs.declared.fault.PathsFault.TheVariants as faults;
 
     ghost from_gives = { λ _ fault. fault ≡ faults.NoMemory };
 
     fn from(_: NoMemory) -> Self {
-        Fault::NoMemory
+        PathsFault::NoMemory
     }
 }
 
-impl From<WriteFault> for Fault {
+impl From<WriteFault> for PathsFault {
     ghost use Rattle.std.specs.Prelude.{◌≡◌};
-    ghost use Rattle.cmd_paths.specs.declared.fault.Fault.TheVariants.{Write};
+    ghost use Rattle.cmd_paths.specs.declared.fault.PathsFault.TheVariants.{Write};
 
     ghost from_gives = { λ _ fault. fault ≡ Write };
 
     fn from(_: WriteFault) -> Self {
-        Fault::Write
+        PathsFault::Write
     }
 }
 
-impl Fault {
+impl PathsFault {
     ghost use Rattle.cmd_faults.specs.Fault.{WritesLine};
     ghost use Rattle.cmd_paths.specs.Faults.{fault_status, fault_line};
 
@@ -60,11 +60,11 @@ impl Fault {
         ensures { result.code ≡ fault_status self }
     {
         let code = match self {
-            Fault::NoMemory => 1,
-            Fault::Words => 2,
-            Fault::Write => 5,
-            Fault::Link => 6,
-            Fault::Differs { .. } => 8,
+            PathsFault::NoMemory => 1,
+            PathsFault::Words => 2,
+            PathsFault::Write => 5,
+            PathsFault::Link => 6,
+            PathsFault::Differs { .. } => 8,
         };
         Status { code }
     }
@@ -73,11 +73,11 @@ impl Fault {
         ensures { WritesWhole result (E.known err.old) (E.known err.new) (fault_line self) }
     {
         match self {
-            Fault::NoMemory => write_words(err, "drmpaths: no memory\n"),
-            Fault::Words => write_words(err, "drmpaths: words\n"),
-            Fault::Write => write_words(err, "drmpaths: write fault\n"),
-            Fault::Link => write_words(err, "drmpaths: link fault\n"),
-            Fault::Differs { path, at } => write_pieces(
+            PathsFault::NoMemory => write_words(err, "drmpaths: no memory\n"),
+            PathsFault::Words => write_words(err, "drmpaths: words\n"),
+            PathsFault::Write => write_words(err, "drmpaths: write fault\n"),
+            PathsFault::Link => write_words(err, "drmpaths: link fault\n"),
+            PathsFault::Differs { path, at } => write_pieces(
                 err,
                 &[
                     Piece::Words("drmpaths: path "),

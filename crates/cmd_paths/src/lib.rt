@@ -4,8 +4,8 @@
 
 mod command;
 mod fault;
-mod job;
 mod open;
+mod receiver;
 
 pub use command::{no_memory, run_paths};
-pub use fault::Fault;
+pub use fault::PathsFault;

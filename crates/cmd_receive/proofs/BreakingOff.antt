@@ -11,10 +11,10 @@ use Rattle.recv_reading.proofs.OneReading.{finished_whole}
 use Rattle.link_group.proofs.BindLemmas.{found_once, is_found}
 
 -- a link that gives a report neither fails to open nor breaks off
-pub report_whole : (rules : ReceiveOptions) (told : DockContents) (k number : ℕ) (at : Address) (start : LinkStart) (r : Report) → OpeningFinds told k at start → IsReportOf rules number start.ahead r
-    → FindsNone told k at ⊎ ((other : LinkStart) × OpeningFinds told k at other × BreaksOff rules other.ahead) → ⊥
-report_whole rules told k number at start r finds report (inl none) = is_found told k at start finds none
-report_whole rules told k number at start r finds report (inr (other, found, breaks)) =
-    let same : other ≡ start = found_once told k at other start found finds in
+pub report_whole : (rules : ReceiveOptions) (contents : DockContents) (k number : ℕ) (at : Address) (start : LinkStart) (r : Report) → OpeningFinds contents k at start → IsReportOf rules number start.ahead r
+    → FindsNone contents k at ⊎ ((other : LinkStart) × OpeningFinds contents k at other × BreaksOff rules other.ahead) → ⊥
+report_whole rules contents k number at start r finds report (inl none) = is_found contents k at start finds none
+report_whole rules contents k number at start r finds report (inr (other, found, breaks)) =
+    let same : other ≡ start = found_once contents k at other start found finds in
     finished_whole rules start.ahead report.rest breaks.rest report.answers breaks.before breaks.answers report.is.word report.next
     (subst (λ s. AreNext s.ahead breaks.answers breaks.rest) same breaks.next) report.is.reading breaks.reading

@@ -2,11 +2,11 @@
 use Rattle.std.proofs.Common.{◌≡◌, ℕ, ◌≤◌, ◌⊎◌, inl, inr, Bool, List, [], ◌∷◌, ◌++◌, map, length, Result, Ok, Err, refl, sym, subst, arith}
 use Rattle.std.specs.Prelude.{All}
 use Rattle.std.specs.List.{concat}
-use Rattle.drm_links.specs.Told.{Known}
+use Rattle.drm_links.specs.Known.{Known}
 use Rattle.drm_links.specs.Link.{Answer, Datagram, End}
-use Rattle.drm_links.specs.Source.{Input, Inputs}
+use Rattle.drm_links.specs.Source.{Input, InputsBytes}
 use Rattle.drm_links.specs.Sink.{Output}
-use Rattle.drm_links.proofs.ToldLemmas.{Inputs-nothing, Inputs-weaker}
+use Rattle.drm_links.proofs.KnownLemmas.{InputsBytes-nothing, InputsBytes-weaker}
 use Rattle.capture_reader.specs.declared.packets.CaptureStop.{CaptureStop}
 use Rattle.capture_reader.specs.declared.packets.CaptureStop.TheVariants as stops
 use Rattle.capture_reader.specs.Front.{IsWhole}
@@ -14,23 +14,23 @@ use Rattle.capture_reader.specs.Capture as capture
 use Rattle.capture_reader.specs.Laws.{ReadSomeWay}
 use Rattle.capture_reader.specs.Reading.{ReadingBreaks}
 use Rattle.recv_reading.specs.declared.options.ReceiveOptions.{ReceiveOptions}
-use Rattle.recv_report.specs.declared.capture.Unfinished.{Unfinished}
-use Rattle.recv_report.specs.declared.capture.Unfinished.TheVariants as unfinished
+use Rattle.recv_report.specs.declared.capture.CaptureReportError.{CaptureReportError}
+use Rattle.recv_report.specs.declared.capture.CaptureReportError.TheVariants as unfinished
 use Rattle.drm_links.specs.Hearing.{AreNext}
 use Rattle.recv_reading.specs.Ending.{most_answers}
 use Rattle.recv_reading.specs.Options.{AreInRange}
-use Rattle.recv_report.specs.Received.{Reported, Broken, Stopped}
+use Rattle.recv_report.specs.Received.{ReportWritten, ReportBroken, ReportStopped}
 use Rattle.recv_report.specs.Captures.{EndsReceiving}
 use Rattle.recv_reading.specs.Source.{answers_of, BytesBring, HeardOf, HeardUntil}
 use Rattle.recv_report.specs.Following.{HeadlinesFollow, CompletesFollow}
-use Rattle.recv_report.proofs.JobLemmas.{report_ahead}
+use Rattle.recv_report.proofs.ReceiverLemmas.{report_ahead}
 use Rattle.cmd_faults.specs.declared.fault.Fault.{Fault}
 use Rattle.cmd_faults.specs.declared.fault.Fault.TheVariants as faults
 use Rattle.cmd_faults.specs.Captures.{EndsEarly}
 use Rattle.cmd_faults.proofs.CauseLemmas.{inner_fault}
 use Rattle.cmd_receive.specs.Capture.{BreaksOffBy, CaptureReportEnds, WritesReport}
 use Rattle.cmd_receive.specs.Stopping.{ending_captured}
-use Rattle.law_capture.proofs.CaptureFronts.{packets_front}
+use Rattle.law_capture.proofs.CapturePrefixes.{packets_front}
 use Rattle.cmd_receive.proofs.CaptureStatus.{Says}
 use Rattle.cmd_receive.proofs.ReceiveLemmas.{no_fault}
 
@@ -43,12 +43,12 @@ Begin left answers =
     × (((more : List ℕ) × All IsWhole packets × (left ≡ concat packets ++ more) × (length (concat packets) ≤ capture.most_bytes) × (answers ≡ map Datagram packets))
     ⊎ (capture.IsCaptureOf left packets capture.End × (answers ≡ map Datagram packets ++ End ∷ [])))
 
-began : (before after : Known Input) (answers : List Answer) → HeardOf before after answers → Inputs before after (λ left rest. Begin left answers)
+began : (before after : Known Input) (answers : List Answer) → HeardOf before after answers → InputsBytes before after (λ left rest. Begin left answers)
 began before after answers (reader, (packets, inl (read, are))) =
-    Inputs-weaker (λ left rest. left ≡ concat packets ++ (reader.held ++ rest)) (λ left rest. Begin left answers) before after read.bytes
+    InputsBytes-weaker (λ left rest. left ≡ concat packets ++ (reader.held ++ rest)) (λ left rest. Begin left answers) before after read.bytes
     (λ left rest is. (packets, inl (reader.held ++ rest, read.whole, is, (let at = read.at in let few = read.few in omega (arith, at, few)), are)))
 began before after answers (reader, (packets, inr (ended, are))) =
-    Inputs-weaker (λ left rest. capture.IsCaptureOf left packets capture.End) (λ left rest. Begin left answers) before after ended (λ left rest is. (packets, inr (is, are)))
+    InputsBytes-weaker (λ left rest. capture.IsCaptureOf left packets capture.End) (λ left rest. Begin left answers) before after ended (λ left rest is. (packets, inr (is, are)))
 
 next_packets : (packets later : List (List ℕ)) (ending : capture.Ending) → AreNext (answers_of (packets ++ later) ending) (map Datagram packets) (answers_of later ending)
 next_packets [] later ending = refl
@@ -78,32 +78,32 @@ next_of some left answers (packets, inr (of, are)) = (
 -- ---- what was written
 
 -- these answers and no others were heard
-abbrev Alone : List Answer → List Answer → Type 0
-Alone answers others = others ≡ answers
+abbrev AreExactly : List Answer → List Answer → Type 0
+AreExactly answers others = others ≡ answers
 
 alone_next : (rules : ReceiveOptions) (ahead answers later : List Answer) → AreNext ahead answers later
-    → (others : List Answer) → Alone answers others → length others ≤ most_answers rules → (rest : List Answer) × AreNext ahead others rest
+    → (others : List Answer) → AreExactly answers others → length others ≤ most_answers rules → (rest : List Answer) × AreNext ahead others rest
 alone_next rules ahead answers later next others same few = (later, subst (λ l. AreNext ahead l later) (sym same) next)
 
 module _ {O : Type 0} (rules : ReceiveOptions) (valid : AreInRange rules) (headlines : HeadlinesFollow) (completes : CompletesFollow) (some : ReadSomeWay)
     (before after : Known Input) (known : O → Known Output) (out out' : O) where
-  reported : (clean : Bool) → Reported rules 1 (HeardOf before after) (known out) (known out') clean → Inputs before after (λ left rest. WritesReport rules left clean known out out')
+  reported : (clean : Bool) → ReportWritten rules 1 (HeardOf before after) (known out) (known out') clean → InputsBytes before after (λ left rest. WritesReport rules left clean known out out')
   reported clean r =
-      let alone : Reported rules 1 (Alone r.answers) (known out) (known out') clean = record { answers = r.answers; heard = refl; few = r.few; at_once = r.at_once; whole = r.whole; is = r.is; text = r.text } in
-      Inputs-weaker (λ left rest. Begin left r.answers) (λ left rest. WritesReport rules left clean known out out') before after (began before after r.answers r.heard)
+      let alone : ReportWritten rules 1 (AreExactly r.answers) (known out) (known out') clean = record { answers = r.answers; heard = refl; few = r.few; at_once = r.at_once; whole = r.whole; is = r.is; text = r.text } in
+      InputsBytes-weaker (λ left rest. Begin left r.answers) (λ left rest. WritesReport rules left clean known out out') before after (began before after r.answers r.heard)
       (λ left rest begins.
       let (ahead, brings, later, next) = next_of some left r.answers begins in
-      let (report, is, text, same) = report_ahead rules 1 ahead (Alone r.answers) (known out) (known out') (alone_next rules ahead r.answers later next) headlines completes valid.some_window clean alone in
+      let (report, is, text, same) = report_ahead rules 1 ahead (AreExactly r.answers) (known out) (known out') (alone_next rules ahead r.answers later next) headlines completes valid.some_window clean alone in
       (ahead, brings, report, is, text, same))
 
   -- a reading that stopped was one of these bytes
   abbrev Quiet : Type 0
-  Quiet = Inputs before after (λ left rest. Unit {0})
+  Quiet = InputsBytes before after (λ left rest. Unit {0})
 
-  stopped : Stopped rules 1 (HeardOf before after) (known out) (known out') → Quiet
-  stopped r = Inputs-weaker (λ left rest. Begin left r.answers) (λ left rest. Unit {0}) before after (began before after r.answers r.heard) (λ left rest begins. tt)
+  stopped : ReportStopped rules 1 (HeardOf before after) (known out) (known out') → Quiet
+  stopped r = InputsBytes-weaker (λ left rest. Begin left r.answers) (λ left rest. Unit {0}) before after (began before after r.answers r.heard) (λ left rest begins. tt)
 
-  breaks : (stop : CaptureStop) (ending : capture.Ending) (left : List ℕ) (r : Broken rules 1 (HeardUntil stop before after) (known out) (known out')) → capture.IsCaptureOf left r.heard.0 ending → answers_of r.heard.0 ending ≡ r.answers → BreaksOffBy rules left ending
+  breaks : (stop : CaptureStop) (ending : capture.Ending) (left : List ℕ) (r : ReportBroken rules 1 (HeardUntil stop before after) (known out) (known out')) → capture.IsCaptureOf left r.heard.0 ending → answers_of r.heard.0 ending ≡ r.answers → BreaksOffBy rules left ending
   breaks stop ending left r is are = record {
     packets = r.heard.0;
     is = is;
@@ -116,27 +116,27 @@ module _ {O : Type 0} (rules : ReceiveOptions) (valid : AreInRange rules) (headl
     };
   }
 
-  broken : (stop : CaptureStop) → Broken rules 1 (HeardUntil stop before after) (known out) (known out')
-      → Inputs before after (λ left rest. Says rules left (ending_captured (Err (unfinished.Stopped stop))) known out out')
-  broken stops.Read r = Inputs-weaker (ReadingBreaks r.heard.0) (λ left rest. Unit {0}) before after r.heard.2 (λ left rest is. tt)
+  broken : (stop : CaptureStop) → ReportBroken rules 1 (HeardUntil stop before after) (known out) (known out')
+      → InputsBytes before after (λ left rest. Says rules left (ending_captured (Err (unfinished.Stopped stop))) known out out')
+  broken stops.Read r = InputsBytes-weaker (ReadingBreaks r.heard.0) (λ left rest. Unit {0}) before after r.heard.2 (λ left rest is. tt)
   broken (stops.Capture fault) r =
-      Inputs-weaker (λ left rest. capture.IsCaptureOf left r.heard.0 (capture.Fault fault)) (λ left rest. BreaksOffBy rules left (capture.Fault fault)) before after r.heard.2
+      InputsBytes-weaker (λ left rest. capture.IsCaptureOf left r.heard.0 (capture.Fault fault)) (λ left rest. BreaksOffBy rules left (capture.Fault fault)) before after r.heard.2
       (λ left rest is. breaks (stops.Capture fault) (capture.Fault fault) left r is (sym r.heard.3))
   broken stops.TooLong r =
-      Inputs-weaker (λ left rest. capture.IsCaptureOf left r.heard.0 capture.TooLong) (λ left rest. BreaksOffBy rules left capture.TooLong) before after r.heard.2
+      InputsBytes-weaker (λ left rest. capture.IsCaptureOf left r.heard.0 capture.TooLong) (λ left rest. BreaksOffBy rules left capture.TooLong) before after r.heard.2
       (λ left rest is. breaks stops.TooLong capture.TooLong left r is (sym r.heard.3))
 
-  pub written : (result : Result Bool Unfinished) → EndsReceiving rules before after (known out) (known out') result
-      → Inputs before after (λ left rest. Says rules left (ending_captured result) known out out')
+  pub written : (result : Result Bool CaptureReportError) → EndsReceiving rules before after (known out) (known out') result
+      → InputsBytes before after (λ left rest. Says rules left (ending_captured result) known out out')
   written (Ok clean) ends = reported clean ends
   written (Err (unfinished.Stopped stop)) ends = broken stop ends
   written (Err unfinished.Write) ends = stopped ends
   written (Err unfinished.NoMemory) ends =
-      subst (λ (now : Known Input). Inputs before now (λ left rest. Unit {0})) (sym ends.0) (Inputs-nothing (λ left rest. Unit {0}) before (λ left. tt))
+      subst (λ (now : Known Input). InputsBytes before now (λ left rest. Unit {0})) (sym ends.0) (InputsBytes-nothing (λ left rest. Unit {0}) before (λ left. tt))
 
 -- ---- by what it ended
 
-pub ended_as : (rules : ReceiveOptions) (before after : Known Input) (a b : Known Output) (received : Result Bool Unfinished) → EndsReceiving rules before after a b received → CaptureReportEnds rules (ending_captured received) before after a b
+pub ended_as : (rules : ReceiveOptions) (before after : Known Input) (a b : Known Output) (received : Result Bool CaptureReportError) → EndsReceiving rules before after a b received → CaptureReportEnds rules (ending_captured received) before after a b
 ended_as rules before after a b (Ok clean) ends = ends
 ended_as rules before after a b (Err (unfinished.Stopped stops.Read)) ends = ends
 ended_as rules before after a b (Err (unfinished.Stopped (stops.Capture why))) ends = ends
@@ -144,7 +144,7 @@ ended_as rules before after a b (Err (unfinished.Stopped stops.TooLong)) ends = 
 ended_as rules before after a b (Err unfinished.Write) ends = ends
 ended_as rules before after a b (Err unfinished.NoMemory) ends = ends
 
-pub ended_early : (received : Result Bool Unfinished) (fault : Fault) → ending_captured received ≡ Err fault → EndsEarly fault
+pub ended_early : (received : Result Bool CaptureReportError) (fault : Fault) → ending_captured received ≡ Err fault → EndsEarly fault
 ended_early (Ok clean) fault is = absurd (no_fault clean fault is)
 ended_early (Err (unfinished.Stopped stops.Read)) fault is = subst EndsEarly (inner_fault faults.Read fault is) tt
 ended_early (Err (unfinished.Stopped (stops.Capture why))) fault is = subst EndsEarly (inner_fault (faults.Capture why) fault is) tt
@@ -152,7 +152,7 @@ ended_early (Err (unfinished.Stopped stops.TooLong)) fault is = subst EndsEarly 
 ended_early (Err unfinished.Write) fault is = subst EndsEarly (inner_fault faults.Write fault is) tt
 ended_early (Err unfinished.NoMemory) fault is = subst EndsEarly (inner_fault faults.NoMemory fault is) tt
 
-pub ended_memory : (received : Result Bool Unfinished) → ending_captured received ≡ Err faults.NoMemory → received ≡ Err unfinished.NoMemory
+pub ended_memory : (received : Result Bool CaptureReportError) → ending_captured received ≡ Err faults.NoMemory → received ≡ Err unfinished.NoMemory
 ended_memory (Ok clean) is = absurd (no_fault clean faults.NoMemory is)
 ended_memory (Err (unfinished.Stopped stops.Read)) is = absurd (let one : faults.Read ≡ faults.NoMemory = inner_fault faults.Read faults.NoMemory is in cc)
 ended_memory (Err (unfinished.Stopped (stops.Capture why))) is = absurd (let one : faults.Capture why ≡ faults.NoMemory = inner_fault (faults.Capture why) faults.NoMemory is in cc)
@@ -160,7 +160,7 @@ ended_memory (Err (unfinished.Stopped stops.TooLong)) is = absurd (let one : fau
 ended_memory (Err unfinished.Write) is = absurd (let one : faults.Write ≡ faults.NoMemory = inner_fault faults.Write faults.NoMemory is in cc)
 ended_memory (Err unfinished.NoMemory) is = refl
 
-pub ended_read : (received : Result Bool Unfinished) → ending_captured received ≡ Err faults.Read → received ≡ Err (unfinished.Stopped stops.Read)
+pub ended_read : (received : Result Bool CaptureReportError) → ending_captured received ≡ Err faults.Read → received ≡ Err (unfinished.Stopped stops.Read)
 ended_read (Ok clean) is = absurd (no_fault clean faults.Read is)
 ended_read (Err (unfinished.Stopped stops.Read)) is = refl
 ended_read (Err (unfinished.Stopped (stops.Capture why))) is = absurd (let one : faults.Capture why ≡ faults.Read = inner_fault (faults.Capture why) faults.Read is in cc)
@@ -168,7 +168,7 @@ ended_read (Err (unfinished.Stopped stops.TooLong)) is = absurd (let one : fault
 ended_read (Err unfinished.Write) is = absurd (let one : faults.Write ≡ faults.Read = inner_fault faults.Write faults.Read is in cc)
 ended_read (Err unfinished.NoMemory) is = absurd (let one : faults.NoMemory ≡ faults.Read = inner_fault faults.NoMemory faults.Read is in cc)
 
-pub ended_write : (received : Result Bool Unfinished) → ending_captured received ≡ Err faults.Write → received ≡ Err unfinished.Write
+pub ended_write : (received : Result Bool CaptureReportError) → ending_captured received ≡ Err faults.Write → received ≡ Err unfinished.Write
 ended_write (Ok clean) is = absurd (no_fault clean faults.Write is)
 ended_write (Err (unfinished.Stopped stops.Read)) is = absurd (let one : faults.Read ≡ faults.Write = inner_fault faults.Read faults.Write is in cc)
 ended_write (Err (unfinished.Stopped (stops.Capture why))) is = absurd (let one : faults.Capture why ≡ faults.Write = inner_fault (faults.Capture why) faults.Write is in cc)

@@ -1,10 +1,10 @@
 -- The run of `receive` without addresses.
 use Rattle.std.proofs.Common.{◌≡◌, ℕ, ◌↔◌, inl, inr, Bool, true, IsTrue, List, Result, Ok, Err, refl, sym, ◌∙◌, ap, ap₂, subst}
-use Rattle.drm_links.specs.Told.{Known, HasCause}
+use Rattle.drm_links.specs.Known.{Known, HasCause}
 use Rattle.drm_links.specs.Link.{Answer}
-use Rattle.drm_links.specs.Source.{Input, Inputs}
+use Rattle.drm_links.specs.Source.{Input, InputsBytes}
 use Rattle.drm_links.specs.Sink.{Output}
-use Rattle.drm_links.proofs.ToldLemmas.{Inputs-weaker}
+use Rattle.drm_links.proofs.KnownLemmas.{InputsBytes-weaker}
 use Rattle.capture_reader.specs.Capture as capture
 use Rattle.capture_reader.proofs.CaptureLaws.{read_one_way}
 use Rattle.recv_reading.specs.declared.options.ReceiveOptions.{ReceiveOptions}
@@ -106,7 +106,7 @@ module _ {O : Type 0} (rules : ReceiveOptions) (left : List ℕ) (known : O → 
 pub capture_run : NoneBreaksOff → {I O : Type 0} (rules : ReceiveOptions) (ending : Result Bool Fault) (input_known : I → Known Input) (input input' : I) (out_known : O → Known Output) (out out' : O)
     → ((fault : Fault) → ending ≡ Err fault → EndsEarly fault)
     → CaptureReportEnds rules ending (input_known input) (input_known input') (out_known out) (out_known out')
-    → Inputs (input_known input) (input_known input') (λ left _. Says rules left ending out_known out out')
+    → InputsBytes (input_known input) (input_known input') (λ left _. Says rules left ending out_known out out')
     → (ending ≡ Err faults.NoMemory → (input' ≡ input) × (out' ≡ out))
     → HasCause (input_known input) (input_known input') (ending ≡ Err faults.Read)
     → HasCause (out_known out) (out_known out') (ending ≡ Err faults.Write)
@@ -114,16 +114,16 @@ pub capture_run : NoneBreaksOff → {I O : Type 0} (rules : ReceiveOptions) (end
 capture_run law {I} {O} rules ending input_known input input' out_known out out' kind ends writes untouched read_cause write_cause = record {
   kind = kind;
   ends = ends;
-  writes = λ clean is. subst (λ e. Inputs (input_known input) (input_known input') (λ left _. Says rules left e out_known out out')) is writes;
+  writes = λ clean is. subst (λ e. InputsBytes (input_known input) (input_known input') (λ left _. Says rules left e out_known out out')) is writes;
   untouched = untouched;
   exactly = λ no_read no_write.
-      Inputs-weaker Writes (λ left rest. UnlessMemory ending ((why : capture.Ending) → EndsByIt ending why ↔ BreaksOffBy rules left why)) (input_known input) (input_known input') writes
+      InputsBytes-weaker Writes (λ left rest. UnlessMemory ending ((why : capture.Ending) → EndsByIt ending why ↔ BreaksOffBy rules left why)) (input_known input) (input_known input') writes
       (λ left rest wrote. exact_by rules left out_known out out' ending kind wrote no_read no_write);
   complete = λ reads goes.
-      Inputs-weaker Writes (λ left rest. ((why : capture.Ending) → BreaksOffBy rules left why → ⊥) → UnlessMemory ending (WroteReport rules left ending out_known out out')) (input_known input) (input_known input') writes
+      InputsBytes-weaker Writes (λ left rest. ((why : capture.Ending) → BreaksOffBy rules left why → ⊥) → UnlessMemory ending (WroteReport rules left ending out_known out out')) (input_known input) (input_known input') writes
       (λ left rest wrote none. whole_by rules left out_known out out' ending kind wrote (λ is. reads (read_cause.once is)) (λ is. goes (write_cause.once is)) none);
   in_time = λ reads goes.
-      Inputs-weaker Writes (λ left rest. (ahead : List Answer) → BytesBring left ahead → IsInTimeAhead rules ahead → UnlessMemory ending (ending ≡ Ok true)) (input_known input) (input_known input') writes
+      InputsBytes-weaker Writes (λ left rest. (ahead : List Answer) → BytesBring left ahead → IsInTimeAhead rules ahead → UnlessMemory ending (ending ≡ Ok true)) (input_known input) (input_known input') writes
       (λ left rest wrote ahead brings time. clean_by rules left out_known out out' ending ahead brings time
       (whole_by rules left out_known out out' ending kind wrote (λ is. reads (read_cause.once is)) (λ is. goes (write_cause.once is)) (never_breaks rules left out_known out out' law ahead brings time)));
   read_cause = read_cause;

@@ -1,10 +1,10 @@
 -- Openings for receivers: nothing is sent, and the fault by which they end.
 use Rattle.std.proofs.Common.{◌≡◌, ℕ, inl, inr, Bool, List, take, Result, Err, sym, ◌∙◌, ap, arith}
-use Rattle.drm_links.specs.Told.{RisesWhere, Known, IfBothKnown, KnownThrough}
+use Rattle.drm_links.specs.Known.{RisesWhere, Known, IfBothKnown, KnownThrough}
 use Rattle.drm_links.specs.Sink.{Output}
 use Rattle.drm_links.specs.Dock.{DockContents, after_failure, after_openings}
 use Rattle.drm_links.specs.declared.dock.Address.{Address}
-use Rattle.drm_links.proofs.ToldLemmas.{counts_as, counts_then}
+use Rattle.drm_links.proofs.KnownLemmas.{counts_as, counts_then}
 use Rattle.link_group.specs.Reaching.{NothingSent, nothing, with_none}
 use Rattle.link_group.proofs.OpeningLemmas.{docks_while, openings_gone}
 use Rattle.cmd_faults.specs.declared.fault.Fault.{Fault}
@@ -20,13 +20,13 @@ opens_gone : {O : Type 0} (rules : ReceiveOptions) (addresses : List Address) (e
 opens_gone rules addresses ending known out out' x y (inl hears) = (addresses, hears_nothing_gone (ReadsBy rules addresses ending known out out') addresses x y hears)
 opens_gone rules addresses ending known out out' x y (inr (inl (link, few))) = (
   take few.k addresses,
-  ap (λ (d : DockContents). d.gone) few.told
+  ap (λ (d : DockContents). d.gone) few.contents
       ∙ (none_gone_few few.k addresses (after_failure (after_openings (take few.k addresses) x)) (let within = few.within in omega (arith, within))
       ∙ ap (with_none (take few.k addresses)) (openings_gone (take few.k addresses) x)),
 )
 opens_gone rules addresses ending known out out' x y (inr (inr (memory, stops))) = (
   take stops.k addresses,
-  ap (λ (d : DockContents). d.gone) stops.told
+  ap (λ (d : DockContents). d.gone) stops.contents
       ∙ (none_gone_few stops.k addresses (after_openings (take stops.k addresses) x) stops.within ∙ ap (with_none (take stops.k addresses)) (openings_gone (take stops.k addresses) x)),
 )
 

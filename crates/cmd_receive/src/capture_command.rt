@@ -9,7 +9,7 @@ use capture_reader::read_some_way;
 use cmd_faults::Fault;
 use drm_links::{Sink, Source};
 use recv_reading::ReceiveOptions;
-use recv_report::{Unfinished, in_time_is_unbroken, receive_capture, reports_follow};
+use recv_report::{CaptureReportError, in_time_is_unbroken, receive_capture, reports_follow};
 use std::alloc::Global;
 
 /// Reads a capture from `input` until enough is read, and writes its report as it is read. Answers whether no frame is
@@ -30,13 +30,13 @@ pub fn receive_from_capture<I: Source, O: Sink>(
 }
 
 // How a run ends whose receiver ends so.
-fn captured_ending(received: Result<bool, Unfinished>) -> Result<bool, Fault>
+fn captured_ending(received: Result<bool, CaptureReportError>) -> Result<bool, Fault>
     ensures { result ≡ ending_captured received }
 {
     match received {
         Ok(clean) => Ok(clean),
-        Err(Unfinished::Stopped(stop)) => Err(stop.into()),
-        Err(Unfinished::Write) => Err(Fault::Write),
-        Err(Unfinished::NoMemory) => Err(Fault::NoMemory),
+        Err(CaptureReportError::Stopped(stop)) => Err(stop.into()),
+        Err(CaptureReportError::Write) => Err(Fault::Write),
+        Err(CaptureReportError::NoMemory) => Err(Fault::NoMemory),
     }
 }

@@ -1,13 +1,13 @@
 //! The command `receive` with addresses.
 
 ghost use Rattle.std.specs.Prelude.{◌≡◌, ◌≤◌, List, length, vec_len, vec_capacity, IfOk, IfErr, Err};
-ghost use Rattle.drm_links.specs.Told.{HasCause, CountsCall, KnownThrough, IfBothKnown};
-ghost use Rattle.drm_links.specs.Dock.{DockOpens, Over, Docked, after_openings};
+ghost use Rattle.drm_links.specs.Known.{HasCause, CountsCall, KnownThrough, IfBothKnown};
+ghost use Rattle.drm_links.specs.Dock.{DockOpens, Over, DockKnownThrough, after_openings};
 ghost use Rattle.recv_reading.specs.Options.{AreInRange};
 ghost use Rattle.link_group.specs.Listed.{AreListed};
 ghost use Rattle.link_group.specs.Reaching.{HaveGone, after_closes};
 ghost use Rattle.cmd_receive.specs.Receive.{ReceiveRun};
-ghost use Rattle.recv_report.specs.Jobs.{IsJob, AreJobs};
+ghost use Rattle.recv_report.specs.Receivers.{IsReceiver, AreReceivers};
 ghost use Rattle.cmd_receive.specs.Opening.{HaveLinks, EndsOpening, StopsOpening, members_of};
 ghost use Rattle.cmd_receive.specs.Stopping.{ending_of, ending_live};
 
@@ -15,8 +15,8 @@ use cmd_faults::Fault;
 use drm_links::{Address, Addresses, Dock, Link, Opened, Sink};
 use recv_reading::ReceiveOptions;
 use recv_report::{
-    Ended, Job, Stop, in_time_is_unbroken, reports_follow, run_all, run_live, seat_for, seated,
-    settle,
+    Ended, ReceiveError, Receiver, in_time_is_unbroken, reports_follow, run_all, run_live,
+    seat_for, seated, settle,
 };
 use std::alloc::Global;
 use std::thread::Threads;
@@ -41,24 +41,24 @@ where
 {
     reports_follow();
     in_time_is_unbroken();
-    let mut jobs = open_all(alloc, rules, addresses, dock)?;
+    let mut receivers = open_all(alloc, rules, addresses, dock)?;
     if addresses.len() == 1 {
-        let Some(mut job) = jobs.pop() else {
+        let Some(mut receiver) = receivers.pop() else {
             unreachable!()
         };
-        let ended = run_live(alloc, &mut job, out);
-        let Job { link, .. } = job;
+        let ended = run_live(alloc, &mut receiver, out);
+        let Receiver { link, .. } = receiver;
         dock.close(*addresses.get(0), link);
         return live_ending(ended);
     }
-    run_all(rt, alloc, jobs.as_mut_slice());
-    let settled = settle(jobs.as_slice(), out);
-    close_all(dock, addresses, jobs);
+    run_all(rt, alloc, receivers.as_mut_slice());
+    let settled = settle(receivers.as_slice(), out);
+    close_all(dock, addresses, receivers);
     ending(settled)
 }
 
 // Takes the memory for receivers of these addresses.
-fn room_for<L: Link>(alloc: Global, addresses: &Addresses) -> Result<Vec<Job<L>>, Fault>
+fn room_for<L: Link>(alloc: Global, addresses: &Addresses) -> Result<Vec<Receiver<L>>, Fault>
     ensures none { IfOk result (λ room. vec_len room ≡ 0) }
     ensures capacity { IfOk result (λ room. length addresses.now ≤ vec_capacity room) }
     ensures ends { IfErr result (λ fault. fault ≡ Fault.NoMemory) }
@@ -76,31 +76,31 @@ fn open_all<D: Dock>(
     rules: &ReceiveOptions,
     addresses: &Addresses,
     dock: &mut D,
-) -> Result<Vec<Job<D::L>>, Fault>
+) -> Result<Vec<Receiver<D::L>>, Fault>
     requires rules { AreInRange rules.now }
     requires listed { AreListed addresses.now }
-    ensures same_count { IfOk result (λ jobs. vec_len jobs ≡ length addresses.now) }
-    ensures jobs { IfOk result (λ jobs. AreJobs rules.now (length addresses.now) jobs.items) }
+    ensures same_count { IfOk result (λ receivers. vec_len receivers ≡ length addresses.now) }
+    ensures receivers { IfOk result (λ receivers. AreReceivers rules.now (length addresses.now) receivers.items) }
     ensures opened { IfOk result (λ _. KnownThrough (D.known dock.old) (D.known dock.new)
         (λ before after. after ≡ after_openings addresses.now before)) }
-    ensures links { IfOk result (λ jobs. Docked (D.known dock.old) (D.known dock.new) (λ told.
-        HaveLinks D.L.known told addresses.now jobs.items)) }
+    ensures links { IfOk result (λ receivers. DockKnownThrough (D.known dock.old) (D.known dock.new) (λ contents.
+        HaveLinks D.L.known contents addresses.now receivers.items)) }
     ensures ends { IfErr result EndsOpening }
     ensures stopped { IfErr result (λ fault. KnownThrough (D.known dock.old) (D.known dock.new)
         (StopsOpening addresses.now fault)) }
     ensures cause { HasCause (D.known dock.old) (D.known dock.new) (result ≡ Err Fault.Link) }
 {
-    let mut jobs = room_for(alloc, addresses)?;
+    let mut receivers = room_for(alloc, addresses)?;
     for k in 0..addresses.len() {
         match open_one(alloc, rules, k as u8 + 1, *addresses.get(k), dock) {
-            Ok(job) => jobs.push_reserved(job),
+            Ok(receiver) => receivers.push_reserved(receiver),
             Err(fault) => {
-                close_all(dock, addresses, jobs);
+                close_all(dock, addresses, receivers);
                 return Err(fault);
             }
         }
     }
-    Ok(jobs)
+    Ok(receivers)
 }
 
 // Takes the memory of a receiver, opens the link at its address, and makes it.
@@ -110,15 +110,15 @@ fn open_one<D: Dock>(
     feed: u8,
     at: Address,
     dock: &mut D,
-) -> Result<Job<D::L>, Fault>
+) -> Result<Receiver<D::L>, Fault>
     requires rules { AreInRange rules.now }
-    ensures job { IfOk result (IsJob rules.now feed) }
-    ensures opened { IfOk result (λ job.
-        IfBothKnown (D.known dock.old) (D.known dock.new) (DockOpens D.L.known at (Opened.Link job.link))) }
+    ensures receiver { IfOk result (IsReceiver rules.now feed) }
+    ensures opened { IfOk result (λ receiver.
+        IfBothKnown (D.known dock.old) (D.known dock.new) (DockOpens D.L.known at (Opened.Link receiver.link))) }
     ensures failed { result ≡ Err Fault.Link
         → IfBothKnown (D.known dock.old) (D.known dock.new) (DockOpens D.L.known at Opened.Failed) }
     ensures untouched { result ≡ Err Fault.NoMemory → dock.new ≡ dock.old }
-    ensures told { (result ≡ Err Fault.NoMemory → ⊥)
+    ensures counts_call { (result ≡ Err Fault.NoMemory → ⊥)
         → CountsCall (λ contents. contents.calls) (D.known dock.old) (D.known dock.new) }
     ensures ends { IfErr result EndsOpening }
     ensures cause { HasCause (D.known dock.old) (D.known dock.new) (result ≡ Err Fault.Link) }
@@ -131,15 +131,15 @@ fn open_one<D: Dock>(
 }
 
 // Closes the links of these receivers, in the order of their addresses.
-fn close_all<D: Dock>(dock: &mut D, addresses: &Addresses, jobs: Vec<Job<D::L>>)
-    requires { vec_len jobs ≤ length addresses.now }
+fn close_all<D: Dock>(dock: &mut D, addresses: &Addresses, receivers: Vec<Receiver<D::L>>)
+    requires { vec_len receivers ≤ length addresses.now }
     ensures closed { KnownThrough (D.known dock.old) (D.known dock.new) (λ before after.
-        (overs : List Over) → HaveGone D.L.known (members_of jobs.items) overs → after ≡ after_closes overs addresses.now before) }
+        (overs : List Over) → HaveGone D.L.known (members_of receivers.items) overs → after ≡ after_closes overs addresses.now before) }
     ensures cause { (D.known dock.new).faults ≡ (D.known dock.old).faults }
 {
     let mut k = 0;
-    for job in jobs {
-        let Job { link, .. } = job;
+    for receiver in receivers {
+        let Receiver { link, .. } = receiver;
         dock.close(*addresses.get(k), link);
         k += 1;
     }
@@ -158,13 +158,13 @@ fn live_ending(ended: Ended) -> Result<bool, Fault>
 }
 
 // How a run ends whose receivers end so.
-pub fn ending(stopped: Result<bool, Stop>) -> Result<bool, Fault>
+pub fn ending(stopped: Result<bool, ReceiveError>) -> Result<bool, Fault>
     ensures { result ≡ ending_of stopped }
 {
     match stopped {
         Ok(clean) => Ok(clean),
-        Err(Stop::Link) => Err(Fault::Link),
-        Err(Stop::Write) => Err(Fault::Write),
-        Err(Stop::NoMemory) => Err(Fault::NoMemory),
+        Err(ReceiveError::Link) => Err(Fault::Link),
+        Err(ReceiveError::Write) => Err(Fault::Write),
+        Err(ReceiveError::NoMemory) => Err(Fault::NoMemory),
     }
 }

@@ -1,18 +1,18 @@
 -- Links that were opened, sent over and closed.
 use Rattle.std.proofs.Common.{◌≡◌, ℕ, zero, suc, ◌*◌, ◌<◌, Bool, true, false, List, [], ◌∷◌, map, length, slice_index_or, Result, refl, sym, ◌∙◌, subst, arith}
-use Rattle.drm_links.specs.Told.{Known, KnownThrough}
+use Rattle.drm_links.specs.Known.{Known, KnownThrough}
 use Rattle.drm_links.specs.Link.{Traffic}
 use Rattle.drm_links.specs.Shelf.{Files}
-use Rattle.drm_links.specs.Dock.{DockContents, Over, Docked}
+use Rattle.drm_links.specs.Dock.{DockContents, Over, DockKnownThrough}
 use Rattle.drm_links.specs.declared.dock.Address.{Address}
 use Rattle.drm_links.proofs.Places.{index_of}
 use Rattle.link_group.specs.Reaching.{HaveGone, HaveLinks, AreUp, after_reaches, after_closes}
 use Rattle.link_group.specs.declared.member.Member.{Member}
 use Rattle.link_group.proofs.RunLemmas.{over_each}
 use Rattle.drm_schedule.specs.declared.plan.Plan.{Plan}
-use Rattle.cmd_load.specs.Loading.{Reading}
+use Rattle.cmd_load.specs.Loading.{ShelfReading}
 use Rattle.cmd_faults.specs.declared.fault.Fault.{Fault}
-use Rattle.cmd_serve.specs.Send.{Go, LinksRun}
+use Rattle.cmd_serve.specs.Send.{SentDatagrams, LinksRun}
 use Rattle.cmd_serve.specs.OverLinks.{OverLinks}
 use Rattle.cmd_serve.proofs.OverLinksLemmas.{gone_by}
 
@@ -42,28 +42,28 @@ pub some_down : {L : Type 0} (members : List (Member L)) → (AreUp members → 
 some_down [] none = absurd (none (λ k d within. absurd (omega (arith, within))))
 some_down (m ∷ members) none = down_by m members m.up refl none (some_down members)
 
-module _ {S D L : Type 0} (reading : Reading Plan) (addresses : List Address) (pace from : ℕ) (ending : Result (Unit {0}) Fault) (shelf_known : S → Known Files) (shelf shelf' : S)
+module _ {S D L : Type 0} (reading : ShelfReading Plan) (addresses : List Address) (pace from : ℕ) (ending : Result (Unit {0}) Fault) (shelf_known : S → Known Files) (shelf shelf' : S)
     (dock_known : D → Known DockContents) (dock dock' : D) (opened : Known DockContents) (known : L → Known Traffic) (members members' : List (Member L)) where
   pub links_run : length members ≡ length addresses → OverLinks reading pace from ending shelf_known shelf shelf' known members members'
       → KnownThrough (dock_known dock) opened (λ before after. after ≡ after_reaches addresses before)
-      → Docked (dock_known dock) opened (λ told. HaveLinks known told addresses members)
+      → DockKnownThrough (dock_known dock) opened (λ contents. HaveLinks known contents addresses members)
       → KnownThrough opened (dock_known dock') (λ before after. (overs : List Over) → HaveGone known members' overs → after ≡ after_closes overs addresses before)
       → (dock_known dock').faults ≡ (dock_known dock).faults
       → LinksRun reading addresses pace from ending shelf_known shelf shelf' dock_known dock dock'
   links_run many run opens links closed same =
       let many' : length members' ≡ length addresses = run.many ∙ many in
       record {
-        came = run.came;
+        outcome = run.outcome;
         loads = run.loads;
         sound = run.sound;
         ends = run.ends;
         up = ups members';
-        told = over_each (λ k start over. Go pace (3 * from) run.came (ups members' k) start.sends over.gone over.rests) known addresses members members' many many' (dock_known dock) opened (dock_known dock') opens links
-            (λ k d start within told.
+        contents = over_each (λ k start over. SentDatagrams pace (3 * from) run.outcome (ups members' k) start.sends over.gone over.rests) known addresses members members' many many' (dock_known dock) opened (dock_known dock') opens links
+            (λ k d start within contents.
             let among : k < length members = omega (arith, within, many) in
             let there : k < length members' = omega (arith, within, many') in
-            let made = gone_by (Go pace (3 * from) run.came (slice_index_or members' k d).up) known (slice_index_or members k d).link (slice_index_or members' k d).link start told (run.sent k d among) (run.calls k d among) in
-            (made.0, made.1, subst (λ b. Go pace (3 * from) run.came b start.sends made.0.gone made.0.rests) (up_at members' k d there) made.2, made.3))
+            let made = gone_by (SentDatagrams pace (3 * from) run.outcome (slice_index_or members' k d).up) known (slice_index_or members k d).link (slice_index_or members' k d).link start contents (run.sent k d among) (run.calls k d among) in
+            (made.0, made.1, subst (λ b. SentDatagrams pace (3 * from) run.outcome b start.sends made.0.gone made.0.rests) (up_at members' k d there) made.2, made.3))
             closed;
         failed = (
           λ e. let down = some_down members' (run.failed.0 e) in let less = down.1 in (down.0, omega (arith, less, many'), down.2),

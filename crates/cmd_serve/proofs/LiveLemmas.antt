@@ -1,13 +1,13 @@
 -- A run with live streams is one of the schedule that input makes.
 use Rattle.std.proofs.Common.{◌≡◌, ℕ, ◌+◌, ◌-◌, inl, inr, not, Bool, true, false, List, [], ◌++◌, Result, Ok, Err, refl, ◌∙◌, subst}
-use Rattle.drm_links.specs.Told.{Known}
+use Rattle.drm_links.specs.Known.{Known}
 use Rattle.drm_links.specs.Shelf.{Files}
 use Rattle.drm_links.specs.Source.{Input}
-use Rattle.drm_links.proofs.ToldLemmas.{Tells-weaker, Inputs-nothing}
+use Rattle.drm_links.proofs.KnownLemmas.{Tells-weaker, InputsBytes-nothing}
 use Rattle.drm_schedule.specs.declared.live.Live.{Live}
 use Rattle.drm_schedule.specs.declared.plan.Plan.{Plan}
 use Rattle.drm_timeline.specs.Numbers.{frame_count}
-use Rattle.cmd_load.specs.Loading.{Reading, ReadBy, given}
+use Rattle.cmd_load.specs.Loading.{ShelfReading, ReadBy, given}
 use Rattle.cmd_load.specs.Schedule.{schedule_named}
 use Rattle.cmd_load.specs.declared.loading.ScheduleFault.{ScheduleFault}
 use Rattle.cmd_load.proofs.LoadingLemmas.{given_only, ReadBy-then, ReadBy-stops, ReadBy-given}
@@ -15,13 +15,13 @@ use Rattle.cmd_load.proofs.ScheduleLemmas.{schedule_only}
 use Rattle.cmd_faults.specs.declared.fault.Fault.{Fault}
 use Rattle.live_server.specs.Feeding.{fed, AreTaken, HasRead}
 use Rattle.cmd_serve.specs.Live.{live_named, FedRun}
-use Rattle.cmd_serve.proofs.ScheduleRunLemmas.{came_or_memory}
+use Rattle.cmd_serve.proofs.ScheduleRunLemmas.{outcome_or_memory}
 
-came_is : (a b : Plan) → (let x : Result Plan ScheduleFault = Ok a in x ≡ Ok b) → a ≡ b
-came_is a b same = cc
+outcome_is : (a b : Plan) → (let x : Result Plan ScheduleFault = Ok a in x ≡ Ok b) → a ≡ b
+outcome_is a b same = cc
 
 module _ (name : List ℕ) (live : Live) (first : ℕ) (bytes : List ℕ) (a b : Known Files) where
-  abbrev with_bytes : Plan → Reading Plan
+  abbrev with_bytes : Plan → ShelfReading Plan
   with_bytes plan = given (Ok (fed live plan first bytes))
 
   -- the schedule with these bytes comes where the schedule does
@@ -37,19 +37,19 @@ module _ (name : List ℕ) (live : Live) (first : ℕ) (bytes : List ℕ) (a b :
 
 module _ {S : Type 0} (name : List ℕ) (live : Live) (first : ℕ) (shelf_known : S → Known Files) (shelf shelf' : S) where
   -- nothing was read of input
-  pub unfed : (fault : Fault) (input : Known Input) (Runs : Reading Plan → Type 0) → ((bytes : List ℕ) → Runs (live_named name live first bytes))
+  pub unfed : (fault : Fault) (input : Known Input) (Runs : ShelfReading Plan → Type 0) → ((bytes : List ℕ) → Runs (live_named name live first bytes))
       → FedRun name live first (Err fault) shelf_known shelf shelf' input input Runs
   unfed fault input Runs all = record {
     bytes = [];
     ended = false;
-    read = record { read = Inputs-nothing (λ left rest. left ≡ [] ++ rest) input (λ left. refl); all = λ is. absurd cc };
+    read = record { read = InputsBytes-nothing (λ left rest. left ≡ [] ++ rest) input (λ left. refl); all = λ is. absurd cc };
     same = refl;
     runs = λ more ends. all ([] ++ more);
     taken = λ whole is. absurd cc;
   }
 
   -- these bytes were, for a schedule that came
-  pub was_fed : (ending : Result Bool Fault) (input input' : Known Input) (Runs : Reading Plan → Type 0) (plan : Plan) (ended : Bool) (bytes : List ℕ)
+  pub was_fed : (ending : Result Bool Fault) (input input' : Known Input) (Runs : ShelfReading Plan → Type 0) (plan : Plan) (ended : Bool) (bytes : List ℕ)
       → ReadBy (schedule_named name) (Ok plan) (shelf_known shelf) (shelf_known shelf') → HasRead ended bytes input input' → input'.faults ≡ input.faults
       → ((more : List ℕ) → (ended ≡ true → more ≡ []) → Runs (live_named name live first (bytes ++ more)))
       → ((whole : Bool) → ending ≡ Ok whole → (ended ≡ not whole) × AreTaken ended live plan first (first + (frame_count plan - first)) bytes)
@@ -63,10 +63,10 @@ module _ {S : Type 0} (name : List ℕ) (live : Live) (first : ℕ) (shelf_known
     taken = λ whole is.
         let t = taken whole is in
         Tells-weaker _ _ (shelf_known shelf) (shelf_known shelf') loads
-        (λ x y comes came gives. elim (came_or_memory (schedule_named name) (Ok plan) x y comes) [
+        (λ x y comes outcome gives. elim (outcome_or_memory (schedule_named name) (Ok plan) x y comes) [
           | inl memory ↦ absurd (let e = memory in cc)
           | inr same ↦
-              let one : plan ≡ came = came_is plan came (same ∙ gives) in
+              let one : plan ≡ outcome = outcome_is plan outcome (same ∙ gives) in
               (t.0, subst (λ p. AreTaken ended live p first (first + (frame_count p - first)) bytes) one t.1)
         ]);
   }

@@ -1,6 +1,6 @@
 -- A run with live streams over links that were opened.
 use Rattle.std.proofs.Common.{◌≡◌, ℕ, ◌+◌, ◌-◌, ◌*◌, ◌≤◌, inl, inr, ◌↔◌, not, Bool, true, false, List, [], ◌∷◌, ◌++◌, length, Result, Ok, Err, IfErr, IsErr, refl, sym, ap, subst, arith}
-use Rattle.drm_links.specs.Told.{HasFailed, HasCause, Known}
+use Rattle.drm_links.specs.Known.{HasFailed, HasCause, Known}
 use Rattle.drm_links.specs.Shelf.{Files}
 use Rattle.drm_links.specs.Source.{Input}
 use Rattle.drm_links.specs.Link.{Traffic}
@@ -26,7 +26,7 @@ use Rattle.live_server.specs.Links.{ServedEach, ServedAll, ServedSome, ServedLiv
 use Rattle.cmd_serve.specs.Live.{live_named}
 use Rattle.cmd_serve.specs.OverLinks.{OverLinks}
 use Rattle.cmd_serve.specs.OverLiveLinks.{OverLiveLinks, EndsBrokenOver}
-use Rattle.cmd_serve.specs.ScheduleRun.{EndsBy}
+use Rattle.cmd_serve.specs.ScheduleRun.{ServeEndsBy}
 use Rattle.cmd_serve.proofs.OverLinksLemmas.{unsent, sent_over}
 use Rattle.cmd_serve.proofs.LiveLemmas.{live_reads, live_stops, unfed, was_fed}
 
@@ -49,7 +49,7 @@ module _ {S L : Type 0} (name : List ℕ) (pace from : ℕ) (live : Live) (shelf
   module _ (makes : InputMakesASchedule) (plan : Plan) (valid : IsSchedule plan) (comes : ReadBy (schedule_named name) (Ok plan) (shelf_known shelf) (shelf_known shelf'))
       (same : (shelf_known shelf').faults ≡ (shelf_known shelf).faults) (members' : List (Member L)) (many : length members' ≡ length members) (input input' : Known Input) where
     -- no read failed
-    pub live_sent : (ending : Result Bool Fault) (whole : Bool) → 1 ≤ length members → EndsBy faults.Link (let came : Result Plan ScheduleFault = Ok plan in came) (done_of ending) → (done_of ending ≡ Err faults.Read → ⊥)
+    pub live_sent : (ending : Result Bool Fault) (whole : Bool) → 1 ≤ length members → ServeEndsBy faults.Link (let outcome : Result Plan ScheduleFault = Ok plan in outcome) (done_of ending) → (done_of ending ≡ Err faults.Read → ⊥)
         → (done_of ending ≡ Err faults.Link) ↔ (AreUp members' → ⊥) → ((other : Bool) → ending ≡ Ok other → (other ≡ whole) × AreUp members')
         → ServedAll live plan (3 * from) pace whole input input' known members members' → input'.faults ≡ input.faults
         → OverLiveLinks name pace from live ending shelf_known shelf shelf' input input' known members members'

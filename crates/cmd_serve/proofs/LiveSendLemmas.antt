@@ -1,10 +1,10 @@
 -- A run with live streams over links that were opened and closed.
 use Rattle.std.proofs.Common.{◌≡◌, ℕ, ◌+◌, ◌*◌, ◌<◌, ◌≤◌, ◌⊎◌, inl, inr, Bool, true, List, [], ◌++◌, length, slice_index_or, Result, Err, refl, sym, ◌∙◌, ap, subst, arith}
-use Rattle.drm_links.specs.Told.{Known, KnownThrough, IfBothKnown}
+use Rattle.drm_links.specs.Known.{Known, KnownThrough, IfBothKnown}
 use Rattle.drm_links.specs.Shelf.{Files}
 use Rattle.drm_links.specs.Source.{Input}
 use Rattle.drm_links.specs.Link.{Traffic}
-use Rattle.drm_links.specs.Dock.{DockContents, Over, AreDifferent, Docked}
+use Rattle.drm_links.specs.Dock.{DockContents, Over, AreDifferent, DockKnownThrough}
 use Rattle.drm_links.specs.declared.dock.Address.{Address}
 use Rattle.drm_schedule.specs.declared.live.Live.{Live}
 use Rattle.drm_schedule.specs.declared.plan.Plan.{Plan}
@@ -16,12 +16,12 @@ use Rattle.live_streams.proofs.FrameLemmas.{same_frame_count}
 use Rattle.link_group.specs.Reaching.{GoesOver, HaveGone, HaveLinks, AreUp, NothingSent, after_reaches, after_closes}
 use Rattle.link_group.specs.declared.member.Member.{Member}
 use Rattle.link_group.proofs.RunLemmas.{over_each}
-use Rattle.drm_server.specs.Laws.{HasOneDelivery, FirstOnesAreFront}
-use Rattle.cmd_load.specs.Loading.{Reading}
+use Rattle.drm_server.specs.Laws.{HasOneDelivery, FirstOnesArePrefix}
+use Rattle.cmd_load.specs.Loading.{ShelfReading}
 use Rattle.cmd_faults.specs.Fault.{done_of}
 use Rattle.cmd_faults.specs.Causes.{OneFailed, OpeningFailed}
 use Rattle.cmd_faults.proofs.CauseLemmas.{one_alone, other_alone}
-use Rattle.drm_links.proofs.ToldLemmas.{counts_as, counts_one}
+use Rattle.drm_links.proofs.KnownLemmas.{counts_as, counts_one}
 use Rattle.drm_links.proofs.Places.{index_of}
 use Rattle.cmd_faults.specs.declared.fault.Fault.{Fault}
 use Rattle.cmd_faults.specs.declared.fault.Fault.TheVariants as faults
@@ -52,9 +52,9 @@ not_memory : (addresses : List Address) (up : ℕ → Bool) (ending : Result Boo
 not_memory addresses up ending (inl (is, all)) memory = let both = sym is ∙ memory in cc
 not_memory addresses up ending (inr (is, k, within, down)) memory = let both = sym is ∙ memory in cc
 
-module _ {S D : Type 0} (one : HasOneDelivery) (front : FirstOnesAreFront) (name : List ℕ) (addresses : List Address) (pace from : ℕ) (live : Live)
+module _ {S D : Type 0} (one : HasOneDelivery) (front : FirstOnesArePrefix) (name : List ℕ) (addresses : List Address) (pace from : ℕ) (live : Live)
     (shelf_known : S → Known Files) (shelf shelf' : S) (dock_known : D → Known DockContents) (dock dock' : D) where
-  abbrev RunOf : Result Bool Fault → Reading Plan → Type 0
+  abbrev RunOf : Result Bool Fault → ShelfReading Plan → Type 0
   RunOf ending reading = SendRun reading addresses pace from (done_of ending) shelf_known shelf shelf' dock_known dock dock'
 
   abbrev Ran : Result Bool Fault → Known Input → Known Input → Type 0
@@ -93,7 +93,7 @@ module _ {S D : Type 0} (one : HasOneDelivery) (front : FirstOnesAreFront) (name
   sent_dock ending input input' (inr broken) = inl broken.same
 
   module _ {L : Type 0} (makes : InputMakesASchedule) (different : AreDifferent addresses) (opened : Known DockContents) (known : L → Known Traffic) (members members' : List (Member L)) (many : length members ≡ length addresses)
-      (opens : KnownThrough (dock_known dock) opened (λ before after. after ≡ after_reaches addresses before)) (links : Docked (dock_known dock) opened (λ told. HaveLinks known told addresses members))
+      (opens : KnownThrough (dock_known dock) opened (λ before after. after ≡ after_reaches addresses before)) (links : DockKnownThrough (dock_known dock) opened (λ contents. HaveLinks known contents addresses members))
       (shut : KnownThrough opened (dock_known dock') (λ before after. (overs : List Over) → HaveGone known members' overs → after ≡ after_closes overs addresses before))
       (same_dock : (dock_known dock').faults ≡ (dock_known dock).faults) (input input' : Known Input) where
     -- over each link n frames of this schedule went
@@ -102,12 +102,12 @@ module _ {S D : Type 0} (one : HasOneDelivery) (front : FirstOnesAreFront) (name
     went plan n same valid few served =
         let many' : length members' ≡ length addresses = same ∙ many in
         over_each (λ k start over. GoFrames pace (3 * from) n plan (ups members' k) start.sends over.gone over.rests) known addresses members members' many many' (dock_known dock) opened (dock_known dock') opens links
-        (λ k d start within told.
+        (λ k d start within contents.
         let among : k < length members = omega (arith, within, many) in
         let there : k < length members' = omega (arith, within, many') in
         let m = slice_index_or members k d in
         let m' = slice_index_or members' k d in
-        let made = gone_by (GoFrames pace (3 * from) n plan m'.up) known m.link m'.link start told
+        let made = gone_by (GoFrames pace (3 * from) n plan m'.up) known m.link m'.link start contents
         (served_frames plan (3 * from) pace n m'.up (known m.link) (known m'.link) (served k d among))
         (frames_calls plan (3 * from) pace n m'.up (known m.link) (known m'.link) valid.in_lines.few_frames few (served k d among)) in
         (made.0, made.1, subst (λ b. GoFrames pace (3 * from) n plan b start.sends made.0.gone made.0.rests) (up_at members' k d there) made.2, made.3))

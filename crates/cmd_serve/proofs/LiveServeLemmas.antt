@@ -1,6 +1,6 @@
 -- A capture of a schedule with live streams.
 use Rattle.std.proofs.Common.{◌≡◌, ℕ, ◌+◌, ◌*◌, inl, inr, not, Bool, List, [], ◌++◌, Result, Ok, Err, refl, ap}
-use Rattle.drm_links.specs.Told.{Known, HasCause}
+use Rattle.drm_links.specs.Known.{Known, HasCause}
 use Rattle.drm_links.specs.Shelf.{Files}
 use Rattle.drm_links.specs.Source.{Input}
 use Rattle.drm_links.specs.Sink.{Output}
@@ -8,8 +8,8 @@ use Rattle.drm_schedule.specs.declared.live.Live.{Live}
 use Rattle.drm_schedule.specs.declared.plan.Plan.{Plan}
 use Rattle.drm_schedule.specs.Valid.{IsSchedule}
 use Rattle.live_streams.specs.Laws.{InputMakesASchedule}
-use Rattle.drm_server.specs.Capture.{IsCapture, IsFrontOfCapture}
-use Rattle.cmd_load.specs.Loading.{Reading, ReadBy}
+use Rattle.drm_server.specs.Capture.{IsCapture, IsPrefixOfCapture}
+use Rattle.cmd_load.specs.Loading.{ShelfReading, ReadBy}
 use Rattle.cmd_load.specs.Schedule.{schedule_named}
 use Rattle.cmd_load.specs.Faults.{fault_of_schedule}
 use Rattle.cmd_load.specs.declared.loading.ScheduleFault.{ScheduleFault}
@@ -17,7 +17,7 @@ use Rattle.cmd_load.specs.declared.loading.ScheduleFault.TheVariants as schedule
 use Rattle.cmd_faults.specs.Fault.{done_of}
 use Rattle.cmd_faults.specs.Causes.{OneFailed}
 use Rattle.cmd_faults.proofs.CauseLemmas.{one_alone, other_alone}
-use Rattle.drm_links.proofs.ToldLemmas.{counts_as, counts_one}
+use Rattle.drm_links.proofs.KnownLemmas.{counts_as, counts_one}
 use Rattle.cmd_faults.specs.declared.fault.Fault.{Fault}
 use Rattle.cmd_faults.specs.declared.fault.Fault.TheVariants.{NoMemory, Words, FacLength, FacOver, FacCrc, Schedule, Script, Capture, CaptureTooLong, PacketSize, Units, Read, Write, Link}
 use Rattle.live_server.specs.Feeding.{fed}
@@ -37,10 +37,10 @@ module _ {S I O : Type 0} (name : List ℕ) (from : ℕ) (live : Live) (shelf_kn
   whole schedule = IsCapture schedule (3 * from)
 
   abbrev front : Plan → List ℕ → Type 0
-  front schedule = IsFrontOfCapture schedule (3 * from)
+  front schedule = IsPrefixOfCapture schedule (3 * from)
 
   -- a run of a schedule that is read so
-  abbrev RunOf : Result Bool Fault → O → O → Reading Plan → Type 0
+  abbrev RunOf : Result Bool Fault → O → O → ShelfReading Plan → Type 0
   RunOf ending out out' reading = ScheduleRun reading IsSchedule whole front (done_of ending) shelf_known shelf shelf' out_known out out'
 
   -- no schedule came, and nothing was read of input or written

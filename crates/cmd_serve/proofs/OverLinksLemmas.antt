@@ -1,13 +1,13 @@
 -- A run over links, by how it ends.
 use Rattle.std.proofs.Common.{◌≡◌, ℕ, ◌+◌, ◌-◌, ◌*◌, ◌<◌, ◌≤◌, ◌↔◌, Bool, true, false, List, [], ◌∷◌, ◌++◌, length, slice_index_or, Option, None, Some, Result, Ok, Err, refl, ◌∙◌, ap, subst, arith, append_assoc}
 use Rattle.drm_server.specs.Rests.{calls_of_frame}
-use Rattle.drm_links.specs.Told.{HasCause, Known, Throughout}
+use Rattle.drm_links.specs.Known.{HasCause, Known, Throughout}
 use Rattle.drm_links.specs.Dock.{LinkStart, Over, first_traffic}
 use Rattle.drm_links.specs.Link.{Traffic, rests_of}
 use Rattle.drm_links.specs.Shelf.{Files}
 use Rattle.drm_links.specs.ManyCalls.{MakesCalls, CountsMany}
 use Rattle.drm_links.specs.Transmission.{LinkTransmits, SendsAll, WaitsBetween, since, still}
-use Rattle.drm_links.proofs.ToldLemmas.{counts_none, counts_as}
+use Rattle.drm_links.proofs.KnownLemmas.{counts_none, counts_as}
 use Rattle.drm_links.proofs.TransmissionLemmas.{Transmits-weaker, Transmits-both, Transmits-nothing, Transmits-no_wait}
 use Rattle.drm_links.proofs.ManyCallsLemmas.{no_calls, at_most}
 use Rattle.drm_schedule.specs.declared.plan.Plan.{Plan}
@@ -16,16 +16,16 @@ use Rattle.drm_timeline.specs.Numbers.{frame_count}
 use Rattle.link_group.specs.Reaching.{HasGone, AreUp}
 use Rattle.link_group.specs.declared.member.Member.{Member}
 use Rattle.drm_server.specs.Sending.{SendsPart}
-use Rattle.drm_server.specs.Several.{ServedBy, Served}
+use Rattle.drm_server.specs.Several.{ServedBy, MemberServed}
 use Rattle.cmd_faults.specs.declared.fault.Fault.{Fault}
 use Rattle.cmd_faults.specs.declared.fault.Fault.TheVariants.{Link, Read}
 use Rattle.cmd_load.specs.declared.loading.ScheduleFault.{ScheduleFault}
 use Rattle.cmd_load.specs.declared.loading.ScheduleFault.TheVariants as schedule
 use Rattle.cmd_load.specs.Faults.{fault_of_schedule}
-use Rattle.cmd_load.specs.Loading.{Reading, ReadBy}
-use Rattle.cmd_serve.specs.ScheduleRun.{EndsBy}
+use Rattle.cmd_load.specs.Loading.{ShelfReading, ReadBy}
+use Rattle.cmd_serve.specs.ScheduleRun.{ServeEndsBy}
 use Rattle.cmd_serve.specs.Send.{GoFrames}
-use Rattle.cmd_serve.specs.OverLinks.{OverLinks, GoesBy, GoOver, most_calls}
+use Rattle.cmd_serve.specs.OverLinks.{OverLinks, GoesBy, SentOverLink, most_calls}
 use Rattle.cmd_serve.proofs.ScheduleRunLemmas.{is_read, read_is}
 
 not_link : (fault : ScheduleFault) → (let ended : Result (Unit {0}) Fault = Err (fault_of_schedule fault) in ended ≡ Err Link) → ⊥
@@ -69,15 +69,15 @@ frames_calls plan first pace n true a b few within served = few_calls plan n a b
 frames_calls plan first pace n false a b few within served = few_calls plan (frame_count plan) a b few (omega arith) served.calls
 
 -- a link that was just opened tells at the end
-pub gone_by : {L : Type 0} (P : Option ℕ → List (List ℕ) → List ℕ → Type 0) (known : L → Known Traffic) (link link' : L) (start : LinkStart) → (known link).told ≡ Some (first_traffic start)
+pub gone_by : {L : Type 0} (P : Option ℕ → List (List ℕ) → List ℕ → Type 0) (known : L → Known Traffic) (link link' : L) (start : LinkStart) → (known link).contents ≡ Some (first_traffic start)
     → LinkTransmits (known link) (known link') (GoesBy P) → MakesCalls (λ (t : Traffic). t.calls) most_calls (known link) (known link')
     → (over : Over) × HasGone known link' over × P start.sends over.gone over.rests × (over.answers ≡ [])
-gone_by P known link link' start told sent calls =
-    let Q : Option Traffic → Type 0 = λ t. Throughout t (known link').told (GoesBy P) in
-    let R : Option Traffic → Type 0 = λ t. CountsMany (λ (t : Traffic). t.calls) most_calls t (known link').told in
-    by_last (known link').told refl (subst Q told sent) (subst R told calls)
+gone_by P known link link' start contents sent calls =
+    let Q : Option Traffic → Type 0 = λ t. Throughout t (known link').contents (GoesBy P) in
+    let R : Option Traffic → Type 0 = λ t. CountsMany (λ (t : Traffic). t.calls) most_calls t (known link').contents in
+    by_last (known link').contents refl (subst Q contents sent) (subst R contents calls)
   where
-    by_last : (last : Option Traffic) → (known link').told ≡ last → Throughout (Some (first_traffic start)) last (GoesBy P) → CountsMany (λ (t : Traffic). t.calls) most_calls (Some (first_traffic start)) last
+    by_last : (last : Option Traffic) → (known link').contents ≡ last → Throughout (Some (first_traffic start)) last (GoesBy P) → CountsMany (λ (t : Traffic). t.calls) most_calls (Some (first_traffic start)) last
         → (over : Over) × HasGone known link' over × P start.sends over.gone over.rests × (over.answers ≡ [])
     by_last None is sent calls = absurd (omega (arith, calls))
     by_last (Some traffic) is sent calls =
@@ -90,19 +90,19 @@ gone_by P known link link' start told sent calls =
 
 -- ---- the whole run
 
-module _ {S L : Type 0} (reading : Reading Plan) (pace from : ℕ) (shelf_known : S → Known Files) (shelf shelf' : S) (link_known : L → Known Traffic) where
+module _ {S L : Type 0} (reading : ShelfReading Plan) (pace from : ℕ) (shelf_known : S → Known Files) (shelf shelf' : S) (link_known : L → Known Traffic) where
   -- no schedule came, and nothing was sent
   pub unsent : (fault : ScheduleFault) (members : List (Member L)) → AreUp members → ReadBy reading (Err fault) (shelf_known shelf) (shelf_known shelf')
       → HasCause (shelf_known shelf) (shelf_known shelf') (fault ≡ schedule.Read)
       → OverLinks reading pace from (Err (fault_of_schedule fault)) shelf_known shelf shelf' link_known members members
   unsent fault members up comes cause = record {
-    came = Err fault;
+    outcome = Err fault;
     loads = comes;
     sound = tt;
     ends = refl;
     sent = λ k d within.
         let a = link_known (slice_index_or members k d).link in
-        Transmits-weaker (λ x y. SendsAll [] x y × WaitsBetween [] 0 x y) (GoOver pace (3 * from) (Err fault) (slice_index_or members k d).up) a a
+        Transmits-weaker (λ x y. SendsAll [] x y × WaitsBetween [] 0 x y) (SentOverLink pace (3 * from) (Err fault) (slice_index_or members k d).up) a a
         (Transmits-both (SendsAll []) (WaitsBetween [] 0) a a (Transmits-nothing a) (Transmits-no_wait a))
         (λ x y none. ([], 0 ∷ [], (refl, refl), none.0.gone, rests_after [] 0 x y none.1, none.0.kept.answers));
     calls = λ k d within.
@@ -116,11 +116,11 @@ module _ {S L : Type 0} (reading : Reading Plan) (pace from : ℕ) (shelf_known 
   -- its datagrams were sent
   pub sent_over : (plan : Plan) → IsSchedule plan → (ending : Result (Unit {0}) Fault) (members members' : List (Member L)) → length members' ≡ length members
       → ReadBy reading (Ok plan) (shelf_known shelf) (shelf_known shelf') → (shelf_known shelf').faults ≡ (shelf_known shelf).faults
-      → EndsBy Link (Ok plan) ending → (ending ≡ Err Read → ⊥) → (ending ≡ Err Link) ↔ (AreUp members' → ⊥)
-      → ((k : ℕ) (d : Member L) → k < length members → Served plan (3 * from) pace (frame_count plan - 3 * from) link_known (link_known (slice_index_or members k d).link) (slice_index_or members' k d))
+      → ServeEndsBy Link (Ok plan) ending → (ending ≡ Err Read → ⊥) → (ending ≡ Err Link) ↔ (AreUp members' → ⊥)
+      → ((k : ℕ) (d : Member L) → k < length members → MemberServed plan (3 * from) pace (frame_count plan - 3 * from) link_known (link_known (slice_index_or members k d).link) (slice_index_or members' k d))
       → OverLinks reading pace from ending shelf_known shelf shelf' link_known members members'
   sent_over plan valid ending members members' many comes same ends no_read failed served = record {
-    came = Ok plan;
+    outcome = Ok plan;
     loads = comes;
     sound = valid;
     ends = ends;

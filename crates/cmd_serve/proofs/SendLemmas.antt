@@ -1,37 +1,37 @@
 -- What a run over links says of how it ends and of what has gone.
 use Rattle.std.proofs.Common.{◌≡◌, ℕ, ◌+◌, ◌*◌, ◌<◌, ◌⊎◌, ◌↔◌, inl, inr, Bool, true, false, List, [], ◌∷◌, length, slice_index_or, Option, None, Some, IsNone, Result, Ok, Err, refl, sym, ◌∙◌, ap, subst, arith, length-append}
 use Rattle.std.specs.FinMap as map
-use Rattle.drm_links.specs.Told.{Known, IfBothKnown, KnownThrough}
+use Rattle.drm_links.specs.Known.{Known, IfBothKnown, KnownThrough}
 use Rattle.drm_links.specs.Shelf.{Files, ShelfSupplies}
 use Rattle.drm_links.specs.Dock.{DockContents, LinkStart, Over, address_key, start_at, AreDifferent, OpeningFinds, FindsNone}
 use Rattle.drm_links.specs.Transmission.{TakesSends, TakesFewer}
 use Rattle.drm_links.specs.declared.dock.Address.{Address}
-use Rattle.drm_links.proofs.ToldLemmas.{Tells-weaker, Tells-nothing, counts_none}
+use Rattle.drm_links.proofs.KnownLemmas.{Tells-weaker, Tells-nothing, counts_none}
 use Rattle.drm_schedule.specs.declared.plan.Plan.{Plan}
 use Rattle.link_group.specs.Reaching.{nothing, ReachesNone, ReachesFew, GoesOver, NothingSent, after_reaches}
 use Rattle.link_group.proofs.OpeningLemmas.{docks_while}
 use Rattle.link_group.proofs.RunLemmas as several
 use Rattle.drm_server.specs.Datagrams.{AreDatagrams, AreBefore}
-use Rattle.drm_server.specs.Laws.{HasOneDelivery, FirstOnesAreFront}
-use Rattle.cmd_load.specs.Loading.{Reading}
+use Rattle.drm_server.specs.Laws.{HasOneDelivery, FirstOnesArePrefix}
+use Rattle.cmd_load.specs.Loading.{ShelfReading}
 use Rattle.cmd_faults.specs.declared.fault.Fault.{Fault}
 use Rattle.cmd_faults.specs.declared.fault.Fault.TheVariants as faults
 use Rattle.cmd_faults.proofs.CauseLemmas.{inner_fault}
 use Rattle.cmd_load.specs.declared.loading.ScheduleFault.{ScheduleFault}
 use Rattle.cmd_load.specs.declared.loading.ScheduleFault.TheVariants as schedule
-use Rattle.cmd_serve.specs.ScheduleRun.{EndsBy}
-use Rattle.cmd_serve.specs.Send.{Go, LacksSends, LacksSome, ClosedRun, LinksRun, UnopenedRun, SendRun}
-use Rattle.cmd_serve.proofs.ScheduleRunLemmas.{came_or_memory, ends_memory, ends_exactly}
+use Rattle.cmd_serve.specs.ScheduleRun.{ServeEndsBy}
+use Rattle.cmd_serve.specs.Send.{SentDatagrams, LacksSends, LacksSome, ClosedRun, LinksRun, UnopenedRun, SendRun}
+use Rattle.cmd_serve.proofs.ScheduleRunLemmas.{outcome_or_memory, ends_memory, ends_exactly}
 
 -- ---- an opening finds a link, or none
 
 -- not both
-both : {A : Type 0} (told : DockContents) (k : ℕ) (at : Address) (start : LinkStart) → FindsNone told k at → OpeningFinds told k at start → A
-both told k at start (inl failing) finds = absurd (finds.allowed failing)
-both told k at start (inr none) finds = let p : IsNone (start_at told at) = none in absurd (let s : start_at told at ≡ Some start = finds.stands in cc)
+both : {A : Type 0} (contents : DockContents) (k : ℕ) (at : Address) (start : LinkStart) → FindsNone contents k at → OpeningFinds contents k at start → A
+both contents k at start (inl failing) finds = absurd (finds.allowed failing)
+both contents k at start (inr none) finds = let p : IsNone (start_at contents at) = none in absurd (let s : start_at contents at ≡ Some start = finds.stands in cc)
 
-one_start : (told : DockContents) (k : ℕ) (at : Address) (a b : LinkStart) → OpeningFinds told k at a → OpeningFinds told k at b → a ≡ b
-one_start told k at a b x y = let s : start_at told at ≡ Some a = x.stands in let t : start_at told at ≡ Some b = y.stands in cc
+one_start : (contents : DockContents) (k : ℕ) (at : Address) (a b : LinkStart) → OpeningFinds contents k at a → OpeningFinds contents k at b → a ≡ b
+one_start contents k at a b x y = let s : start_at contents at ≡ Some a = x.stands in let t : start_at contents at ≡ Some b = y.stands in cc
 
 no_address : Address
 no_address = record { ip = []; port = 0 }
@@ -48,7 +48,7 @@ none_fails Goes addresses x y over none =
 -- ---- how it ends, by what came
 
 -- a front that lacks a datagram is shorter than the whole
-shorter : FirstOnesAreFront → (plan : Plan) (from : ℕ) (datagrams first : List (List ℕ)) (next : List ℕ) → AreDatagrams plan from datagrams → AreBefore plan from next first → length first < length datagrams
+shorter : FirstOnesArePrefix → (plan : Plan) (from : ℕ) (datagrams first : List (List ℕ)) (next : List ℕ) → AreDatagrams plan from datagrams → AreBefore plan from next first → length first < length datagrams
 shorter front plan from datagrams first next are before =
     let f = front plan from datagrams first next are before in
     let long : length datagrams ≡ length first + length (next ∷ f.0) = ap length f.1 ∙ length-append first (next ∷ f.0) in
@@ -78,39 +78,39 @@ is_up_or_not true = inl refl
 is_up_or_not false = inr refl
 
 -- a link that failed takes too few
-lacks_by : FirstOnesAreFront → (pace from : ℕ) (came : Result Plan ScheduleFault) (sends : Option ℕ) (gone : List (List ℕ)) (rests : List ℕ) (plan : Plan) → came ≡ Ok plan → Go pace from came false sends gone rests → LacksSends from came sends
+lacks_by : FirstOnesArePrefix → (pace from : ℕ) (outcome : Result Plan ScheduleFault) (sends : Option ℕ) (gone : List (List ℕ)) (rests : List ℕ) (plan : Plan) → outcome ≡ Ok plan → SentDatagrams pace from outcome false sends gone rests → LacksSends from outcome sends
 lacks_by front pace from (Ok x) sends gone rests plan is go = λ datagrams are. fewer_by sends (length gone) (length datagrams) go.2 (shorter front x from datagrams gone go.0 are go.1)
 lacks_by front pace from (Err fault) sends gone rests plan is go = cc
 
 -- and one that didn't takes enough
-takes_by : (pace from : ℕ) (came : Result Plan ScheduleFault) (sends : Option ℕ) (gone : List (List ℕ)) (rests : List ℕ) → Go pace from came true sends gone rests → LacksSends from came sends → ⊥
+takes_by : (pace from : ℕ) (outcome : Result Plan ScheduleFault) (sends : Option ℕ) (gone : List (List ℕ)) (rests : List ℕ) → SentDatagrams pace from outcome true sends gone rests → LacksSends from outcome sends → ⊥
 takes_by pace from (Ok x) sends gone rests go lacks = not_both sends (length gone) (lacks gone go.0) go.1
 takes_by pace from (Err fault) sends gone rests go lacks = lacks
 
 -- all were sent over a link that takes all
-all_by : HasOneDelivery → FirstOnesAreFront → (pace from : ℕ) (plan : Plan) (up : Bool) (sends : Option ℕ) (gone datagrams : List (List ℕ)) (rests : List ℕ) → Go pace from (Ok plan) up sends gone rests → AreDatagrams plan from datagrams → TakesSends sends (length datagrams)
+all_by : HasOneDelivery → FirstOnesArePrefix → (pace from : ℕ) (plan : Plan) (up : Bool) (sends : Option ℕ) (gone datagrams : List (List ℕ)) (rests : List ℕ) → SentDatagrams pace from (Ok plan) up sends gone rests → AreDatagrams plan from datagrams → TakesSends sends (length datagrams)
     → (up ≡ true) × (gone ≡ datagrams)
 all_by one front pace from plan true sends gone datagrams rests go are takes = (refl, one plan from gone datagrams go.0 are)
 all_by one front pace from plan false sends gone datagrams rests go are takes =
     absurd (not_both sends (length datagrams) (fewer_by sends (length gone) (length datagrams) go.2 (shorter front plan from datagrams gone go.0 are go.1)) takes)
 
-none_by : (pace from : ℕ) (came : Result Plan ScheduleFault) (ending : Ending) (up : Bool) (sends : Option ℕ) (gone : List (List ℕ)) (rests : List ℕ) → EndsBy faults.Link came ending → Go pace from came up sends gone rests → ending ≡ Err faults.NoMemory → gone ≡ []
+none_by : (pace from : ℕ) (outcome : Result Plan ScheduleFault) (ending : Ending) (up : Bool) (sends : Option ℕ) (gone : List (List ℕ)) (rests : List ℕ) → ServeEndsBy faults.Link outcome ending → SentDatagrams pace from outcome up sends gone rests → ending ≡ Err faults.NoMemory → gone ≡ []
 none_by pace from (Ok x) (Ok done) up sends gone rests ends go e = cc
 none_by pace from (Ok x) (Err fault) up sends gone rests ends go e =
     let other : faults.Link ≡ faults.NoMemory = inner_fault faults.Link faults.NoMemory (sym (by_link fault ends) ∙ e) in absurd cc
 none_by pace from (Err fault) ending up sends gone rests ends go e = go.0
 
 -- which schedule came, where it ended by a link or was done
-came_by : (came : Result Plan ScheduleFault) (ending : Ending) → EndsBy faults.Link came ending → (ending ≡ Err faults.Link) ⊎ (ending ≡ Ok tt) → (plan : Plan) × (came ≡ Ok plan)
-came_by (Ok plan) ending ends is = (plan, refl)
-came_by (Err schedule.NoMemory) ending ends (inl link) = let other : faults.NoMemory ≡ faults.Link = inner_fault faults.NoMemory faults.Link (sym ends ∙ link) in absurd cc
-came_by (Err (schedule.Line l r)) ending ends (inl link) = let other : faults.Schedule l r ≡ faults.Link = inner_fault (faults.Schedule l r) faults.Link (sym ends ∙ link) in absurd cc
-came_by (Err schedule.Read) ending ends (inl link) = let other : faults.Read ≡ faults.Link = inner_fault faults.Read faults.Link (sym ends ∙ link) in absurd cc
-came_by (Err fault) ending ends (inr done) = let e : ending ≡ Ok tt = done in absurd (let p = sym ends ∙ e in cc)
+outcome_by : (outcome : Result Plan ScheduleFault) (ending : Ending) → ServeEndsBy faults.Link outcome ending → (ending ≡ Err faults.Link) ⊎ (ending ≡ Ok tt) → (plan : Plan) × (outcome ≡ Ok plan)
+outcome_by (Ok plan) ending ends is = (plan, refl)
+outcome_by (Err schedule.NoMemory) ending ends (inl link) = let other : faults.NoMemory ≡ faults.Link = inner_fault faults.NoMemory faults.Link (sym ends ∙ link) in absurd cc
+outcome_by (Err (schedule.Line l r)) ending ends (inl link) = let other : faults.Schedule l r ≡ faults.Link = inner_fault (faults.Schedule l r) faults.Link (sym ends ∙ link) in absurd cc
+outcome_by (Err schedule.Read) ending ends (inl link) = let other : faults.Read ≡ faults.Link = inner_fault faults.Read faults.Link (sym ends ∙ link) in absurd cc
+outcome_by (Err fault) ending ends (inr done) = let e : ending ≡ Ok tt = done in absurd (let p = sym ends ∙ e in cc)
 
 -- ---- the whole run
 
-module _ {S D : Type 0} (one : HasOneDelivery) (front : FirstOnesAreFront) (reading : Reading Plan) (addresses : List Address) (pace from : ℕ) (ending : Ending) (shelf_known : S → Known Files) (shelf shelf' : S) (dock_known : D → Known DockContents) (dock dock' : D) where
+module _ {S D : Type 0} (one : HasOneDelivery) (front : FirstOnesArePrefix) (reading : ShelfReading Plan) (addresses : List Address) (pace from : ℕ) (ending : Ending) (shelf_known : S → Known Files) (shelf shelf' : S) (dock_known : D → Known DockContents) (dock dock' : D) where
   -- nothing was loaded
   unread : (P : Files → Type 0) → shelf' ≡ shelf → ((x : Files) → P x) → ShelfSupplies (shelf_known shelf) (shelf_known shelf') (λ x _. P x)
   unread P same all = subst (λ s. ShelfSupplies (shelf_known shelf) (shelf_known s) (λ x _. P x)) (sym same) (Tells-nothing (λ x _. P x) (shelf_known shelf) all)
@@ -118,11 +118,11 @@ module _ {S D : Type 0} (one : HasOneDelivery) (front : FirstOnesAreFront) (read
   pub closed : ClosedRun addresses ending shelf shelf' dock_known dock dock' → SendRun reading addresses pace from ending shelf_known shelf shelf' dock_known dock dock'
   closed run = record {
     run = inl run;
-    unopened = Tells-weaker (ReachesFew addresses) _ (dock_known dock) (dock_known dock') run.told (λ x y few none. inr run.fault);
-    cut = Tells-weaker (ReachesFew addresses) _ (dock_known dock) (dock_known dock') run.told
+    unopened = Tells-weaker (ReachesFew addresses) _ (dock_known dock) (dock_known dock') run.contents (λ x y few none. inr run.fault);
+    cut = Tells-weaker (ReachesFew addresses) _ (dock_known dock) (dock_known dock') run.contents
         (λ x y few. unread _ run.unread (λ files. inr (λ e. inl (opening_fails addresses x y few), λ why. run.fault)));
-    complete = Tells-weaker (ReachesFew addresses) _ (dock_known dock) (dock_known dock') run.told (λ x y few some. absurd (some (opening_fails addresses x y few)));
-    done = Tells-weaker (ReachesFew addresses) _ (dock_known dock) (dock_known dock') run.told
+    complete = Tells-weaker (ReachesFew addresses) _ (dock_known dock) (dock_known dock') run.contents (λ x y few some. absurd (some (opening_fails addresses x y few)));
+    done = Tells-weaker (ReachesFew addresses) _ (dock_known dock) (dock_known dock') run.contents
         (λ x y few. unread _ run.unread (λ files plan datagrams gives are takes.
         let there = takes few.k no_address few.within in
         both x few.k (slice_index_or addresses few.k no_address) there.0 (few.fails no_address) there.1));
@@ -135,36 +135,36 @@ module _ {S D : Type 0} (one : HasOneDelivery) (front : FirstOnesAreFront) (read
   pub unopened : UnopenedRun ending shelf shelf' dock dock' → SendRun reading addresses pace from ending shelf_known shelf shelf' dock_known dock dock'
   unopened run = record {
     run = inr (inr run);
-    unopened = untold _ (λ x none. inl run.fault);
-    cut = untold _ (λ x. unread _ run.unread (λ files. inl run.fault));
-    complete = untold _ (λ x some. unread _ run.unread (λ files plan datagrams gives are k at start within finds takes. inl run.fault));
-    done = untold _ (λ x. unread _ run.unread (λ files plan datagrams gives are takes. inl run.fault));
+    unopened = throughout_same _ (λ x none. inl run.fault);
+    cut = throughout_same _ (λ x. unread _ run.unread (λ files. inl run.fault));
+    complete = throughout_same _ (λ x some. unread _ run.unread (λ files plan datagrams gives are k at start within finds takes. inl run.fault));
+    done = throughout_same _ (λ x. unread _ run.unread (λ files plan datagrams gives are takes. inl run.fault));
     alike = λ e. absurd (let other = sym run.fault ∙ e in cc);
     exactly = λ none. unread _ run.unread (λ files. inl run.fault);
     dock_cause = inl (ap (λ d. (dock_known d).faults) run.unopened);
     read_cause = counts_none (λ is. let other = sym run.fault ∙ is in cc) (ap (λ s. (shelf_known s).faults) run.unread);
   }
     where
-      untold : (P : DockContents → DockContents → Type 0) → ((x : DockContents) → P x x) → KnownThrough (dock_known dock) (dock_known dock') P
-      untold P all = subst (λ d. KnownThrough (dock_known dock) (dock_known d) P) (sym run.unopened) (Tells-nothing P (dock_known dock) all)
+      throughout_same : (P : DockContents → DockContents → Type 0) → ((x : DockContents) → P x x) → KnownThrough (dock_known dock) (dock_known dock') P
+      throughout_same P all = subst (λ d. KnownThrough (dock_known dock) (dock_known d) P) (sym run.unopened) (Tells-nothing P (dock_known dock) all)
 
   module _ (different : AreDifferent addresses) (run : LinksRun reading addresses pace from ending shelf_known shelf shelf' dock_known dock dock') where
     abbrev Goes : ℕ → LinkStart → Over → Type 0
-    Goes k start over = Go pace (3 * from) run.came (run.up k) start.sends over.gone over.rests
+    Goes k start over = SentDatagrams pace (3 * from) run.outcome (run.up k) start.sends over.gone over.rests
 
     -- it fails by a link exactly where one takes too few sends
-    link_by : (x y : DockContents) → GoesOver Goes addresses x y → (ending ≡ Err faults.Link) ↔ (ReachesNone x addresses ⊎ LacksSome (3 * from) run.came x addresses)
+    link_by : (x y : DockContents) → GoesOver Goes addresses x y → (ending ≡ Err faults.Link) ↔ (ReachesNone x addresses ⊎ LacksSome (3 * from) run.outcome x addresses)
     link_by x y over = (
       λ e.
           let failed = run.failed.0 e in
-          let came = came_by run.came ending run.ends (inl e) in
+          let outcome = outcome_by run.outcome ending run.ends (inl e) in
           inr (record {
             k = failed.0;
             within = failed.1;
             lacks = λ at.
                 let goes = over.goes.each failed.0 at nothing failed.1 in
                 let o = slice_index_or over.overs failed.0 nothing in
-                (goes.0, goes.1, lacks_by front pace (3 * from) run.came goes.0.sends o.gone o.rests came.0 came.1 (subst (λ b. Go pace (3 * from) run.came b goes.0.sends o.gone o.rests) failed.2 goes.2));
+                (goes.0, goes.1, lacks_by front pace (3 * from) run.outcome goes.0.sends o.gone o.rests outcome.0 outcome.1 (subst (λ b. SentDatagrams pace (3 * from) run.outcome b goes.0.sends o.gone o.rests) failed.2 goes.2));
           }),
       λ why. elim why [
         | inl none ↦ none_fails Goes addresses x y over none
@@ -174,89 +174,89 @@ module _ {S D : Type 0} (one : HasOneDelivery) (front : FirstOnesAreFront) (read
             let o = slice_index_or over.overs k nothing in
             let there = lacks.lacks no_address in
             let same : there.0 ≡ goes.0 = one_start x k (slice_index_or addresses k no_address) there.0 goes.0 there.1 goes.1 in
-            let few : LacksSends (3 * from) run.came goes.0.sends = subst (λ (s : LinkStart). LacksSends (3 * from) run.came s.sends) same there.2 in
+            let few : LacksSends (3 * from) run.outcome goes.0.sends = subst (λ (s : LinkStart). LacksSends (3 * from) run.outcome s.sends) same there.2 in
             elim (is_up_or_not (run.up k)) [
-              | inl up ↦ absurd (takes_by pace (3 * from) run.came goes.0.sends o.gone o.rests (subst (λ b. Go pace (3 * from) run.came b goes.0.sends o.gone o.rests) up goes.2) few)
+              | inl up ↦ absurd (takes_by pace (3 * from) run.outcome goes.0.sends o.gone o.rests (subst (λ b. SentDatagrams pace (3 * from) run.outcome b goes.0.sends o.gone o.rests) up goes.2) few)
               | inr down ↦ run.failed.1 (k, lacks.within, down)
             ]
       ],
     )
 
     -- all has gone over a link that takes all
-    all_gone : (x y : DockContents) (plan : Plan) (datagrams : List (List ℕ)) → run.came ≡ Ok plan → GoesOver Goes addresses x y → AreDatagrams plan (3 * from) datagrams
+    all_gone : (x y : DockContents) (plan : Plan) (datagrams : List (List ℕ)) → run.outcome ≡ Ok plan → GoesOver Goes addresses x y → AreDatagrams plan (3 * from) datagrams
         → (k : ℕ) (at : Address) (start : LinkStart) → k < length addresses → OpeningFinds x k (slice_index_or addresses k at) start → TakesSends start.sends (length datagrams)
         → (over : GoesOver Goes addresses x y) → (run.up k ≡ true) × ((slice_index_or over.overs k nothing).gone ≡ datagrams)
-    all_gone x y plan datagrams came any are k at start within finds takes over =
+    all_gone x y plan datagrams outcome any are k at start within finds takes over =
         let goes = over.goes.each k at nothing within in
         let o = slice_index_or over.overs k nothing in
         let same : start ≡ goes.0 = one_start x k (slice_index_or addresses k at) start goes.0 finds goes.1 in
         all_by one front pace (3 * from) plan (run.up k) goes.0.sends o.gone datagrams o.rests
-        (subst (λ v. Go pace (3 * from) v (run.up k) goes.0.sends o.gone o.rests) came goes.2) are (subst (λ (s : LinkStart). TakesSends s.sends (length datagrams)) same takes)
+        (subst (λ v. SentDatagrams pace (3 * from) v (run.up k) goes.0.sends o.gone o.rests) outcome goes.2) are (subst (λ (s : LinkStart). TakesSends s.sends (length datagrams)) same takes)
 
     -- what had gone over a link that was closed
     gone_by : (x y : DockContents) (over : GoesOver Goes addresses x y) (k : ℕ) (at : Address) → k < length addresses
         → map.get y.gone (address_key (slice_index_or addresses k at)) ≡ Some (slice_index_or over.overs k nothing).gone
     gone_by x y over k at within =
-        ap (λ (d : DockContents). map.get d.gone (address_key (slice_index_or addresses k at))) over.told
+        ap (λ (d : DockContents). map.get d.gone (address_key (slice_index_or addresses k at))) over.contents
         ∙ several.gone_at over.overs addresses (after_reaches addresses x) different over.goes.as_many k at nothing within
 
     -- after a run that is done all has gone over each link
-    done_gone : (e : ending ≡ Ok tt) (x y : DockContents) (over : GoesOver Goes addresses x y) (plan : Plan) → run.came ≡ Ok plan → (k : ℕ) → k < length addresses → AreDatagrams plan (3 * from) (slice_index_or over.overs k nothing).gone
-    done_gone e x y over plan came k within =
+    done_gone : (e : ending ≡ Ok tt) (x y : DockContents) (over : GoesOver Goes addresses x y) (plan : Plan) → run.outcome ≡ Ok plan → (k : ℕ) → k < length addresses → AreDatagrams plan (3 * from) (slice_index_or over.overs k nothing).gone
+    done_gone e x y over plan outcome k within =
         let goes = over.goes.each k no_address nothing within in
         let o = slice_index_or over.overs k nothing in
         elim (is_up_or_not (run.up k)) [
-          | inl up ↦ (subst (λ b. Go pace (3 * from) (Ok plan) b goes.0.sends o.gone o.rests) up (subst (λ v. Go pace (3 * from) v (run.up k) goes.0.sends o.gone o.rests) came goes.2)).0
+          | inl up ↦ (subst (λ b. SentDatagrams pace (3 * from) (Ok plan) b goes.0.sends o.gone o.rests) up (subst (λ v. SentDatagrams pace (3 * from) v (run.up k) goes.0.sends o.gone o.rests) outcome goes.2)).0
           | inr down ↦ let link = run.failed.1 (k, within, down) in absurd (let other = sym link ∙ e in cc)
         ]
 
     pub over_links : SendRun reading addresses pace from ending shelf_known shelf shelf' dock_known dock dock'
     over_links = record {
       run = inr (inl run);
-      unopened = Tells-weaker (GoesOver Goes addresses) _ (dock_known dock) (dock_known dock') run.told (λ x y over none. none_fails Goes addresses x y over none);
-      cut = Tells-weaker (GoesOver Goes addresses) _ (dock_known dock) (dock_known dock') run.told
+      unopened = Tells-weaker (GoesOver Goes addresses) _ (dock_known dock) (dock_known dock') run.contents (λ x y over none. none_fails Goes addresses x y over none);
+      cut = Tells-weaker (GoesOver Goes addresses) _ (dock_known dock) (dock_known dock') run.contents
           (λ x y over. Tells-weaker _ _ (shelf_known shelf) (shelf_known shelf') run.loads
-          (λ p q is. elim (came_or_memory reading run.came p q is) [
-            | inl memory ↦ inl (ends_memory faults.Link run.came ending run.ends memory)
-            | inr came ↦ inr (subst (λ v. (ending ≡ Err faults.Link) ↔ (ReachesNone x addresses ⊎ LacksSome (3 * from) v x addresses)) came (link_by x y over))
+          (λ p q is. elim (outcome_or_memory reading run.outcome p q is) [
+            | inl memory ↦ inl (ends_memory faults.Link run.outcome ending run.ends memory)
+            | inr outcome ↦ inr (subst (λ v. (ending ≡ Err faults.Link) ↔ (ReachesNone x addresses ⊎ LacksSome (3 * from) v x addresses)) outcome (link_by x y over))
           ]));
-      complete = Tells-weaker (GoesOver Goes addresses) _ (dock_known dock) (dock_known dock') run.told
+      complete = Tells-weaker (GoesOver Goes addresses) _ (dock_known dock) (dock_known dock') run.contents
           (λ x y over some. Tells-weaker _ _ (shelf_known shelf) (shelf_known shelf') run.loads
-          (λ p q is plan datagrams gives are k at start within finds takes. elim (came_or_memory reading run.came p q is) [
-            | inl memory ↦ inl (ends_memory faults.Link run.came ending run.ends memory)
-            | inr came ↦ inr (gone_by x y over k at within ∙ ap Some (all_gone x y plan datagrams (came ∙ gives) over are k at start within finds takes over).1)
+          (λ p q is plan datagrams gives are k at start within finds takes. elim (outcome_or_memory reading run.outcome p q is) [
+            | inl memory ↦ inl (ends_memory faults.Link run.outcome ending run.ends memory)
+            | inr outcome ↦ inr (gone_by x y over k at within ∙ ap Some (all_gone x y plan datagrams (outcome ∙ gives) over are k at start within finds takes over).1)
           ]));
-      done = Tells-weaker (GoesOver Goes addresses) _ (dock_known dock) (dock_known dock') run.told
+      done = Tells-weaker (GoesOver Goes addresses) _ (dock_known dock) (dock_known dock') run.contents
           (λ x y over. Tells-weaker _ _ (shelf_known shelf) (shelf_known shelf') run.loads
-          (λ p q is plan datagrams gives are takes. elim (came_or_memory reading run.came p q is) [
-            | inl memory ↦ inl (ends_memory faults.Link run.came ending run.ends memory)
-            | inr came ↦ inr (elim (subst (λ v. EndsBy faults.Link v ending) (came ∙ gives) run.ends) [
+          (λ p q is plan datagrams gives are takes. elim (outcome_or_memory reading run.outcome p q is) [
+            | inl memory ↦ inl (ends_memory faults.Link run.outcome ending run.ends memory)
+            | inr outcome ↦ inr (elim (subst (λ v. ServeEndsBy faults.Link v ending) (outcome ∙ gives) run.ends) [
               | inl done ↦ done
               | inr link ↦
                   let failed = run.failed.0 link in
                   let there = takes failed.0 no_address failed.1 in
-                  let all = all_gone x y plan datagrams (came ∙ gives) over are failed.0 no_address there.0 failed.1 there.1 there.2 over in
+                  let all = all_gone x y plan datagrams (outcome ∙ gives) over are failed.0 no_address there.0 failed.1 there.1 there.2 over in
                   absurd (let other = sym failed.2 ∙ all.0 in cc)
             ])
           ]));
       alike = λ e.
-          let came = came_by run.came ending run.ends (inr e) in
-          Tells-weaker (GoesOver Goes addresses) _ (dock_known dock) (dock_known dock') run.told
+          let outcome = outcome_by run.outcome ending run.ends (inr e) in
+          Tells-weaker (GoesOver Goes addresses) _ (dock_known dock) (dock_known dock') run.contents
           (λ x y over j k at first second.
           gone_by x y over j at first
-          ∙ (ap Some (one came.0 (3 * from) (slice_index_or over.overs j nothing).gone (slice_index_or over.overs k nothing).gone
-          (done_gone e x y over came.0 came.1 j first) (done_gone e x y over came.0 came.1 k second))
+          ∙ (ap Some (one outcome.0 (3 * from) (slice_index_or over.overs j nothing).gone (slice_index_or over.overs k nothing).gone
+          (done_gone e x y over outcome.0 outcome.1 j first) (done_gone e x y over outcome.0 outcome.1 k second))
           ∙ sym (gone_by x y over k at second)));
-      exactly = λ none. ends_exactly faults.Link reading run.came ending (shelf_known shelf) (shelf_known shelf') run.loads run.ends;
+      exactly = λ none. ends_exactly faults.Link reading run.outcome ending (shelf_known shelf) (shelf_known shelf') run.loads run.ends;
       dock_cause = inl run.same;
       read_cause = run.read_cause;
     }
 
     none_sent : ending ≡ Err faults.NoMemory → IfBothKnown (dock_known dock) (dock_known dock') NothingSent
     none_sent memory =
-        docks_while (GoesOver Goes addresses) NothingSent (dock_known dock) (dock_known dock') run.told
+        docks_while (GoesOver Goes addresses) NothingSent (dock_known dock) (dock_known dock') run.contents
         (λ x y over. several.nothing_sent Goes addresses x y over
-        (λ k start o goes. none_by pace (3 * from) run.came ending (run.up k) start.sends o.gone o.rests run.ends goes memory))
+        (λ k start o goes. none_by pace (3 * from) run.outcome ending (run.up k) start.sends o.gone o.rests run.ends goes memory))
 
   pub nothing_sent : AreDifferent addresses → SendRun reading addresses pace from ending shelf_known shelf shelf' dock_known dock dock' → ending ≡ Err faults.NoMemory → IfBothKnown (dock_known dock) (dock_known dock') NothingSent
   nothing_sent different sent memory = elim sent.run [

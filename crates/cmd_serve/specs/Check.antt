@@ -1,8 +1,8 @@
 -- The command `check`: a schedule becomes its canonical text.
 use Rattle.std.specs.Prelude.{ℕ, ◌≡◌, List, Result}
-use Rattle.drm_links.specs.Told.{Known}
+use Rattle.drm_links.specs.Known.{Known}
 use Rattle.drm_links.specs.Shelf.{Files}
-use Rattle.drm_links.specs.Sink.{Output, IsFront}
+use Rattle.drm_links.specs.Sink.{Output, IsPrefix}
 use Rattle.drm_schedule.specs.declared.plan.Plan.{Plan}
 use Rattle.drm_schedule.specs.Valid.{IsSchedule}
 use Rattle.plan_writer.specs.Canonical.{canonical}
@@ -17,4 +17,4 @@ IsCanonical text = (schedule : Plan) × IsSchedule schedule × (text ≡ canonic
 -- A run of `check`: it writes the text that came.
 abbrev pub CheckRun : {S O : Type 0} → List ℕ → Result (Unit {0}) Fault → (S → Known Files) → S → S → (O → Known Output) → O → O → Type 0
 CheckRun name ending shelf_known shelf shelf' out_known out out' =
-    ScheduleRun (checked name) IsCanonical (λ text written. written ≡ text) IsFront ending shelf_known shelf shelf' out_known out out'
+    ScheduleRun (checked name) IsCanonical (λ text written. written ≡ text) IsPrefix ending shelf_known shelf shelf' out_known out out'

@@ -1,9 +1,9 @@
 -- The command `serve` with live streams: they take their bytes from input.
 use Rattle.std.specs.Prelude.{ℕ, ◌≡◌, ◌+◌, ◌-◌, ◌*◌, ◌<◌, ◌⊎◌, not, Bool, true, false, List, [], ◌++◌, length, Result, Ok, Err}
-use Rattle.drm_links.specs.Told.{HasFailed, Known, KnownThrough}
+use Rattle.drm_links.specs.Known.{HasFailed, Known, KnownThrough}
 use Rattle.drm_links.specs.Shelf.{Files, ShelfSupplies}
 use Rattle.drm_links.specs.Source.{Input}
-use Rattle.drm_links.specs.Sink.{Output, Outputs}
+use Rattle.drm_links.specs.Sink.{Output, OutputsText}
 use Rattle.drm_links.specs.Dock.{DockContents}
 use Rattle.drm_links.specs.declared.dock.Address.{Address}
 use Rattle.drm_schedule.specs.declared.live.Live.{Live}
@@ -11,8 +11,8 @@ use Rattle.drm_schedule.specs.declared.plan.Plan.{Plan}
 use Rattle.drm_schedule.specs.Valid.{IsSchedule}
 use Rattle.drm_timeline.specs.Numbers.{frame_count}
 use Rattle.link_group.specs.Reaching.{GoesOver}
-use Rattle.drm_server.specs.Capture.{IsCapture, IsFrontOfCapture}
-use Rattle.cmd_load.specs.Loading.{Reading, ReadBy, given, ◌>>=◌}
+use Rattle.drm_server.specs.Capture.{IsCapture, IsPrefixOfCapture}
+use Rattle.cmd_load.specs.Loading.{ShelfReading, ReadBy, given, ◌>>=◌}
 use Rattle.cmd_load.specs.Schedule.{schedule_named}
 use Rattle.cmd_faults.specs.Fault.{done_of}
 use Rattle.cmd_faults.specs.declared.fault.Fault.{Fault}
@@ -24,7 +24,7 @@ use Rattle.cmd_serve.specs.Send.{GoFrames, SendRun}
 
 -- The schedule of this name, whose live streams have these bytes of input from frame `first` on: frame by frame its piece, as long as
 -- whole pieces are there, and then their own content.
-abbrev pub live_named : List ℕ → Live → ℕ → List ℕ → Reading Plan
+abbrev pub live_named : List ℕ → Live → ℕ → List ℕ → ShelfReading Plan
 live_named name live first bytes = do
   schedule ← schedule_named name
   given (Ok (fed live schedule first bytes))
@@ -32,7 +32,7 @@ live_named name live first bytes = do
 -- A run in which no read of input failed: these bytes were read of it, and it has ended with them where `ended` says so. Whatever it has
 -- behind them, this is a run of the schedule that its bytes make.
 pub record FedRun {S : Type 0} (name : List ℕ) (live : Live) (first : ℕ) (ending : Result Bool Fault) (shelf_known : S → Known Files) (shelf shelf' : S)
-    (input input' : Known Input) (Runs : Reading Plan → Type 0) : Type 0 where
+    (input input' : Known Input) (Runs : ShelfReading Plan → Type 0) : Type 0 where
   pub bytes : List ℕ
   pub ended : Bool
   pub read : HasRead ended bytes input input'
@@ -40,7 +40,7 @@ pub record FedRun {S : Type 0} (name : List ℕ) (live : Live) (first : ℕ) (en
   pub runs : (more : List ℕ) → (ended ≡ true → more ≡ []) → Runs (live_named name live first (bytes ++ more))
   -- After a run that is done these are the pieces of all frames from there on, or, where some frame lacks its piece, all that input had.
   pub taken : (whole : Bool) → ending ≡ Ok whole
-      → ShelfSupplies (shelf_known shelf) (shelf_known shelf') (λ files _. (plan : Plan) → (schedule_named name files).came ≡ Ok plan
+      → ShelfSupplies (shelf_known shelf) (shelf_known shelf') (λ files _. (plan : Plan) → (schedule_named name files).outcome ≡ Ok plan
       → (ended ≡ not whole) × AreTaken ended live plan first (first + (frame_count plan - first)) bytes)
 
 -- A run that a failed read of input broke off, within the piece of the frame behind n others, of which `Made` holds. No load failed.
@@ -63,10 +63,10 @@ pub record BrokenRun {S : Type 0} (name : List ℕ) (live : Live) (first : ℕ) 
 abbrev pub LiveServeRun : {S I O : Type 0} → List ℕ → ℕ → Live → Result Bool Fault → (S → Known Files) → S → S → (I → Known Input) → I → I → (O → Known Output) → O → O → Type 0
 LiveServeRun name from live ending shelf_known shelf shelf' input_known input input' out_known out out' =
     FedRun name live (3 * from) ending shelf_known shelf shelf' (input_known input) (input_known input')
-    (λ reading. ScheduleRun reading IsSchedule (λ (schedule : Plan). IsCapture schedule (3 * from)) (λ (schedule : Plan). IsFrontOfCapture schedule (3 * from)) (done_of ending)
+    (λ reading. ScheduleRun reading IsSchedule (λ (schedule : Plan). IsCapture schedule (3 * from)) (λ (schedule : Plan). IsPrefixOfCapture schedule (3 * from)) (done_of ending)
     shelf_known shelf shelf' out_known out out')
     ⊎ ((ending ≡ Err faults.Read)
-    × BrokenRun name live (3 * from) shelf_known shelf shelf' (input_known input) (input_known input') (λ p n. Outputs (out_known out) (out_known out') (AreWritten p (3 * from) n)))
+    × BrokenRun name live (3 * from) shelf_known shelf shelf' (input_known input) (input_known input') (λ p n. OutputsText (out_known out) (out_known out') (AreWritten p (3 * from) n)))
 
 -- Some links failed, or none: then the read that failed is told.
 abbrev pub EndsBroken : List Address → (ℕ → Bool) → Result Bool Fault → Type 0

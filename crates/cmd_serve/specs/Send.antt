@@ -1,9 +1,9 @@
 -- The command `serve --to`: a schedule becomes datagrams over links.
 use Rattle.std.specs.Prelude.{ℕ, ◌≡◌, ◌-◌, ◌*◌, ◌<◌, ◌⊎◌, ◌↔◌, Bool, true, false, List, [], ◌∷◌, ◌++◌, length, slice_index_or, Option, Some, Result, Ok, Err, IfOk}
 use Rattle.std.specs.FinMap as map
-use Rattle.drm_links.specs.Told.{HasFailed, Known, HasCause, KnownThrough}
+use Rattle.drm_links.specs.Known.{HasFailed, Known, HasCause, KnownThrough}
 use Rattle.drm_links.specs.Shelf.{Files, ShelfSupplies}
-use Rattle.drm_links.specs.Dock.{DockContents, LinkStart, address_key, OpeningFinds, Docked}
+use Rattle.drm_links.specs.Dock.{DockContents, LinkStart, address_key, OpeningFinds, DockKnownThrough}
 use Rattle.drm_links.specs.Transmission.{TakesSends, TakesFewer}
 use Rattle.drm_links.specs.declared.dock.Address.{Address}
 use Rattle.drm_schedule.specs.declared.plan.Plan.{Plan}
@@ -12,8 +12,8 @@ use Rattle.link_group.specs.Reaching.{ReachesNone, ReachesFew, GoesOver}
 use Rattle.drm_timeline.specs.Numbers.{frame_count}
 use Rattle.drm_server.specs.Datagrams.{AreDatagrams, AreBefore, AreOfFrames}
 use Rattle.drm_server.specs.Rests.{ArePaced}
-use Rattle.cmd_load.specs.Loading.{Reading, ReadBy}
-use Rattle.cmd_serve.specs.ScheduleRun.{EndsBy}
+use Rattle.cmd_load.specs.Loading.{ShelfReading, ReadBy}
+use Rattle.cmd_serve.specs.ScheduleRun.{ServeEndsBy}
 use Rattle.cmd_faults.specs.Fault.{UnlessMemory}
 use Rattle.cmd_faults.specs.Causes.{OpeningFailed}
 use Rattle.cmd_load.specs.declared.loading.ScheduleFault.{ScheduleFault}
@@ -32,9 +32,9 @@ GoFrames pace first n schedule false sends gone rests =
     × ArePaced pace schedule first (gone ++ next ∷ []) rests
 
 -- All frames of the schedule that came from frame `first` on; where none came nothing, without a rest.
-abbrev pub Go : ℕ → ℕ → Result Plan ScheduleFault → Bool → Option ℕ → List (List ℕ) → List ℕ → Type 0
-Go pace first (Ok schedule) up sends gone rests = GoFrames pace first (frame_count schedule - first) schedule up sends gone rests
-Go pace first (Err fault) up sends gone rests = (gone ≡ []) × (rests ≡ 0 ∷ [])
+abbrev pub SentDatagrams : ℕ → ℕ → Result Plan ScheduleFault → Bool → Option ℕ → List (List ℕ) → List ℕ → Type 0
+SentDatagrams pace first (Ok schedule) up sends gone rests = GoFrames pace first (frame_count schedule - first) schedule up sends gone rests
+SentDatagrams pace first (Err fault) up sends gone rests = (gone ≡ []) × (rests ≡ 0 ∷ [])
 
 -- The link takes fewer sends than the schedule that came has datagrams from frame `first` on.
 abbrev pub LacksSends : ℕ → Result Plan ScheduleFault → Option ℕ → Type 0
@@ -42,40 +42,40 @@ LacksSends first (Ok schedule) sends = (datagrams : List (List ℕ)) → AreData
 LacksSends first (Err fault) sends = ⊥
 
 -- The link that is opened at some address takes fewer sends than the schedule that came has datagrams from frame `first` on.
-pub record LacksSome (first : ℕ) (came : Result Plan ScheduleFault) (told : DockContents) (addresses : List Address) : Type 0 where
+pub record LacksSome (first : ℕ) (outcome : Result Plan ScheduleFault) (contents : DockContents) (addresses : List Address) : Type 0 where
   pub k : ℕ
   pub within : k < length addresses
-  pub lacks : (at : Address) → (start : LinkStart) × OpeningFinds told k (slice_index_or addresses k at) start × LacksSends first came start.sends
+  pub lacks : (at : Address) → (start : LinkStart) × OpeningFinds contents k (slice_index_or addresses k at) start × LacksSends first outcome start.sends
 
 -- The link that is opened at each address takes so many sends.
 abbrev pub TakeAll : DockContents → List Address → ℕ → Type 0
-TakeAll told addresses n =
-    (k : ℕ) (at : Address) → k < length addresses → (start : LinkStart) × OpeningFinds told k (slice_index_or addresses k at) start × TakesSends start.sends n
+TakeAll contents addresses n =
+    (k : ℕ) (at : Address) → k < length addresses → (start : LinkStart) × OpeningFinds contents k (slice_index_or addresses k at) start × TakesSends start.sends n
 
 -- A run of which an opening failed: those before it are closed, and nothing is read.
 pub record ClosedRun {S D : Type 0} (addresses : List Address) (ending : Result (Unit {0}) Fault) (shelf shelf' : S)
     (dock_known : D → Known DockContents) (dock dock' : D) : Type 0 where
   pub fault : ending ≡ Err faults.Link
   pub unread : shelf' ≡ shelf
-  pub told : KnownThrough (dock_known dock) (dock_known dock') (ReachesFew addresses)
+  pub contents : KnownThrough (dock_known dock) (dock_known dock') (ReachesFew addresses)
   pub once : HasFailed (dock_known dock) (dock_known dock')
 
 -- A run whose links were opened, before the schedule was read, and closed at the end.
-pub record LinksRun {S D : Type 0} (reading : Reading Plan) (addresses : List Address) (pace from : ℕ) (ending : Result (Unit {0}) Fault)
+pub record LinksRun {S D : Type 0} (reading : ShelfReading Plan) (addresses : List Address) (pace from : ℕ) (ending : Result (Unit {0}) Fault)
     (shelf_known : S → Known Files) (shelf shelf' : S)
     (dock_known : D → Known DockContents) (dock dock' : D) : Type 0 where
   -- the schedule, or why there is none
-  pub came : Result Plan ScheduleFault
+  pub outcome : Result Plan ScheduleFault
   -- Where the shelf tells, that is what its files come to, and these loads were made.
-  pub loads : ReadBy reading came (shelf_known shelf) (shelf_known shelf')
+  pub loads : ReadBy reading outcome (shelf_known shelf) (shelf_known shelf')
   -- Whatever it tells, what came is valid.
-  pub sound : IfOk came IsSchedule
-  pub ends : EndsBy faults.Link came ending
+  pub sound : IfOk outcome IsSchedule
+  pub ends : ServeEndsBy faults.Link outcome ending
   -- which links didn't fail
   pub up : ℕ → Bool
   -- Over each link goes what would go over it alone, whether another one fails or not.
-  pub told : KnownThrough (dock_known dock) (dock_known dock')
-      (GoesOver (λ k start over. Go pace (3 * from) came (up k) start.sends over.gone over.rests) addresses)
+  pub contents : KnownThrough (dock_known dock) (dock_known dock')
+      (GoesOver (λ k start over. SentDatagrams pace (3 * from) outcome (up k) start.sends over.gone over.rests) addresses)
   pub failed : (ending ≡ Err faults.Link) ↔ ((k : ℕ) × (k < length addresses) × (up k ≡ false))
   -- No opening failed. The shelf's count of faults rose, by one, exactly where a load ended the run.
   pub same : (dock_known dock').faults ≡ (dock_known dock).faults
@@ -88,7 +88,7 @@ pub record UnopenedRun {S D : Type 0} (ending : Result (Unit {0}) Fault) (shelf 
   pub unopened : dock' ≡ dock
 
 -- A run of `serve --to` these addresses, of the schedule that is read so, with this pace, from super frame `from` on.
-pub record SendRun {S D : Type 0} (reading : Reading Plan) (addresses : List Address) (pace from : ℕ) (ending : Result (Unit {0}) Fault)
+pub record SendRun {S D : Type 0} (reading : ShelfReading Plan) (addresses : List Address) (pace from : ℕ) (ending : Result (Unit {0}) Fault)
     (shelf_known : S → Known Files) (shelf shelf' : S)
     (dock_known : D → Known DockContents) (dock dock' : D) : Type 0 where
   pub run : ClosedRun addresses ending shelf shelf' dock_known dock dock'
@@ -96,29 +96,29 @@ pub record SendRun {S D : Type 0} (reading : Reading Plan) (addresses : List Add
       ⊎ UnopenedRun ending shelf shelf' dock dock'
   -- It fails by a link where an opening fails, and where a link takes fewer sends than the schedule has datagrams from there on;
   -- nowhere else.
-  pub unopened : Docked (dock_known dock) (dock_known dock') (λ told. ReachesNone told addresses → UnlessMemory ending (ending ≡ Err faults.Link))
-  pub cut : Docked (dock_known dock) (dock_known dock') (λ told. ShelfSupplies (shelf_known shelf) (shelf_known shelf') (λ files _.
+  pub unopened : DockKnownThrough (dock_known dock) (dock_known dock') (λ contents. ReachesNone contents addresses → UnlessMemory ending (ending ≡ Err faults.Link))
+  pub cut : DockKnownThrough (dock_known dock) (dock_known dock') (λ contents. ShelfSupplies (shelf_known shelf) (shelf_known shelf') (λ files _.
       UnlessMemory ending ((ending ≡ Err faults.Link)
-      ↔ (ReachesNone told addresses ⊎ LacksSome (3 * from) (reading files).came told addresses))))
+      ↔ (ReachesNone contents addresses ⊎ LacksSome (3 * from) (reading files).outcome contents addresses))))
   -- Where each opening finds a link, and one of these takes all datagrams, they have gone at its address, whatever becomes of the
   -- others.
   pub complete : KnownThrough (dock_known dock) (dock_known dock') (λ before after. (ReachesNone before addresses → ⊥)
       → ShelfSupplies (shelf_known shelf) (shelf_known shelf') (λ files _. (schedule : Plan) (datagrams : List (List ℕ))
-      → (reading files).came ≡ Ok schedule → AreDatagrams schedule (3 * from) datagrams
+      → (reading files).outcome ≡ Ok schedule → AreDatagrams schedule (3 * from) datagrams
       → (k : ℕ) (at : Address) (start : LinkStart) → k < length addresses → OpeningFinds before k (slice_index_or addresses k at) start
       → TakesSends start.sends (length datagrams)
       → UnlessMemory ending (map.get after.gone (address_key (slice_index_or addresses k at)) ≡ Some datagrams)))
   -- Where each takes them the run is done.
-  pub done : Docked (dock_known dock) (dock_known dock') (λ told. ShelfSupplies (shelf_known shelf) (shelf_known shelf') (λ files _.
-      (schedule : Plan) (datagrams : List (List ℕ)) → (reading files).came ≡ Ok schedule → AreDatagrams schedule (3 * from) datagrams
-      → TakeAll told addresses (length datagrams) → UnlessMemory ending (ending ≡ Ok tt)))
+  pub done : DockKnownThrough (dock_known dock) (dock_known dock') (λ contents. ShelfSupplies (shelf_known shelf) (shelf_known shelf') (λ files _.
+      (schedule : Plan) (datagrams : List (List ℕ)) → (reading files).outcome ≡ Ok schedule → AreDatagrams schedule (3 * from) datagrams
+      → TakeAll contents addresses (length datagrams) → UnlessMemory ending (ending ≡ Ok tt)))
   -- After a run that is done the same has gone at each address.
   pub alike : ending ≡ Ok tt → KnownThrough (dock_known dock) (dock_known dock') (λ _ after. (j k : ℕ) (at : Address) → j < length addresses → k < length addresses
       → map.get after.gone (address_key (slice_index_or addresses j at)) ≡ map.get after.gone (address_key (slice_index_or addresses k at)))
   -- Unless a link failed it is refused exactly where its files are, with the line and the reason; a load fails exactly where
   -- one is to fail.
   pub exactly : (ending ≡ Err faults.Link → ⊥)
-      → ShelfSupplies (shelf_known shelf) (shelf_known shelf') (λ files _. UnlessMemory ending (EndsBy faults.Link (reading files).came ending))
+      → ShelfSupplies (shelf_known shelf) (shelf_known shelf') (λ files _. UnlessMemory ending (ServeEndsBy faults.Link (reading files).outcome ending))
   -- The dock's count of faults rose, by one, only where an opening ended the run, and that of the shelf exactly where a load did.
   pub dock_cause : OpeningFailed (dock_known dock) (dock_known dock') (ending ≡ Err faults.Link)
   pub read_cause : HasCause (shelf_known shelf) (shelf_known shelf') (ending ≡ Err faults.Read)

@@ -1,7 +1,7 @@
 //! The command `serve` with live streams.
 
 ghost use Rattle.std.specs.Prelude.{◌≡◌, ◌≤◌, length, IsErrOf};
-ghost use Rattle.drm_links.specs.Told.{HasCause, IfBothKnown};
+ghost use Rattle.drm_links.specs.Known.{HasCause, IfBothKnown};
 ghost use Rattle.drm_links.specs.Dock.{AreDifferent};
 ghost use Rattle.link_group.specs.Reaching.{AreUp, NothingSent};
 ghost use Rattle.cmd_faults.specs.Causes.{OneFailed, OpeningFailed};
@@ -12,7 +12,7 @@ use cmd_faults::Fault;
 use cmd_load::read_schedule;
 use drm_links::{Addresses, Dock, Link, Shelf, Sink, Source};
 use drm_schedule::Live;
-use drm_server::{Server, first_ones_are_front, one_delivery};
+use drm_server::{Server, first_ones_are_prefix, one_delivery};
 use link_group::{Member, ReachFault, all_up, close_each, reach_each};
 use live_server::{piece_room, serve_live_links, serve_live_sink};
 use live_streams::input_makes_a_schedule;
@@ -43,8 +43,8 @@ pub fn serve_live<S: Shelf, I: Source, O: Sink>(
     input_makes_a_schedule();
     let schedule = read_schedule(alloc, shelf, name)?;
     let mut server = Server::make(alloc, &schedule)?;
-    let mut room = piece_room(alloc)?;
-    serve_live_sink(&mut server, 3 * from, live, input, &mut room, out)
+    let mut scratch = piece_room(alloc)?;
+    serve_live_sink(&mut server, 3 * from, live, input, &mut scratch, out)
 }
 
 /// Opens a link to each address, reads a schedule, sends its datagrams from super frame `from` on over each of the links, where the live
@@ -78,7 +78,7 @@ pub fn send_live<S: Shelf, I: Source, D: Dock>(
     ensures write { IsErrOf result Fault.Write → ⊥ }
 {
     one_delivery();
-    first_ones_are_front();
+    first_ones_are_prefix();
     input_makes_a_schedule();
     match reach_each(alloc, to, dock) {
         Ok(mut members) => {
@@ -116,8 +116,16 @@ fn send_live_over<S: Shelf, I: Source, L: Link>(
     input_makes_a_schedule();
     let schedule = read_schedule(alloc, shelf, name)?;
     let mut server = Server::make(alloc, &schedule)?;
-    let mut room = piece_room(alloc)?;
-    let sent = serve_live_links(&mut server, 3 * from, members, pace, live, input, &mut room);
+    let mut scratch = piece_room(alloc)?;
+    let sent = serve_live_links(
+        &mut server,
+        3 * from,
+        members,
+        pace,
+        live,
+        input,
+        &mut scratch,
+    );
     if all_up(members) {
         sent
     } else {

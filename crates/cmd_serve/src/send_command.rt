@@ -1,7 +1,7 @@
 //! The command `serve` to addresses.
 
 ghost use Rattle.std.specs.Prelude.{◌≤◌, length, IsErrOf};
-ghost use Rattle.drm_links.specs.Told.{IfBothKnown};
+ghost use Rattle.drm_links.specs.Known.{IfBothKnown};
 ghost use Rattle.drm_links.specs.Dock.{AreDifferent};
 ghost use Rattle.link_group.specs.Reaching.{AreUp, NothingSent};
 ghost use Rattle.cmd_load.specs.Schedule.{schedule_named};
@@ -11,7 +11,7 @@ ghost use Rattle.cmd_serve.specs.OverLinks.{OverLinks};
 use cmd_faults::Fault;
 use cmd_load::read_schedule;
 use drm_links::{Addresses, Dock, Link, Shelf};
-use drm_server::{Server, first_ones_are_front, one_delivery, serve_links};
+use drm_server::{Server, first_ones_are_prefix, one_delivery, serve_links};
 use link_group::{Member, ReachFault, all_up, close_each, reach_each};
 use std::alloc::Global;
 
@@ -37,7 +37,7 @@ pub fn send<S: Shelf, D: Dock>(
     ensures write { IsErrOf result Fault.Write → ⊥ }
 {
     one_delivery();
-    first_ones_are_front();
+    first_ones_are_prefix();
     match reach_each(alloc, to, dock) {
         Ok(mut members) => {
             let sent = send_over(alloc, name, pace, from, shelf, members.as_mut_slice());

@@ -5,10 +5,10 @@ use Rattle.std.specs.List.{concat}
 use Rattle.std.proofs.lemmas.List.{append-nil}
 use Rattle.std.proofs.lemmas.List.Folds.{concat-append, list_all-append}
 use Rattle.std.proofs.lemmas.Grind.{flat_map-append}
-use Rattle.drm_links.specs.Told.{Known, HasCause, RisesWhere}
-use Rattle.drm_links.specs.Source.{Input, Inputs}
-use Rattle.drm_links.specs.Sink.{Output, Outputs, IsFront, IsFrontBehind}
-use Rattle.drm_links.proofs.ToldLemmas.{counts_as, counts_none, Inputs-nothing, Inputs-weaker, Outputs-nothing, Outputs-then, Outputs-weaker}
+use Rattle.drm_links.specs.Known.{Known, HasCause, RisesWhere}
+use Rattle.drm_links.specs.Source.{Input, InputsBytes}
+use Rattle.drm_links.specs.Sink.{Output, OutputsText, IsPrefix, IsPrefixBehind}
+use Rattle.drm_links.proofs.KnownLemmas.{counts_as, counts_none, InputsBytes-nothing, InputsBytes-weaker, OutputsText-nothing, OutputsText-then, OutputsText-weaker}
 use Rattle.drm_links.proofs.WritingLemmas.{front_behind, front_more, front_of_both}
 use Rattle.capture_reader.specs.declared.packets.CaptureStop.{CaptureStop}
 use Rattle.capture_reader.specs.declared.packets.CaptureStop.TheVariants as stops
@@ -27,7 +27,7 @@ use Rattle.cmd_faults.specs.declared.fault.Fault.{Fault}
 use Rattle.cmd_faults.specs.declared.fault.Fault.TheVariants as faults
 use Rattle.cmd_faults.specs.Captures.{EndsEarly, stop_fault}
 use Rattle.cmd_faults.proofs.CauseLemmas.{inner_fault}
-use Rattle.cmd_show.specs.Show.{PacketText, AreTexts, all_texts, capture_text, are_clean, IsShown, ShowEnds, IsWholeText, IsFrontOfText, IsSound, EndsByIt, ShowRun}
+use Rattle.cmd_show.specs.Show.{PacketText, AreTexts, all_texts, capture_text, are_clean, IsShown, ShowEnds, IsWholeText, IsPrefixOfText, ShowIsSound, EndsByIt, ShowRun}
 
 -- ---- texts one after another
 
@@ -71,7 +71,7 @@ concat_more packets packet = concat-append packets (packet ∷ []) ∙ ap (λ l.
 pub read_none : (before : Known Input) (reader : WalkerState) → reader ≡ new_walker → HasRead [] reader before before
 read_none before reader new =
     subst (λ r. HasRead [] r before before) (sym new)
-    (record { whole = λ k d within. absurd (omega (arith, within)); at = refl; few = omega arith; room = omega arith; bytes = Inputs-nothing (λ left rest. left ≡ rest) before (λ left. refl) })
+    (record { whole = λ k d within. absurd (omega (arith, within)); at = refl; few = omega arith; room = omega arith; bytes = InputsBytes-nothing (λ left rest. left ≡ rest) before (λ left. refl) })
 
 -- So many packets and bytes were shown, of what was read so far, and whether none is bad.
 pub record HasShown (reader : WalkerState) (before after : Known Input) (a b : Known Output) (count bytes : ℕ) (clean : Bool) : Type 0 where
@@ -79,7 +79,7 @@ pub record HasShown (reader : WalkerState) (before after : Known Input) (a b : K
   pub read : HasRead packets reader before after
   pub texts : List PacketText
   pub are : AreTexts 0 packets texts
-  pub wrote : Outputs a b (λ text. text ≡ all_texts texts)
+  pub wrote : OutputsText a b (λ text. text ≡ all_texts texts)
   pub count_is : count ≡ length packets
   pub bytes_are : bytes ≡ length (concat packets)
   pub clean_is : clean ≡ are_clean texts
@@ -90,7 +90,7 @@ shown_none before a reader new = record {
   read = read_none before reader new;
   texts = [];
   are = tt;
-  wrote = Outputs-nothing a (λ text. text ≡ []) refl;
+  wrote = OutputsText-nothing a (λ text. text ≡ []) refl;
   count_is = refl;
   bytes_are = refl;
   clean_is = refl;
@@ -126,14 +126,14 @@ texts_of_next {packet = packet} {text = text} {bad = bad} next =
 
 -- a packet more
 pub shown_more : (reader : WalkerState) (before after : Known Input) (a b d : Known Output) (count bytes : ℕ) (clean : Bool) (packet text : List ℕ) (bad : Bool)
-    → ShowsNext reader before after a b count bytes clean packet text bad → Outputs b d (λ t. t ≡ text)
+    → ShowsNext reader before after a b count bytes clean packet text bad → OutputsText b d (λ t. t ≡ text)
     → HasShown reader before after a d (count + 1) (bytes + length packet) (clean && not bad)
 shown_more reader before after a b d count bytes clean packet text bad next wrote = let has = next.has in record {
   packets = has.packets ++ packet ∷ [];
   read = next.more;
   texts = has.texts ++ shown_as text bad ∷ [];
   are = texts_of_next next;
-  wrote = Outputs-then (λ t. t ≡ all_texts has.texts) (λ t. t ≡ text) (λ t. t ≡ all_texts (has.texts ++ shown_as text bad ∷ [])) a b d has.wrote wrote (λ s t p q. ap (λ l. l ++ t) p ∙ ap (λ l. all_texts has.texts ++ l) q ∙ sym (all_more has.texts (shown_as text bad)));
+  wrote = OutputsText-then (λ t. t ≡ all_texts has.texts) (λ t. t ≡ text) (λ t. t ≡ all_texts (has.texts ++ shown_as text bad ∷ [])) a b d has.wrote wrote (λ s t p q. ap (λ l. l ++ t) p ∙ ap (λ l. all_texts has.texts ++ l) q ∙ sym (all_more has.texts (shown_as text bad)));
   count_is = (let one = length-append has.packets (packet ∷ []) in let before = has.count_is in omega (arith, one, before));
   bytes_are = (let parts : length (concat (has.packets ++ packet ∷ [])) ≡ length (concat has.packets) + length packet = ap length (concat_more has.packets packet) ∙ length-append (concat has.packets) packet in let before = has.bytes_are in omega (arith, parts, before));
   clean_is = ap (λ b. b && not bad) has.clean_is ∙ sym (clean_more has.texts (shown_as text bad));
@@ -144,22 +144,22 @@ shown_more reader before after a b d count bytes clean packet text bad next wrot
 -- What is read and written at the end, and that it is a text whatever was read.
 pub record HasEnded (ending : Result Bool Fault) (before after : Known Input) (out out' : Known Output) : Type 0 where
   pub ends : ShowEnds ending before after out out'
-  pub sound : IsSound ending out out'
+  pub sound : ShowIsSound ending out out'
 
-front_of_text : (packets : List (List ℕ)) (texts : List PacketText) (text : List ℕ) → All IsWhole packets → AreTexts 0 packets texts → IsFront (capture_text packets texts) text → IsFrontOfText text
+front_of_text : (packets : List (List ℕ)) (texts : List PacketText) (text : List ℕ) → All IsWhole packets → AreTexts 0 packets texts → IsPrefix (capture_text packets texts) text → IsPrefixOfText text
 front_of_text packets texts text whole are front = (are_clean texts, capture_text packets texts, (packets, whole, texts, are, refl, refl), front)
 
 -- nothing was read or written
 pub nothing_ended : (before : Known Input) (o : Known Output) → HasEnded (Err faults.NoMemory) before before o o
 nothing_ended before o = record {
   ends = (refl, refl);
-  sound = Outputs-nothing o IsFrontOfText (front_of_text [] [] [] (λ k d within. absurd (omega (arith, within))) tt (capture_text [] [], refl));
+  sound = OutputsText-nothing o IsPrefixOfText (front_of_text [] [] [] (λ k d within. absurd (omega (arith, within))) tt (capture_text [] [], refl));
 }
 
 module _ (o now : Known Output) (reader : WalkerState) (before after : Known Input) (count bytes : ℕ) (clean : Bool) (has : HasShown reader before after o now count bytes clean) where
-  front_so_far : Outputs o now IsFrontOfText
+  front_so_far : OutputsText o now IsPrefixOfText
   front_so_far =
-      Outputs-weaker (λ t. t ≡ all_texts has.texts) IsFrontOfText o now has.wrote
+      OutputsText-weaker (λ t. t ≡ all_texts has.texts) IsPrefixOfText o now has.wrote
       (λ t is. front_of_text has.packets has.texts t has.read.whole has.are (end_packets_line (length has.packets) (length (concat has.packets)), ap (λ l. l ++ end_packets_line (length has.packets) (length (concat has.packets))) (sym is)))
 
   pub stopped : (stop : CaptureStop) (later : Known Input) → ReadingStops has.packets stop before later → HasEnded (Err (stop_fault stop)) before later o now
@@ -167,47 +167,47 @@ module _ (o now : Known Output) (reader : WalkerState) (before after : Known Inp
   stopped (stops.Capture fault) later is = record { ends = (has.packets, has.texts, has.are, has.read.whole, is, has.wrote); sound = front_so_far }
   stopped stops.TooLong later is = record { ends = (has.packets, has.texts, has.are, has.read.whole, is, has.wrote); sound = front_so_far }
 
-  module _ (ended : Inputs before after (λ left _. capture.IsCaptureOf left has.packets capture.End)) where
+  module _ (ended : InputsBytes before after (λ left _. capture.IsCaptureOf left has.packets capture.End)) where
     end_text : end_packets_line count bytes ≡ end_packets_line (length has.packets) (length (concat has.packets))
     end_text = ap (λ k. end_packets_line k bytes) has.count_is ∙ ap (end_packets_line (length has.packets)) has.bytes_are
 
-    whole_text : (o' : Known Output) → Outputs now o' (λ t. t ≡ end_packets_line count bytes) → Outputs o o' (λ t. t ≡ capture_text has.packets has.texts)
+    whole_text : (o' : Known Output) → OutputsText now o' (λ t. t ≡ end_packets_line count bytes) → OutputsText o o' (λ t. t ≡ capture_text has.packets has.texts)
     whole_text o' wrote =
-        Outputs-then (λ t. t ≡ all_texts has.texts) (λ t. t ≡ end_packets_line count bytes) (λ t. t ≡ capture_text has.packets has.texts) o now o' has.wrote wrote
+        OutputsText-then (λ t. t ≡ all_texts has.texts) (λ t. t ≡ end_packets_line count bytes) (λ t. t ≡ capture_text has.packets has.texts) o now o' has.wrote wrote
         (λ s t p q. ap (λ l. l ++ t) p ∙ ap (λ l. all_texts has.texts ++ l) (q ∙ end_text))
 
-    pub done : (o' : Known Output) → Outputs now o' (λ t. t ≡ end_packets_line count bytes) → HasEnded (Ok clean) before after o o'
+    pub done : (o' : Known Output) → OutputsText now o' (λ t. t ≡ end_packets_line count bytes) → HasEnded (Ok clean) before after o o'
     done o' wrote = record {
       ends = (has.packets, has.texts, has.are, ended, whole_text o' wrote, has.clean_is);
-      sound = Outputs-weaker (λ t. t ≡ capture_text has.packets has.texts) (IsWholeText clean) o o' (whole_text o' wrote) (λ t is. (has.packets, has.read.whole, has.texts, has.are, is, has.clean_is));
+      sound = OutputsText-weaker (λ t. t ≡ capture_text has.packets has.texts) (IsWholeText clean) o o' (whole_text o' wrote) (λ t is. (has.packets, has.read.whole, has.texts, has.are, is, has.clean_is));
     }
 
-    last_cut : (o' : Known Output) → Outputs now o' (IsFront (end_packets_line count bytes)) → Outputs o o' (IsFrontBehind (all_texts has.texts) (end_packets_line (length has.packets) (length (concat has.packets))))
-    last_cut o' front = subst (λ l. Outputs o o' (IsFrontBehind (all_texts has.texts) l)) end_text (front_behind (all_texts has.texts) (end_packets_line count bytes) o now o' has.wrote front)
+    last_cut : (o' : Known Output) → OutputsText now o' (IsPrefix (end_packets_line count bytes)) → OutputsText o o' (IsPrefixBehind (all_texts has.texts) (end_packets_line (length has.packets) (length (concat has.packets))))
+    last_cut o' front = subst (λ l. OutputsText o o' (IsPrefixBehind (all_texts has.texts) l)) end_text (front_behind (all_texts has.texts) (end_packets_line count bytes) o now o' has.wrote front)
 
-    pub cut_end : (o' : Known Output) → Outputs now o' (IsFront (end_packets_line count bytes)) → HasEnded (Err faults.Write) before after o o'
+    pub cut_end : (o' : Known Output) → OutputsText now o' (IsPrefix (end_packets_line count bytes)) → HasEnded (Err faults.Write) before after o o'
     cut_end o' front =
         let last : List ℕ = end_packets_line (length has.packets) (length (concat has.packets)) in
         record {
           ends = (has.packets, has.texts, inr (has.are, ended, last_cut o' front));
-          sound = Outputs-weaker (IsFrontBehind (all_texts has.texts) last) IsFrontOfText o o' (last_cut o' front)
+          sound = OutputsText-weaker (IsPrefixBehind (all_texts has.texts) last) IsPrefixOfText o o' (last_cut o' front)
               (λ t behind. front_of_text has.packets has.texts t has.read.whole has.are (front_of_both (all_texts has.texts) last t behind));
         }
 
 -- a write of the next packet's text failed
 pub cut : (reader : WalkerState) (before after : Known Input) (o now o' : Known Output) (count bytes : ℕ) (clean : Bool) (packet text : List ℕ) (bad : Bool)
-    → ShowsNext reader before after o now count bytes clean packet text bad → Outputs now o' (IsFront text) → HasEnded (Err faults.Write) before after o o'
+    → ShowsNext reader before after o now count bytes clean packet text bad → OutputsText now o' (IsPrefix text) → HasEnded (Err faults.Write) before after o o'
 cut reader before after o now o' count bytes clean packet text bad next front =
     let before_it : List ℕ = all_texts next.has.texts in
     let packets : List (List ℕ) = next.has.packets ++ packet ∷ [] in
     let texts : List PacketText = next.has.texts ++ shown_as text bad ∷ [] in
     let last : List ℕ = end_packets_line (length packets) (length (concat packets)) in
-    let behind : Outputs o o' (IsFrontBehind before_it text) = front_behind before_it text o now o' next.has.wrote front in
+    let behind : OutputsText o o' (IsPrefixBehind before_it text) = front_behind before_it text o now o' next.has.wrote front in
     record {
       ends = (next.has.packets, next.has.texts, inl (packet, shown_as text bad, texts_of_next next, (reader, next.more), behind));
-      sound = Outputs-weaker (IsFrontBehind before_it text) IsFrontOfText o o' behind
+      sound = OutputsText-weaker (IsPrefixBehind before_it text) IsPrefixOfText o o' behind
           (λ t is.
-          let front : IsFront (all_texts texts) t = subst (λ l. IsFront l t) (sym (all_more next.has.texts (shown_as text bad))) (front_of_both before_it text t is) in
+          let front : IsPrefix (all_texts texts) t = subst (λ l. IsPrefix l t) (sym (all_more next.has.texts (shown_as text bad))) (front_of_both before_it text t is) in
           front_of_text packets texts t next.more.whole (texts_of_next next) (front_more (all_texts texts) last t front));
     }
 
@@ -230,8 +230,8 @@ module _ {I O : Type 0} (one_way : ReadOneWay) (one_text : HasOneText) (input_kn
   o' = out_known out'
 
   -- nothing was read, and this holds of whatever is left
-  unread : (P : List ℕ → List ℕ → Type 0) → i' ≡ i → ((left : List ℕ) → P left left) → Inputs i i' P
-  unread P same holds = subst (λ (now : Known Input). Inputs i now P) (sym same) (Inputs-nothing P i holds)
+  unread : (P : List ℕ → List ℕ → Type 0) → i' ≡ i → ((left : List ℕ) → P left left) → InputsBytes i i' P
+  unread P same holds = subst (λ (now : Known Input). InputsBytes i now P) (sym same) (InputsBytes-nothing P i holds)
 
   abbrev Exactly : Result Bool Fault → List ℕ → Type 0
   Exactly ending left = UnlessMemory ending ((why : capture.Ending) (packets : List (List ℕ)) → capture.IsCaptureOf left packets why → EndsByIt ending why)
@@ -240,16 +240,16 @@ module _ {I O : Type 0} (one_way : ReadOneWay) (one_text : HasOneText) (input_kn
   as_they_end : (ending : Result Bool Fault) (is : capture.Ending) (packets : List (List ℕ)) (left : List ℕ) → EndsByIt ending is → capture.IsCaptureOf left packets is → Exactly ending left
   as_they_end ending is packets left by of = inr (λ why others read. subst (EndsByIt ending) (one_way left packets others is why of read).1 by)
 
-  ends_exactly : (ending : Result Bool Fault) → (ending ≡ Err faults.Read → ⊥) → (ending ≡ Err faults.Write → ⊥) → ShowEnds ending i i' o o' → Inputs i i' (λ left _. Exactly ending left)
+  ends_exactly : (ending : Result Bool Fault) → (ending ≡ Err faults.Read → ⊥) → (ending ≡ Err faults.Write → ⊥) → ShowEnds ending i i' o o' → InputsBytes i i' (λ left _. Exactly ending left)
   ends_exactly (Ok clean) no_read no_write (packets, texts, are, is, wrote, same) =
-      Inputs-weaker (λ left _. capture.IsCaptureOf left packets capture.End) (λ left _. Exactly (Ok clean) left) i i' is (λ left rest of. as_they_end (Ok clean) capture.End packets left (clean, refl) of)
+      InputsBytes-weaker (λ left _. capture.IsCaptureOf left packets capture.End) (λ left _. Exactly (Ok clean) left) i i' is (λ left rest of. as_they_end (Ok clean) capture.End packets left (clean, refl) of)
   ends_exactly (Err faults.NoMemory) no_read no_write (same, none) = unread (λ left _. Exactly (Err faults.NoMemory) left) same (λ left. inl refl)
   ends_exactly (Err faults.Read) no_read no_write ends = absurd (no_read refl)
   ends_exactly (Err faults.Write) no_read no_write ends = absurd (no_write refl)
   ends_exactly (Err (faults.Capture f)) no_read no_write (packets, texts, are, whole, is, wrote) =
-      Inputs-weaker (λ left _. capture.IsCaptureOf left packets (capture.Fault f)) (λ left _. Exactly (Err (faults.Capture f)) left) i i' is (λ left rest of. as_they_end (Err (faults.Capture f)) (capture.Fault f) packets left refl of)
+      InputsBytes-weaker (λ left _. capture.IsCaptureOf left packets (capture.Fault f)) (λ left _. Exactly (Err (faults.Capture f)) left) i i' is (λ left rest of. as_they_end (Err (faults.Capture f)) (capture.Fault f) packets left refl of)
   ends_exactly (Err faults.CaptureTooLong) no_read no_write (packets, texts, are, whole, is, wrote) =
-      Inputs-weaker (λ left _. capture.IsCaptureOf left packets capture.TooLong) (λ left _. Exactly (Err faults.CaptureTooLong) left) i i' is (λ left rest of. as_they_end (Err faults.CaptureTooLong) capture.TooLong packets left refl of)
+      InputsBytes-weaker (λ left _. capture.IsCaptureOf left packets capture.TooLong) (λ left _. Exactly (Err faults.CaptureTooLong) left) i i' is (λ left rest of. as_they_end (Err faults.CaptureTooLong) capture.TooLong packets left refl of)
   ends_exactly (Err faults.Words) no_read no_write ends = absurd ends
   ends_exactly (Err (faults.FacLength n)) no_read no_write ends = absurd ends
   ends_exactly (Err faults.FacOver) no_read no_write ends = absurd ends
@@ -261,19 +261,19 @@ module _ {I O : Type 0} (one_way : ReadOneWay) (one_text : HasOneText) (input_kn
   ends_exactly (Err faults.Link) no_read no_write ends = absurd ends
 
   abbrev Wanted : List (List ℕ) → List PacketText → Result Bool Fault → Type 0
-  Wanted packets texts ending = (ending ≡ Ok (are_clean texts)) × Outputs o o' (λ text. text ≡ capture_text packets texts)
+  Wanted packets texts ending = (ending ≡ Ok (are_clean texts)) × OutputsText o o' (λ text. text ≡ capture_text packets texts)
 
   abbrev Complete : Result Bool Fault → List ℕ → Type 0
   Complete ending left = (packets : List (List ℕ)) (texts : List PacketText) → IsShown left capture.End packets texts → UnlessMemory ending (Wanted packets texts ending)
 
   -- a capture is no other one, and has one text
   is_wanted : (left : List ℕ) (packets : List (List ℕ)) (texts : List PacketText) → IsShown left capture.End packets texts → (clean : Bool) (others : List (List ℕ)) (other_texts : List PacketText)
-      → capture.IsCaptureOf left others capture.End → AreTexts 0 others other_texts → Outputs o o' (λ text. text ≡ capture_text others other_texts) → clean ≡ are_clean other_texts → Wanted packets texts (Ok clean)
+      → capture.IsCaptureOf left others capture.End → AreTexts 0 others other_texts → OutputsText o o' (λ text. text ≡ capture_text others other_texts) → clean ≡ are_clean other_texts → Wanted packets texts (Ok clean)
   is_wanted left packets texts shown clean others other_texts also are wrote is =
       let same : others ≡ packets = (one_way left others packets capture.End capture.End also shown.is).0 in
       let same_texts : other_texts ≡ texts = one_texts one_text 0 packets other_texts texts (subst (λ ps. AreTexts 0 ps other_texts) same are) shown.are in (
         ap Ok (is ∙ ap are_clean same_texts),
-        Outputs-weaker (λ text. text ≡ capture_text others other_texts) (λ text. text ≡ capture_text packets texts) o o' wrote
+        OutputsText-weaker (λ text. text ≡ capture_text others other_texts) (λ text. text ≡ capture_text packets texts) o o' wrote
             (λ t p. p ∙ ap (λ ps. capture_text ps other_texts) same ∙ ap (capture_text packets) same_texts),
       )
 
@@ -281,18 +281,18 @@ module _ {I O : Type 0} (one_way : ReadOneWay) (one_text : HasOneText) (input_kn
   not_faulty : (left : List ℕ) (packets : List (List ℕ)) (texts : List PacketText) → IsShown left capture.End packets texts → (why : capture.Ending) (others : List (List ℕ)) → capture.IsCaptureOf left others why → capture.End ≡ why
   not_faulty left packets texts shown why others is = (one_way left packets others capture.End why shown.is is).1
 
-  completes : (ending : Result Bool Fault) → (ending ≡ Err faults.Read → ⊥) → (ending ≡ Err faults.Write → ⊥) → ShowEnds ending i i' o o' → Inputs i i' (λ left _. Complete ending left)
+  completes : (ending : Result Bool Fault) → (ending ≡ Err faults.Read → ⊥) → (ending ≡ Err faults.Write → ⊥) → ShowEnds ending i i' o o' → InputsBytes i i' (λ left _. Complete ending left)
   completes (Ok clean) no_read no_write (others, other_texts, are, is, wrote, same) =
-      Inputs-weaker (λ left _. capture.IsCaptureOf left others capture.End) (λ left _. Complete (Ok clean) left) i i' is
+      InputsBytes-weaker (λ left _. capture.IsCaptureOf left others capture.End) (λ left _. Complete (Ok clean) left) i i' is
       (λ left rest also packets texts shown. inr (is_wanted left packets texts shown clean others other_texts also are wrote same))
   completes (Err faults.NoMemory) no_read no_write (same, none) = unread (λ left _. Complete (Err faults.NoMemory) left) same (λ left packets texts shown. inl refl)
   completes (Err faults.Read) no_read no_write ends = absurd (no_read refl)
   completes (Err faults.Write) no_read no_write ends = absurd (no_write refl)
   completes (Err (faults.Capture f)) no_read no_write (others, other_texts, are, whole, is, wrote) =
-      Inputs-weaker (λ left _. capture.IsCaptureOf left others (capture.Fault f)) (λ left _. Complete (Err (faults.Capture f)) left) i i' is
+      InputsBytes-weaker (λ left _. capture.IsCaptureOf left others (capture.Fault f)) (λ left _. Complete (Err (faults.Capture f)) left) i i' is
       (λ left rest also packets texts shown. absurd (let x : capture.End ≡ capture.Fault f = not_faulty left packets texts shown (capture.Fault f) others also in cc))
   completes (Err faults.CaptureTooLong) no_read no_write (others, other_texts, are, whole, is, wrote) =
-      Inputs-weaker (λ left _. capture.IsCaptureOf left others capture.TooLong) (λ left _. Complete (Err faults.CaptureTooLong) left) i i' is
+      InputsBytes-weaker (λ left _. capture.IsCaptureOf left others capture.TooLong) (λ left _. Complete (Err faults.CaptureTooLong) left) i i' is
       (λ left rest also packets texts shown. absurd (let x : capture.End ≡ capture.TooLong = not_faulty left packets texts shown capture.TooLong others also in cc))
   completes (Err faults.Words) no_read no_write ends = absurd ends
   completes (Err (faults.FacLength n)) no_read no_write ends = absurd ends

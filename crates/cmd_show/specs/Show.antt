@@ -1,9 +1,9 @@
 -- The command `show`: what is in each packet of a capture.
 use Rattle.std.specs.Prelude.{ℕ, ◌≡◌, ◌+◌, ◌⊎◌, All, Bool, not, List, [], ◌∷◌, ◌++◌, length, Result, Ok, Err}
 use Rattle.std.specs.List.{concat, flat_map, list_all}
-use Rattle.drm_links.specs.Told.{HasFailed, Known, HasCause}
-use Rattle.drm_links.specs.Source.{Input, Inputs}
-use Rattle.drm_links.specs.Sink.{Output, Outputs, IsFront, IsFrontBehind}
+use Rattle.drm_links.specs.Known.{HasFailed, Known, HasCause}
+use Rattle.drm_links.specs.Source.{Input, InputsBytes}
+use Rattle.drm_links.specs.Sink.{Output, OutputsText, IsPrefix, IsPrefixBehind}
 use Rattle.capture_reader.specs.declared.packets.CaptureStop.{CaptureStop}
 use Rattle.capture_reader.specs.declared.packets.CaptureStop.TheVariants as stops
 use Rattle.capture_reader.specs.Front.{IsWhole}
@@ -49,31 +49,31 @@ pub record IsShown (left : List ℕ) (ending : capture.Ending) (packets : List (
 abbrev pub WritesAll : Bool → Known Input → Known Input → Known Output → Known Output → Type 0
 WritesAll clean before after out out' =
     (packets : List (List ℕ)) × (texts : List PacketText) × AreTexts 0 packets texts
-    × Inputs before after (λ left _. capture.IsCaptureOf left packets capture.End)
-    × Outputs out out' (λ text. text ≡ capture_text packets texts) × (clean ≡ are_clean texts)
+    × InputsBytes before after (λ left _. capture.IsCaptureOf left packets capture.End)
+    × OutputsText out out' (λ text. text ≡ capture_text packets texts) × (clean ≡ are_clean texts)
 
 -- No more can be read for this reason: the texts of the packets that are whole in the bytes taken are written.
 abbrev pub WritesUntil : CaptureStop → Known Input → Known Input → Known Output → Known Output → Type 0
 WritesUntil stop before after out out' =
     (packets : List (List ℕ)) × (texts : List PacketText) × AreTexts 0 packets texts
     × All IsWhole packets × ReadingStops packets stop before after
-    × Outputs out out' (λ text. text ≡ all_texts texts)
+    × OutputsText out out' (λ text. text ≡ all_texts texts)
 
 -- A write failed. The texts of some packets are written and a front of that of the next one, which is the last that was read; or
 -- those of all packets, and a front of the last line.
-abbrev pub WritesFront : Known Input → Known Input → Known Output → Known Output → Type 0
-WritesFront before after out out' =
+abbrev pub WritesPrefix : Known Input → Known Input → Known Output → Known Output → Type 0
+WritesPrefix before after out out' =
     (packets : List (List ℕ)) × (texts : List PacketText)
     × (((packet : List ℕ) × (shown : PacketText) × AreTexts 0 (packets ++ packet ∷ []) (texts ++ shown ∷ [])
     × ((reader : WalkerState) × HasRead (packets ++ packet ∷ []) reader before after)
-    × Outputs out out' (IsFrontBehind (all_texts texts) shown.text))
-    ⊎ (AreTexts 0 packets texts × Inputs before after (λ left _. capture.IsCaptureOf left packets capture.End)
-    × Outputs out out' (IsFrontBehind (all_texts texts) (end_packets_line (length packets) (length (concat packets))))))
+    × OutputsText out out' (IsPrefixBehind (all_texts texts) shown.text))
+    ⊎ (AreTexts 0 packets texts × InputsBytes before after (λ left _. capture.IsCaptureOf left packets capture.End)
+    × OutputsText out out' (IsPrefixBehind (all_texts texts) (end_packets_line (length packets) (length (concat packets))))))
 
 -- What is read and written; where memory is wanting, nothing.
 abbrev pub ShowEnds : Result Bool Fault → Known Input → Known Input → Known Output → Known Output → Type 0
 ShowEnds (Ok clean) before after out out' = WritesAll clean before after out out'
-ShowEnds (Err faults.Write) before after out out' = WritesFront before after out out'
+ShowEnds (Err faults.Write) before after out out' = WritesPrefix before after out out'
 ShowEnds (Err faults.Read) before after out out' = WritesUntil stops.Read before after out out'
 ShowEnds (Err (faults.Capture fault)) before after out out' = WritesUntil (stops.Capture fault) before after out out'
 ShowEnds (Err faults.CaptureTooLong) before after out out' = WritesUntil stops.TooLong before after out out'
@@ -86,13 +86,13 @@ IsWholeText clean text =
     (packets : List (List ℕ)) × All IsWhole packets × (texts : List PacketText) × AreTexts 0 packets texts
     × (text ≡ capture_text packets texts) × (clean ≡ are_clean texts)
 
-abbrev pub IsFrontOfText : List ℕ → Type 0
-IsFrontOfText text = (clean : Bool) × (whole : List ℕ) × IsWholeText clean whole × IsFront whole text
+abbrev pub IsPrefixOfText : List ℕ → Type 0
+IsPrefixOfText text = (clean : Bool) × (whole : List ℕ) × IsWholeText clean whole × IsPrefix whole text
 
 -- Where out tells, it got a text of packets: a whole one, which is as clean as the run says, or the front of one.
-abbrev pub IsSound : Result Bool Fault → Known Output → Known Output → Type 0
-IsSound (Ok clean) out out' = Outputs out out' (IsWholeText clean)
-IsSound (Err fault) out out' = Outputs out out' IsFrontOfText
+abbrev pub ShowIsSound : Result Bool Fault → Known Output → Known Output → Type 0
+ShowIsSound (Ok clean) out out' = OutputsText out out' (IsWholeText clean)
+ShowIsSound (Err fault) out out' = OutputsText out out' IsPrefixOfText
 
 -- the run ends as the bytes end behind their packets
 abbrev pub EndsByIt : Result Bool Fault → capture.Ending → Type 0
@@ -109,18 +109,18 @@ pub record ShowRun {I O : Type 0} (ending : Result Bool Fault)
   -- What is written is the text of the packets that were read. After a failed write no more is read.
   pub ends : ShowEnds ending (input_known input) (input_known input') (out_known out) (out_known out')
   -- Whatever the input tells, out got no other text than one that packets have.
-  pub sound : IsSound ending (out_known out) (out_known out')
+  pub sound : ShowIsSound ending (out_known out) (out_known out')
   -- After want of memory nothing was read or written.
   pub untouched : ending ≡ Err faults.NoMemory → (input' ≡ input) × (out' ≡ out)
   -- It ends as the input does behind its packets, with the byte and the field, unless a read or a write failed before.
   pub exactly : (ending ≡ Err faults.Read → ⊥) → (ending ≡ Err faults.Write → ⊥)
-      → Inputs (input_known input) (input_known input') (λ left _.
+      → InputsBytes (input_known input) (input_known input') (λ left _.
       UnlessMemory ending ((why : capture.Ending) (packets : List (List ℕ)) → capture.IsCaptureOf left packets why → EndsByIt ending why))
   -- Where no read and no write failed, and the input is a capture, its text is written.
   pub complete : (HasFailed (input_known input) (input_known input') → ⊥) → (HasFailed (out_known out) (out_known out') → ⊥)
-      → Inputs (input_known input) (input_known input') (λ left _. (packets : List (List ℕ)) (texts : List PacketText)
+      → InputsBytes (input_known input) (input_known input') (λ left _. (packets : List (List ℕ)) (texts : List PacketText)
       → IsShown left capture.End packets texts
-      → UnlessMemory ending ((ending ≡ Ok (are_clean texts)) × Outputs (out_known out) (out_known out') (λ text. text ≡ capture_text packets texts)))
+      → UnlessMemory ending ((ending ≡ Ok (are_clean texts)) × OutputsText (out_known out) (out_known out') (λ text. text ≡ capture_text packets texts)))
   -- A count of faults rose, by one, exactly where a read or a write ended the run.
   pub read_cause : HasCause (input_known input) (input_known input') (ending ≡ Err faults.Read)
   pub write_cause : HasCause (out_known out) (out_known out') (ending ≡ Err faults.Write)

@@ -1,7 +1,7 @@
 //! The command `fac`.
 
 ghost use Rattle.std.specs.Prelude.{◌≡◌, IfOk, IsErrOf};
-ghost use Rattle.drm_links.specs.Told.{HasCause};
+ghost use Rattle.drm_links.specs.Known.{HasCause};
 ghost use Rattle.drm_fac.specs.Fac.{FacFits};
 ghost use Rattle.cmd_show.specs.Fac.{ReadsFac, FacRun};
 

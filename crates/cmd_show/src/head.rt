@@ -1,7 +1,7 @@
 //! The front of an input.
 
 ghost use Rattle.std.specs.Prelude.{ℕ, ◌≡◌, IfOk, OnErr, IsErr, length};
-ghost use Rattle.drm_links.specs.Told.{HasCause};
+ghost use Rattle.drm_links.specs.Known.{HasCause};
 ghost use Rattle.cmd_show.specs.Input.{ReadsHead, FailsWithin};
 
 use cmd_faults::Fault;
@@ -27,12 +27,12 @@ impl From<ReadFault> for Fault {
 
 /// The first ten bytes of an input, or all of them.
 #[derive(Drop)]
-pub struct Head {
+pub struct InputHead {
     bytes: [u8; HEAD_SIZE],
     len: usize,
 }
 
-impl Model for Head {
+impl Model for InputHead {
     ghost use Rattle.std.specs.Prelude.{List, ℕ, take, ◌≤◌};
 
     ghost Value = { List ℕ };
@@ -42,7 +42,7 @@ impl Model for Head {
     ghost invariant = { λ head. head.len ≤ 10 };
 }
 
-impl Head {
+impl InputHead {
     ghost use Rattle.std.specs.Prelude.{IsSome, ◌↔◌, IfSome};
 
     pub fn len(&self) -> usize
@@ -65,7 +65,7 @@ impl Head {
 }
 
 /// Reads until the input ends or a tenth byte came.
-pub fn read_head<I: Source>(input: &mut I) -> Result<Head, ReadFault>
+pub fn read_head<I: Source>(input: &mut I) -> Result<InputHead, ReadFault>
     ensures read { IfOk result (λ head. ReadsHead head (I.known input.old) (I.known input.new)) }
     ensures failed { OnErr result
         ((taken : ℕ) × FailsWithin taken (I.known input.old) (I.known input.new)) }
@@ -80,5 +80,5 @@ pub fn read_head<I: Source>(input: &mut I) -> Result<Head, ReadFault>
             ReadOut::Failed => return Err(ReadFault),
         }
     }
-    Ok(Head { bytes, len })
+    Ok(InputHead { bytes, len })
 }

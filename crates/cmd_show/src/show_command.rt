@@ -1,6 +1,6 @@
 //! The command `show`.
 
-ghost use Rattle.report_dump.specs.Content.{PacketBegins};
+ghost use Rattle.report_dump.specs.PacketContent.{PacketBegins};
 ghost use Rattle.report_dump.specs.Shown.{ShowsPacket};
 ghost use Rattle.cmd_show.specs.Show.{ShowRun};
 

@@ -5,11 +5,11 @@ use Rattle.std.proofs.Math.Nat.{div-eq-sub-div, div-eq_of_lt, add-mul-mod_self_l
 use Rattle.std.proofs.lemmas.List.{append-nil, get_or-drop, map-append}
 use Rattle.std.proofs.lemmas.Grind.{common_steps}
 use Rattle.drm_bits.specs.Bits.{IsBytes}
-use Rattle.drm_links.specs.Told.{Known}
-use Rattle.drm_links.specs.Sink.{Output, Outputs, WritesWhole}
-use Rattle.drm_links.proofs.ToldLemmas.{Outputs-nothing, Outputs-then, Outputs-weaker}
+use Rattle.drm_links.specs.Known.{Known}
+use Rattle.drm_links.specs.Sink.{Output, OutputsText, WritesWhole}
+use Rattle.drm_links.proofs.KnownLemmas.{OutputsText-nothing, OutputsText-then, OutputsText-weaker}
 use Rattle.drm_links.proofs.WritingLemmas.{Writes-broken, Writes-whole}
-use Rattle.drm_data.specs.Joining.{Event, ReadsDataPacket, State, Answer, Silent, Whole, CutOff, CutWhole, Refuses, answer, after}
+use Rattle.drm_data.specs.Joining.{JoinerEvent, ReadsDataPacket, JoinerState, JoinerAnswer, Silent, Whole, CutOff, CutWhole, Refuses, answer, after}
 use Rattle.cmd_unpack.specs.declared.counts.Counts.{Counts}
 use Rattle.cmd_unpack.specs.declared.units.UnitTaker.{UnitTaker}
 use Rattle.cmd_unpack.specs.Streams.{cut_into}
@@ -58,7 +58,7 @@ pub record Come (t u : UnitTaker) (bytes rest : List ℕ) (a b : Known Output) :
   pub shorter : length rest ≤ length bytes
   pub written : List ℕ
   pub joins : JoinsEntries t u (map Some done) 0 0 written
-  pub text : Outputs a b (λ l. l ≡ written)
+  pub text : OutputsText a b (λ l. l ≡ written)
   pub still : b.faults ≡ a.faults
   pub are : IsBytes rest
   pub joiner : IsJoinerOf u
@@ -73,13 +73,13 @@ come_none t bytes a whole joiner are = record {
   shorter = omega arith;
   written = [];
   joins = joins_none t;
-  text = Outputs-nothing a (λ l. l ≡ []) refl;
+  text = OutputsText-nothing a (λ l. l ≡ []) refl;
   still = refl;
   joiner = joiner;
   room = λ m below. (let none : m ≡ m + (length bytes - length bytes) = omega arith in subst (AreBelow t.counts) none below);
 }
 
-below_one : (counts : Counts) (said : Answer) (m n : ℕ) → m + 1 ≤ n → AreBelow counts m → AreBelow (counted counts said) n
+below_one : (counts : Counts) (said : JoinerAnswer) (m n : ℕ) → m + 1 ≤ n → AreBelow counts m → AreBelow (counted counts said) n
 below_one counts Silent m n more below = record { given = omega (arith, below.given, more); cut = omega (arith, below.cut, more); bad = omega (arith, below.bad, more); missing = omega (arith, below.missing, more) }
 below_one counts (Whole unit) m n more below = record { given = omega (arith, below.given, more); cut = omega (arith, below.cut, more); bad = omega (arith, below.bad, more); missing = omega (arith, below.missing, more) }
 below_one counts CutOff m n more below = record { given = omega (arith, below.given, more); cut = omega (arith, below.cut, more); bad = omega (arith, below.bad, more); missing = omega (arith, below.missing, more) }
@@ -88,14 +88,14 @@ below_one counts (Refuses fault true) m n more below = record { given = omega (a
 below_one counts (Refuses fault false) m n more below = record { given = omega (arith, below.given, more); cut = omega (arith, below.cut, more); bad = omega (arith, below.bad, more); missing = omega (arith, below.missing, more) }
 
 -- what the taker is behind an event
-abbrev pub behind : UnitTaker → State → Counts → UnitTaker
+abbrev pub behind : UnitTaker → JoinerState → Counts → UnitTaker
 behind u joiner counts = record { stream = u.stream; length = u.length; joiner = joiner; counts = counts }
 
 -- one piece more
-pub come_one : (t u : UnitTaker) (bytes rest piece left : List ℕ) (event : Event) (joiner : State) (counts : Counts) (a b c : Known Output)
+pub come_one : (t u : UnitTaker) (bytes rest piece left : List ℕ) (event : JoinerEvent) (joiner : JoinerState) (counts : Counts) (a b c : Known Output)
     → Come t u bytes rest a b → t.length + 3 ≤ length rest → piece ≡ take (t.length + 3) rest → left ≡ drop (t.length + 3) rest
     → ReadsDataPacket u.joiner.length piece event → joiner ≡ after u.joiner event → counts ≡ counted u.counts (answer u.joiner event)
-    → Outputs b c (λ l. l ≡ answer_text (answer u.joiner event)) → c.faults ≡ b.faults → Come t (behind u joiner counts) bytes left a c
+    → OutputsText b c (λ l. l ≡ answer_text (answer u.joiner event)) → c.faults ≡ b.faults → Come t (behind u joiner counts) bytes left a c
 come_one t u bytes rest piece left event joiner counts a b c i enough piece_is left_is reads joins counts_are text still =
     let n : ℕ = t.length + 3 in
     let line : List ℕ = answer_text (answer u.joiner event) in
@@ -110,17 +110,17 @@ come_one t u bytes rest piece left event joiner counts a b c i enough piece_is l
       written = i.written ++ line;
       joins = subst (λ (l : List (Option (List ℕ))). JoinsEntries t (behind u joiner counts) l 0 0 (i.written ++ line)) (sym (map-append Some i.done (piece ∷ [])))
           (joins_then t u (behind u joiner counts) (map Some i.done) (Some piece ∷ []) 0 0 0 0 i.written line i.joins one);
-      text = Outputs-then (λ l. l ≡ i.written) (λ l. l ≡ line) (λ l. l ≡ i.written ++ line) a b c i.text text (λ x y p q. ap (λ l. l ++ y) p ∙ ap (λ l. i.written ++ l) q);
+      text = OutputsText-then (λ l. l ≡ i.written) (λ l. l ≡ line) (λ l. l ≡ i.written ++ line) a b c i.text text (λ x y p q. ap (λ l. l ++ y) p ∙ ap (λ l. i.written ++ l) q);
       still = still ∙ i.still;
       are = subst IsBytes (sym left_is) (bytes_drop n rest i.are);
-      joiner = (ap (λ (s : State). s.length) joins ∙ (after_length u.joiner event ∙ i.joiner.0), i.joiner.1);
+      joiner = (ap (λ (s : JoinerState). s.length) joins ∙ (after_length u.joiner event ∙ i.joiner.0), i.joiner.1);
       room = λ m below. (
           let most : m + (length bytes - length rest) + 1 ≤ m + (length bytes - length left) = omega (arith, i.shorter, size, enough) in
           subst (λ (k : Counts). AreBelow k (m + (length bytes - length left))) (sym counts_are) (below_one u.counts (answer u.joiner event) (m + (length bytes - length rest)) (m + (length bytes - length left)) most (i.room m below)));
     }
 
 -- the write of one failed
-pub come_broken : {E F : Type 0} (t u v : UnitTaker) (bytes rest piece left : List ℕ) (event : Event) (joiner : State) (counts : Counts) (a b c : Known Output) (r : Result (Unit {0}) E) (other : E) (fault : F)
+pub come_broken : {E F : Type 0} (t u v : UnitTaker) (bytes rest piece left : List ℕ) (event : JoinerEvent) (joiner : JoinerState) (counts : Counts) (a b c : Known Output) (r : Result (Unit {0}) E) (other : E) (fault : F)
     → Come t u bytes rest a b → t.length + 3 ≤ length rest → piece ≡ take (t.length + 3) rest → left ≡ drop (t.length + 3) rest
     → ReadsDataPacket u.joiner.length piece event → joiner ≡ after u.joiner event → counts ≡ counted u.counts (answer u.joiner event)
     → r ≡ Err other → WritesWhole r b c (answer_text (answer u.joiner event))
@@ -131,7 +131,7 @@ come_broken {E} {F} t u v bytes rest piece left event joiner counts a b c r othe
     let w : UnitTaker = behind u joiner counts in
     let step : pieces n rest ≡ piece ∷ pieces n left = pieces_step n rest (omega arith) enough ∙ (ap (λ l. l ∷ pieces n (drop n rest)) (sym piece_is) ∙ ap (λ l. piece ∷ pieces n l) (sym left_is)) in
     let one : JoinsEntries u w (Some piece ∷ []) 0 0 line = joins_event u joiner counts (Some piece) event (reads, refl) joins counts_are in
-    let long : 1 ≤ w.joiner.length = omega (arith, ap (λ (s : State). s.length) joins, after_length u.joiner event, i.joiner.0, i.joiner.1) in
+    let long : 1 ≤ w.joiner.length = omega (arith, ap (λ (s : JoinerState). s.length) joins, after_length u.joiner event, i.joiner.0, i.joiner.1) in
     let (x, more, last) = some_joining (pieces n left) w long (cut_bytes n (length left / n) left (subst IsBytes (sym left_is) (bytes_drop n rest i.are))) in
     let tail : JoinsEntries u x (Some piece ∷ map Some (pieces n left)) 0 0 (line ++ more) = joins_then u w x (Some piece ∷ []) (map Some (pieces n left)) 0 0 0 0 line more one last in
     let all : JoinsEntries t x (map Some i.done ++ map Some (piece ∷ pieces n left)) 0 0 (i.written ++ (line ++ more)) =
@@ -143,7 +143,7 @@ come_broken {E} {F} t u v bytes rest piece left event joiner counts a b c r othe
       line = i.written ++ (line ++ more);
       joins = subst (λ (l : List (Option (List ℕ))). JoinsEntries t x l 0 0 (i.written ++ (line ++ more))) entries all;
       writes = Writes-broken (i.written ++ (line ++ more)) line more a b c r other fault
-          (Outputs-weaker (λ l. l ≡ i.written) (λ l. l ++ (line ++ more) ≡ i.written ++ (line ++ more)) a b i.text (λ l e. ap (λ k. k ++ (line ++ more)) e)) i.still is writes;
+          (OutputsText-weaker (λ l. l ≡ i.written) (λ l. l ++ (line ++ more) ≡ i.written ++ (line ++ more)) a b i.text (λ l e. ap (λ k. k ++ (line ++ more)) e)) i.still is writes;
       after_is = tt;
     }
 

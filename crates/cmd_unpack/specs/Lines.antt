@@ -2,7 +2,7 @@
 use Rattle.std.specs.Prelude.{ℕ, ◌==◌, ◌||◌, ◌&&◌, nat_lt, Bool, true, false, if◌then◌else◌, List, [], ◌∷◌, ◌++◌, codes, decimal}
 use Rattle.std.specs.List.{flat_map, concat}
 use Rattle.hex.specs.Hex.{encode_lower}
-use Rattle.drm_data.specs.Joining.{Answer, Silent, Whole, CutOff, CutWhole, Refuses}
+use Rattle.drm_data.specs.Joining.{JoinerAnswer, Silent, Whole, CutOff, CutWhole, Refuses}
 use Rattle.cmd_unpack.specs.declared.counts.Counts.{Counts}
 
 -- the bytes of a unit; an empty one has a dash
@@ -18,14 +18,14 @@ cut_line true = codes "cut\n"
 cut_line false = []
 
 -- what is printed of an answer: a cut, and then a unit
-abbrev pub answer_text : Answer → List ℕ
+abbrev pub answer_text : JoinerAnswer → List ℕ
 answer_text Silent = []
 answer_text (Whole unit) = unit_line unit
 answer_text CutOff = cut_line true
 answer_text (CutWhole unit) = cut_line true ++ unit_line unit
 answer_text (Refuses fault cut) = cut_line cut
 
-abbrev pub answers_text : List Answer → List ℕ
+abbrev pub answers_text : List JoinerAnswer → List ℕ
 answers_text answers = flat_map answer_text answers
 
 -- A control character below 20, 7f and a backslash are two hex digits behind \x.

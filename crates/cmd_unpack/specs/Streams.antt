@@ -1,14 +1,14 @@
 -- What the stream of a frame, or what is said in the frame's place, is in a reading.
 use Rattle.std.specs.Prelude.{ℕ, zero, suc, ◌+◌, ◌-◌, ◌/◌, ◌%◌, ◌==◌, nat_lt, nat_le, if◌then◌else◌, List, [], ◌∷◌, ◌++◌, length, take, drop, map, slice_index, Option, None, Some}
 use Rattle.mdi_items.specs.Frame.{Frame as MdiFrame}
-use Rattle.mod_feed.specs.Items.{Item, Frame, Missing, Bad}
+use Rattle.mod_feed.specs.Items.{FrameItem, Frame, Missing, Bad}
 
 -- What is taken out of a stream: the units of a packet id, in packets of a data length; or text messages.
-pub data What : Type 0 where
-  UnitsOf : (stream id length : ℕ) → What
-  TextsOf : (stream : ℕ) → What
+pub data PayloadKind : Type 0 where
+  UnitsOf : (stream id length : ℕ) → PayloadKind
+  TextsOf : (stream : ℕ) → PayloadKind
 
-abbrev pub stream_in : What → ℕ
+abbrev pub stream_in : PayloadKind → ℕ
 stream_in (UnitsOf stream id length) = stream
 stream_in (TextsOf stream) = stream
 
@@ -23,11 +23,11 @@ cut_into n zero bytes = []
 cut_into n (suc m) bytes = take n bytes ∷ cut_into n m (drop n bytes)
 
 -- The pieces of a stream: those of a packet's size, where it is whole ones; of messages its last four bytes, where it has so many.
-abbrev pub pieces_in : What → List ℕ → Option (List (List ℕ))
+abbrev pub pieces_in : PayloadKind → List ℕ → Option (List (List ℕ))
 pieces_in (UnitsOf stream id d) bytes = if length bytes % (d + 3) == 0 then Some (cut_into (d + 3) (length bytes / (d + 3)) bytes) else None
 pieces_in (TextsOf stream) bytes = if nat_le 4 (length bytes) then Some (drop (length bytes - 4) bytes ∷ []) else None
 
-abbrev pub pieces_of : What → Option (List ℕ) → Option (List (List ℕ))
+abbrev pub pieces_of : PayloadKind → Option (List ℕ) → Option (List (List ℕ))
 pieces_of what None = None
 pieces_of what (Some bytes) = pieces_in what bytes
 
@@ -42,35 +42,35 @@ lacking None = 1
 lacking (Some pieces) = 0
 
 -- the pieces of an item's stream
-abbrev pub pieces_at : What → MdiFrame → List ℕ → Option (List (List ℕ))
+abbrev pub pieces_at : PayloadKind → MdiFrame → List ℕ → Option (List (List ℕ))
 pieces_at what frame payload = pieces_of what (stream_of (stream_in what) frame payload)
 
 -- What an item is in a reading: the pieces of its frame's stream, or a gap.
-abbrev pub entries_at : What → Item → List (Option (List ℕ))
+abbrev pub entries_at : PayloadKind → FrameItem → List (Option (List ℕ))
 entries_at what (Frame index frame payload) = entries_of (pieces_at what frame payload)
 entries_at what (Missing index had total) = None ∷ []
 entries_at what (Bad index fault) = None ∷ []
 
 -- how many bad items it is, and how many missing ones
-abbrev pub bad_at : What → Item → ℕ
+abbrev pub bad_at : PayloadKind → FrameItem → ℕ
 bad_at what (Frame index frame payload) = lacking (pieces_at what frame payload)
 bad_at what (Missing index had total) = 0
 bad_at what (Bad index fault) = 1
 
-abbrev pub missing_at : Item → ℕ
+abbrev pub missing_at : FrameItem → ℕ
 missing_at (Frame index frame payload) = 0
 missing_at (Missing index had total) = 1
 missing_at (Bad index fault) = 0
 
 -- the reading that items make, and how many of them are bad and missing
-abbrev pub reading : What → List Item → List (Option (List ℕ))
+abbrev pub reading : PayloadKind → List FrameItem → List (Option (List ℕ))
 reading what [] = []
 reading what (item ∷ items) = entries_at what item ++ reading what items
 
-abbrev pub bad_in : What → List Item → ℕ
+abbrev pub bad_in : PayloadKind → List FrameItem → ℕ
 bad_in what [] = 0
 bad_in what (item ∷ items) = bad_at what item + bad_in what items
 
-abbrev pub missing_in : List Item → ℕ
+abbrev pub missing_in : List FrameItem → ℕ
 missing_in [] = 0
 missing_in (item ∷ items) = missing_at item + missing_in items

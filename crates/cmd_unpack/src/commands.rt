@@ -1,7 +1,7 @@
 //! The commands `unpack` and `texts`.
 
 ghost use Rattle.std.specs.Prelude.{◌≡◌, ◌<◌, ◌≤◌, IfSome};
-ghost use Rattle.recv_reading.specs.Packets.{Terms};
+ghost use Rattle.recv_reading.specs.Packets.{PacketRange};
 ghost use Rattle.cmd_unpack.specs.Streams.{UnitsOf, TextsOf};
 ghost use Rattle.cmd_unpack.specs.Run.{DataRun};
 
@@ -37,7 +37,7 @@ pub fn unpack<I: Source, O: Sink>(
     requires length { 1 ≤ length }
     requires window { (1 ≤ window) × (window ≤ 64) }
     requires frames { IfSome frames (λ n. (1 ≤ n) × (n ≤ 3000000)) }
-    ensures run { DataRun (record { window = window; reach = reach; first = first; told = frames }) (UnitsOf stream id length) result
+    ensures run { DataRun (record { window = window; reach = reach; first = first; frame_limit = frames }) (UnitsOf stream id length) result
         I.known input.old input.new O.known out.old out.new }
 {
     read_one_way();
@@ -67,7 +67,7 @@ pub fn texts<I: Source, O: Sink>(
     requires stream { stream < 4 }
     requires window { (1 ≤ window) × (window ≤ 64) }
     requires frames { IfSome frames (λ n. (1 ≤ n) × (n ≤ 3000000)) }
-    ensures run { DataRun (record { window = window; reach = reach; first = first; told = frames }) (TextsOf stream) result
+    ensures run { DataRun (record { window = window; reach = reach; first = first; frame_limit = frames }) (TextsOf stream) result
         I.known input.old input.new O.known out.old out.new }
 {
     read_one_way();

@@ -4,7 +4,7 @@ ghost use Rattle.std.specs.Prelude.{◌≡◌};
 ghost use Rattle.std.specs.List.{flat_map};
 ghost use Rattle.drm_links.specs.Sink.{WritesWhole};
 ghost use Rattle.text_output.specs.Text.{text_of};
-ghost use Rattle.drm_data.specs.Joining.{told};
+ghost use Rattle.drm_data.specs.Joining.{answer_of};
 ghost use Rattle.cmd_unpack.specs.Lines.{unit_line, cut_line, answer_text, is_escaped, escaped, text_line, units_end, units_end_text, texts_end, texts_end_text};
 
 use crate::counts::Counts;
@@ -15,7 +15,7 @@ use text_output::{Piece, write_pieces};
 
 /// Writes what is printed of a joiner's answer.
 pub(crate) fn write_answer<O: Sink>(out: &mut O, said: &Joined<'_>) -> Result<(), WriteFault>
-    ensures { WritesWhole result (O.known out.old) (O.known out.new) (answer_text (told said.now)) }
+    ensures { WritesWhole result (O.known out.old) (O.known out.new) (answer_text (answer_of said.now)) }
 {
     match said {
         Joined::Nothing => Ok(()),

@@ -1,11 +1,11 @@
 //! Text messages, taken out of the last four bytes of a stream.
 
 ghost use Rattle.std.specs.Prelude.{◌≡◌, ◌<◌, ◌≤◌, ◌+◌, ◌^◌, ℕ, List, OnOk, IsErr};
-ghost use Rattle.drm_links.specs.Told.{HasCause};
+ghost use Rattle.drm_links.specs.Known.{HasCause};
 ghost use Rattle.drm_links.specs.Sink.{WritesWhole};
 ghost use Rattle.mdi_items.specs.Frame.{frame_of};
 ghost use Rattle.mdi_items.specs.View.{IsWholeView};
-ghost use Rattle.mod_feed.specs.Items.{Item, item_of, IsRead};
+ghost use Rattle.mod_feed.specs.Items.{FrameItem, item_of, IsReadItem};
 ghost use Rattle.cmd_unpack.specs.Streams.{TextsOf, pieces_at};
 ghost use Rattle.cmd_unpack.specs.Lines.{texts_end};
 ghost use Rattle.cmd_unpack.specs.Taken.{AreBelow, TookMessages, TakesMessages, TakesPiece, LastPiece};
@@ -31,8 +31,8 @@ impl MessageTaker {
     pub fn take<O: Sink>(&mut self, item: &FeedItem<'_>, out: &mut O) -> Result<(), WriteFault>
         requires stream { self.old.stream < 4 }
         requires room { AreBelow self.old.counts (2 ^ 126) }
-        requires read { IsRead item.now }
-        ensures takes { (items : List Item) (text : List ℕ) → TookMessages self.old.stream items text self.old
+        requires read { IsReadItem item.now }
+        ensures takes { (items : List FrameItem) (text : List ℕ) → TookMessages self.old.stream items text self.old
             → TakesMessages self.old.stream items (item_of item.now) text result self.new (O.known out.old) (O.known out.new) }
         ensures stream { self.new.stream ≡ self.old.stream }
         ensures grows { OnOk result ((n : ℕ) → AreBelow self.old.counts n → AreBelow self.new.counts (n + 2 ^ 64)) }

@@ -1,12 +1,12 @@
 //! The items of a capture, read and taken.
 
 ghost use Rattle.std.specs.Prelude.{◌≡◌, ◌≤◌, ◌^◌, [], Err, Ok, IfSome, OnOk};
-ghost use Rattle.dcp_collect.specs.State.{made};
-ghost use Rattle.drm_links.specs.Told.{HasCause};
+ghost use Rattle.dcp_collect.specs.CollectorState.{made};
+ghost use Rattle.drm_links.specs.Known.{HasCause};
 ghost use Rattle.capture_reader.specs.Walking.{new_walker};
-ghost use Rattle.recv_reading.specs.Packets.{Terms};
-ghost use Rattle.cmd_unpack.specs.Streams.{What};
-ghost use Rattle.cmd_unpack.specs.Taken.{AreBelow, counts_in, IsReady, Took, TakesAll};
+ghost use Rattle.recv_reading.specs.Packets.{PacketRange};
+ghost use Rattle.cmd_unpack.specs.Streams.{PayloadKind};
+ghost use Rattle.cmd_unpack.specs.Taken.{AreBelow, counts_in, IsTakerReady, TakerTook, TakesAll};
 ghost use Rattle.cmd_unpack.specs.Run.{DataEnds};
 
 use crate::taker::Taker;
@@ -25,17 +25,17 @@ pub(crate) fn take_capture<I: Source, O: Sink>(
     window: u8,
     reach: u16,
     first: Option<u16>,
-    told: Option<u64>,
+    frame_limit: Option<u64>,
     taker: &mut Taker,
     input: &mut I,
     out: &mut O,
 ) -> Result<bool, Fault>
     requires window { (1 ≤ window) × (window ≤ 64) }
-    requires told { IfSome told (λ n. (1 ≤ n) × (n ≤ 3000000)) }
-    requires ready { IsReady taker.old }
+    requires frame_limit { IfSome frame_limit (λ n. (1 ≤ n) × (n ≤ 3000000)) }
+    requires ready { IsTakerReady taker.old }
     requires none { AreBelow (counts_in taker.old) 0 }
-    ensures ends { (what : What) → Took what [] [] taker.old
-        → DataEnds (record { window = window; reach = reach; first = first; told = told }) what result
+    ensures ends { (what : PayloadKind) → TakerTook what [] [] taker.old
+        → DataEnds (record { window = window; reach = reach; first = first; frame_limit = frame_limit }) what result
         (I.known input.old) (I.known input.new) (O.known out.old) (O.known out.new) }
     ensures memory { result ≡ Err Fault.NoMemory → (input.new ≡ input.old) × (out.new ≡ out.old) }
     ensures read { HasCause (I.known input.old) (I.known input.new) (result ≡ Err Fault.Read) }
@@ -43,7 +43,7 @@ pub(crate) fn take_capture<I: Source, O: Sink>(
 {
     let mut collector = Collector::make(alloc, window, reach, first)?;
     let mut packets = Packets::make(alloc)?;
-    take_items(&mut collector, &mut packets, told, taker, input, out)?;
+    take_items(&mut collector, &mut packets, frame_limit, taker, input, out)?;
     taker.end(out)?;
     Ok(taker.is_clean())
 }
@@ -52,7 +52,7 @@ pub(crate) fn take_capture<I: Source, O: Sink>(
 fn take_items<I: Source, O: Sink>(
     collector: &mut Collector,
     packets: &mut Packets,
-    told: Option<u64>,
+    frame_limit: Option<u64>,
     taker: &mut Taker,
     input: &mut I,
     out: &mut O,
@@ -60,12 +60,12 @@ fn take_items<I: Source, O: Sink>(
     requires window { (1 ≤ collector.old.window) × (collector.old.window ≤ 64) }
     requires collector { collector.old ≡ made collector.old.window collector.old.reach collector.old.first }
     requires packets { packets.old ≡ new_walker }
-    requires at_least_one { IfSome told (λ n. 1 ≤ n) }
-    requires within_limit { IfSome told (λ n. n ≤ 3000000) }
-    requires ready { IsReady taker.old }
+    requires at_least_one { IfSome frame_limit (λ n. 1 ≤ n) }
+    requires within_limit { IfSome frame_limit (λ n. n ≤ 3000000) }
+    requires ready { IsTakerReady taker.old }
     requires none { AreBelow (counts_in taker.old) 0 }
-    ensures takes { (what : What) → Took what [] [] taker.old
-        → TakesAll (record { window = collector.old.window; reach = collector.old.reach; first = collector.old.first; told = told }) what result taker.new
+    ensures takes { (what : PayloadKind) → TakerTook what [] [] taker.old
+        → TakesAll (record { window = collector.old.window; reach = collector.old.reach; first = collector.old.first; frame_limit = frame_limit }) what result taker.new
         (I.known input.old) (I.known input.new) (O.known out.old) (O.known out.new) }
     ensures room { OnOk result (AreBelow (counts_in taker.new) (2 ^ 126)) }
     ensures read { HasCause (I.known input.old) (I.known input.new) (result ≡ Err Fault.Read) }
@@ -73,7 +73,7 @@ fn take_items<I: Source, O: Sink>(
     ensures memory { result ≡ Err Fault.NoMemory → ⊥ }
 {
     let mut feed = Feed::new();
-    let mut reading = Reading::new(Bounds::of_capture(told));
+    let mut reading = Reading::new(Bounds::of_capture(frame_limit));
     'items: loop {
         if reading.gives(collector) {
             let Some(next) = collector.next() else {

@@ -1,11 +1,11 @@
 //! Whoever takes the items of a capture.
 
 ghost use Rattle.std.specs.Prelude.{◌≡◌, ◌≤◌, ◌+◌, ◌^◌, ℕ, List, OnOk, IsErr};
-ghost use Rattle.drm_links.specs.Told.{HasCause};
-ghost use Rattle.mod_feed.specs.Items.{Item, item_of, IsRead};
-ghost use Rattle.cmd_unpack.specs.Streams.{What};
+ghost use Rattle.drm_links.specs.Known.{HasCause};
+ghost use Rattle.mod_feed.specs.Items.{FrameItem, item_of, IsReadItem};
+ghost use Rattle.cmd_unpack.specs.Streams.{PayloadKind};
 ghost use Rattle.cmd_unpack.specs.Lines.{is_clean};
-ghost use Rattle.cmd_unpack.specs.Taken.{AreBelow, counts_in, IsReady, Took, TakesItem, EndsText};
+ghost use Rattle.cmd_unpack.specs.Taken.{AreBelow, counts_in, IsTakerReady, TakerTook, TakesItem, EndsText};
 
 use crate::counts::is_clean;
 use crate::messages::MessageTaker;
@@ -23,12 +23,12 @@ pub(crate) enum Taker {
 impl Taker {
     /// Takes an item, and writes what is printed of it.
     pub fn take<O: Sink>(&mut self, item: &FeedItem<'_>, out: &mut O) -> Result<(), WriteFault>
-        requires ready { IsReady self.old }
+        requires ready { IsTakerReady self.old }
         requires room { AreBelow (counts_in self.old) (2 ^ 126) }
-        requires read { IsRead item.now }
-        ensures takes { (what : What) (items : List Item) (text : List ℕ) → Took what items text self.old
+        requires read { IsReadItem item.now }
+        ensures takes { (what : PayloadKind) (items : List FrameItem) (text : List ℕ) → TakerTook what items text self.old
             → TakesItem what items (item_of item.now) text result self.new (O.known out.old) (O.known out.new) }
-        ensures ready { OnOk result (IsReady self.new) }
+        ensures ready { OnOk result (IsTakerReady self.new) }
         ensures grows { OnOk result ((n : ℕ) → AreBelow (counts_in self.old) n → AreBelow (counts_in self.new) (n + 2 ^ 64)) }
         ensures cause { HasCause (O.known out.old) (O.known out.new) (IsErr result) }
     {
@@ -41,7 +41,7 @@ impl Taker {
     /// Writes what is printed at the end.
     pub fn end<O: Sink>(&mut self, out: &mut O) -> Result<(), WriteFault>
         requires room { AreBelow (counts_in self.old) (2 ^ 127) }
-        ensures ends { (what : What) (items : List Item) (text : List ℕ) → Took what items text self.old
+        ensures ends { (what : PayloadKind) (items : List FrameItem) (text : List ℕ) → TakerTook what items text self.old
             → EndsText what items text result self.new (O.known out.old) (O.known out.new) }
         ensures cause { HasCause (O.known out.old) (O.known out.new) (IsErr result) }
     {

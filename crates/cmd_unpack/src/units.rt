@@ -1,12 +1,12 @@
 //! Units, taken out of a stream's packets.
 
 ghost use Rattle.std.specs.Prelude.{◌≡◌, ◌<◌, ◌≤◌, ◌+◌, ◌%◌, ◌/◌, ◌^◌, ◌∷◌, [], ◌++◌, map, Some, None, length, ℕ, OnOk, IsErr, is_some};
-ghost use Rattle.drm_links.specs.Told.{HasCause};
-ghost use Rattle.mod_feed.specs.Items.{item_of, IsRead};
+ghost use Rattle.drm_links.specs.Known.{HasCause};
+ghost use Rattle.mod_feed.specs.Items.{item_of, IsReadItem};
 ghost use Rattle.drm_links.specs.Sink.{WritesWhole};
 ghost use Rattle.mdi_items.specs.Frame.{frame_of};
 ghost use Rattle.mdi_items.specs.View.{IsWholeView};
-ghost use Rattle.drm_data.specs.Joining.{Event, ReadsDataPacket, told, answer, after};
+ghost use Rattle.drm_data.specs.Joining.{JoinerEvent, ReadsDataPacket, answer_of, answer, after};
 ghost use Rattle.cmd_unpack.specs.Streams.{UnitsOf, cut_into, pieces_at, entries_at, bad_at, missing_at};
 ghost use Rattle.cmd_unpack.specs.Lines.{cut_line, answer_text, units_end};
 ghost use Rattle.cmd_unpack.specs.Taken.{AreBelow, counted, ended_counts, TakesEntries, IsJoinerOf, WholePieces};
@@ -38,7 +38,7 @@ impl UnitTaker {
         requires stream { self.old.stream < 4 }
         requires joiner { IsJoinerOf self.old }
         requires room { AreBelow self.old.counts (2 ^ 126) }
-        requires read { IsRead item.now }
+        requires read { IsReadItem item.now }
         ensures takes { (id : ℕ) → let what = UnitsOf self.old.stream id self.old.length in
             TakesEntries result self.old self.new (entries_at what (item_of item.now))
             (bad_at what (item_of item.now)) (missing_at (item_of item.now)) (O.known out.old) (O.known out.new) }
@@ -118,7 +118,7 @@ fn take_piece<O: Sink>(
     out: &mut O,
 ) -> Result<(), WriteFault>
     requires room { AreBelow counts.old (2 ^ 127) }
-    ensures takes { (event : Event) × ReadsDataPacket joiner.old.length piece.now event
+    ensures takes { (event : JoinerEvent) × ReadsDataPacket joiner.old.length piece.now event
         × (joiner.new ≡ after joiner.old event)
         × (counts.new ≡ counted counts.old (answer joiner.old event))
         × WritesWhole result (O.known out.old) (O.known out.new) (answer_text (answer joiner.old event)) }
@@ -130,7 +130,7 @@ fn take_piece<O: Sink>(
 
 fn count(counts: &mut Counts, said: &Joined<'_>)
     requires { AreBelow counts.old (2 ^ 127) }
-    ensures { counts.new ≡ counted counts.old (told said.now) }
+    ensures { counts.new ≡ counted counts.old (answer_of said.now) }
 {
     match said {
         Joined::Nothing => {}

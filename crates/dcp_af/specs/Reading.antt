@@ -4,7 +4,7 @@ use Rattle.std.specs.Int.{w16, from_be_bytes}
 use Rattle.dcp_af.specs.declared.fault.AfFault.{AfFault}
 use Rattle.dcp_af.specs.declared.fault.AfFault.TheVariants.{Crc}
 use Rattle.dcp_af.specs.declared.read.Af.{Af}
-use Rattle.dcp_af.specs.declared.head.Head.{Head}
+use Rattle.dcp_af.specs.declared.head.AfHead.{AfHead}
 use Rattle.drm_bits.specs.Crc.{IsCheckOf}
 use Rattle.dcp_af.specs.Packet.{AfPacket}
 use Rattle.dcp_af.specs.Faults.{described, sequence_number, is_checked, major, minor, kind}
@@ -14,7 +14,7 @@ abbrev pub packet_of : Af → AfPacket
 packet_of af = record { seq = af.seq; checked = af.checked; minor = af.minor; payload = af.payload.now }
 
 -- the fields of the head of these bytes
-pub record IsHeadOf (h : Head) (bytes : List ℕ) : Type 0 where
+pub record IsHeadOf (h : AfHead) (bytes : List ℕ) : Type 0 where
   pub length : h.len + 12 ≡ described bytes
   pub seq : h.seq ≡ sequence_number bytes
   pub checked : h.checked ≡ is_checked bytes

@@ -15,7 +15,7 @@ pub(crate) const MAJOR: u8 = 1;
 pub(crate) const TAG_KIND: u8 = b'T';
 
 #[derive(Drop)]
-pub(crate) struct Head {
+pub(crate) struct AfHead {
     /// The length of the payload in bytes.
     pub len: u32,
     pub seq: u16,
@@ -26,12 +26,12 @@ pub(crate) struct Head {
     pub kind: u8,
 }
 
-pub(crate) fn head_of(packet: &[u8]) -> Head
+pub(crate) fn head_of(packet: &[u8]) -> AfHead
     requires { 10 ≤ length packet.now }
     ensures { IsHeadOf result packet.now }
 {
     let revision = packet[8];
-    Head {
+    AfHead {
         len: u32::from_be_bytes([packet[2], packet[3], packet[4], packet[5]]),
         seq: u16::from_be_bytes([packet[6], packet[7]]),
         checked: revision >= 0x80,

@@ -6,7 +6,7 @@ ghost use Rattle.dcp_af.specs.Faults.{IsFault, HasKind, payload};
 ghost use Rattle.dcp_af.specs.Reading.{packet_of, IsHeadOf, ComparesCheckValue};
 
 use crate::AfFault;
-use crate::head::{CHECK_BYTES, HEAD_BYTES, Head, MAJOR, TAG_KIND, head_of};
+use crate::head::{AfHead, CHECK_BYTES, HEAD_BYTES, MAJOR, TAG_KIND, head_of};
 use drm_bits::compare_crc16;
 
 /// An AF packet.
@@ -55,7 +55,7 @@ pub fn payload_of(packet: &[u8]) -> &[u8]
 }
 
 // The head, where it isn't refused.
-fn read_head(packet: &[u8]) -> Result<Head, AfFault>
+fn read_head(packet: &[u8]) -> Result<AfHead, AfFault>
     ensures fault { IfErr result (λ fault. IsFault fault packet.now) }
     ensures whole { OnOk result (HasKind packet.now) }
     ensures head { IfOk result (λ head. IsHeadOf head packet.now) }

@@ -4,8 +4,8 @@ use Rattle.std.specs.List.{AllByRecursion}
 use Rattle.std.proofs.lemmas.Bool.{false≢true}
 use Rattle.std.proofs.lemmas.List.{append-nil}
 use Rattle.dcp_af.specs.Packet.{AfPacket, IsAf}
-use Rattle.dcp_collect.specs.declared.made.Found.TheVariants.{Made}
-use Rattle.dcp_collect.specs.Fragments.{Fragment, of_packet}
+use Rattle.dcp_collect.specs.declared.made.PacketOutcome.TheVariants.{Made}
+use Rattle.dcp_collect.specs.Fragments.{NumberedFragment, of_packet}
 use Rattle.dcp_collect.specs.Decoding.{joined}
 use Rattle.dcp_collect.specs.Reading.{Incoming, IsIncoming}
 use Rattle.dcp_collect.specs.Made.{IsMade}
@@ -21,7 +21,7 @@ read_alone n i bytes (inr (f, is, e)) =
     subst (λ (x : Incoming). IsAlone (record { number = n; head = x.head; payload = x.payload })) (sym e) (λ whole. absurd (false≢true whole))
 
 -- and what is made of it is that packet
-af_of : (those : List Fragment) (len : ℕ) (whole : Bool) (buffer : List ℕ) → AllByRecursion IsAlone those → IsMade those (Made len whole) buffer
+af_of : (those : List NumberedFragment) (len : ℕ) (whole : Bool) (buffer : List ℕ) → AllByRecursion IsAlone those → IsMade those (Made len whole) buffer
     → whole ≡ true → (af : AfPacket) × IsAf af (take len buffer)
 af_of [] len whole buffer all made is = absurd (false≢true made.0)
 af_of (f ∷ fs) len whole buffer all made is =
@@ -31,11 +31,11 @@ af_of (f ∷ fs) len whole buffer all made is =
     let bytes : take len buffer ≡ f.payload = plain ∙ ap joined one.1 ∙ append-nil one.0.payload ∙ sym (ap payload_of one.1) in
     (p.2.0, subst (IsAf p.2.0) (sym bytes) p.2.1)
   where
-    payload_of : List Fragment → List ℕ
+    payload_of : List NumberedFragment → List ℕ
     payload_of [] = []
     payload_of (g ∷ gs) = g.payload
 
-pub af_given : (kept : List Fragment) (q len : ℕ) (whole : Bool) (buffer : List ℕ) → AllByRecursion IsAlone kept
+pub af_given : (kept : List NumberedFragment) (q len : ℕ) (whole : Bool) (buffer : List ℕ) → AllByRecursion IsAlone kept
     → IsMade (of_packet q kept) (Made len whole) buffer → whole ≡ true → (af : AfPacket) × IsAf af (take len buffer)
 af_given kept q len whole buffer all =
     af_of (of_packet q kept) len whole buffer

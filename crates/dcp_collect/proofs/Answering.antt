@@ -4,7 +4,7 @@ use Rattle.std.specs.Prelude.{ℤ}
 use Rattle.dcp_collect.specs.declared.head.Head.{Head}
 use Rattle.dcp_collect.specs.declared.taken.Field.TheVariants.{Far}
 use Rattle.dcp_collect.specs.declared.taken.Taken.TheVariants.{Refused}
-use Rattle.dcp_collect.specs.State.{State, is_far, answer_within, answer_at}
+use Rattle.dcp_collect.specs.CollectorState.{CollectorState, is_far, answer_within, answer_at}
 
-pub not_far : (c : State) (n : ℤ) (head : Head) → is_far c n ≡ false → answer_at c n head ≡ answer_within c n head
+pub not_far : (c : CollectorState) (n : ℤ) (head : Head) → is_far c n ≡ false → answer_at c n head ≡ answer_within c n head
 not_far c n head far = ap (λ b. if b then Refused Far else answer_within c n head) far

@@ -4,7 +4,7 @@ use Rattle.std.proofs.lemmas.Bool.{cases_lt}
 use Rattle.std.proofs.lemmas.List.{get_or_past, get_or-take, get_or-drop, get_or-replicate, length-take-le, length-drop, length-replicate}
 use Rattle.std.specs.List.{Contains}
 use Rattle.rs_erase.specs.Code.{AgreesOutside}
-use Rattle.dcp_collect.specs.Fragments.{Fragment, has_index}
+use Rattle.dcp_collect.specs.Fragments.{NumberedFragment, has_index}
 use Rattle.dcp_collect.specs.Erasure.{erased_positions, position, received, received_word}
 use Rattle.dcp_collect.specs.Counters.{MarksDescribe}
 use Rattle.rs_patterns.proofs.Positions.{position_in_chunk, position_in_parity, kept_outside}
@@ -12,7 +12,7 @@ use Rattle.drm_bits.proofs.PutLemmas.{put_byte, put_before, put_behind, put_long
 use Rattle.dcp_collect.proofs.Received.{at_chunk, at_fill, at_parity, word_at, word_length}
 
 -- It is that of the fragments outside the erased positions.
-pub word_agrees : (count : ℕ) (fs : List Fragment) (marks : List Bool) (bytes word : List ℕ) (k start : ℕ) → k ≤ 207
+pub word_agrees : (count : ℕ) (fs : List NumberedFragment) (marks : List Bool) (bytes word : List ℕ) (k start : ℕ) → k ≤ 207
     → MarksDescribe count fs marks bytes start (start + k + 48) → length word ≡ 255
     → ((j : ℕ) → j < k + 48 → get_or word (position k j) 0 ≡ get_or bytes (start + j) 0)
     → ((p : ℕ) → k ≤ p → p < 207 → get_or word p 0 ≡ 0)

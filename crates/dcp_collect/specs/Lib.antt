@@ -1,7 +1,7 @@
 pub mod Fragments
 pub mod Reading
 pub mod Numbers
-pub mod State
+pub mod CollectorState
 pub mod Decoding
 pub mod Runs
 pub mod View

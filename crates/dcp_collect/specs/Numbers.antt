@@ -8,6 +8,6 @@ newer (Some newest) n = Some (max newest n)
 
 -- the end of the numbers: the told one, or behind the newest
 abbrev pub end_of : Option ℕ → Option ℕ → ℕ
-end_of (Some told) newest = told
+end_of (Some upto) newest = upto
 end_of None (Some n) = n + 1
 end_of None None = 0

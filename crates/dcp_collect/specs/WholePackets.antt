@@ -3,17 +3,17 @@ use Rattle.std.specs.Prelude.{◌≡◌, Bool, true, false, List, [], ◌∷◌,
 use Rattle.dcp_af.specs.Packet.{AfPacket, IsAf}
 use Rattle.dcp_collect.specs.declared.item.Out.{Out}
 use Rattle.dcp_collect.specs.declared.item.Out.TheVariants.{Packet, Lost, Damaged}
-use Rattle.dcp_collect.specs.Fragments.{Fragment, of_packet}
-use Rattle.dcp_collect.specs.State.{State}
+use Rattle.dcp_collect.specs.Fragments.{NumberedFragment, of_packet}
+use Rattle.dcp_collect.specs.CollectorState.{CollectorState}
 
 -- these are the fragments of a packet that came as one datagram
-abbrev pub came_whole : List Fragment → Bool
-came_whole [] = false
-came_whole (f ∷ fs) = f.head.whole
+abbrev pub is_whole_packet : List NumberedFragment → Bool
+is_whole_packet [] = false
+is_whole_packet (f ∷ fs) = f.head.whole
 
 -- a packet is told to be whole exactly where it came so
-abbrev pub TellsWhole : State → Out → Type 0
-TellsWhole c (Packet q bytes whole) = whole ≡ came_whole (of_packet q c.kept)
+abbrev pub TellsWhole : CollectorState → Out → Type 0
+TellsWhole c (Packet q bytes whole) = whole ≡ is_whole_packet (of_packet q c.kept)
 TellsWhole c (Lost q had total) = Unit {0}
 TellsWhole c (Damaged q) = Unit {0}
 
@@ -24,5 +24,5 @@ IsAfIfWhole (Lost q had total) = Unit {0}
 IsAfIfWhole (Damaged q) = Unit {0}
 
 -- a fragment that says that it is whole is an AF packet, the one fragment of it
-abbrev pub IsAlone : Fragment → Type 0
+abbrev pub IsAlone : NumberedFragment → Type 0
 IsAlone f = f.head.whole ≡ true → (f.head.count ≡ 1) × (f.head.rs ≡ None) × ((af : AfPacket) × IsAf af f.payload)

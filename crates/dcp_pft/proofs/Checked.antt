@@ -3,7 +3,7 @@ use Rattle.std.proofs.Common.{◌≡◌, ℕ, ◌+◌, ◌-◌, List, take, drop
 use Rattle.std.specs.Int.{w16, from_be_bytes}
 use Rattle.std.proofs.lemmas.List.{take-take, drop-take}
 use Rattle.drm_bits.specs.Crc.{IsCheckOf}
-use Rattle.drm_bits.specs.Compared.{IsWrong}
+use Rattle.drm_bits.specs.Compared.{IsWrongCheck}
 use Rattle.drm_bits.specs.declared.compared.WrongCheck.{WrongCheck}
 use Rattle.drm_bits.proofs.Checks.{one_check}
 use Rattle.dcp_pft.specs.Faults.{checked_size, checked_bytes, check_value, head_size}
@@ -40,7 +40,7 @@ right bytes size front last cut is =
     subst Q (stands bytes size front last cut) (subst P (checked bytes size front last cut) is)
 
 -- and where they have another, it isn't
-pub wrong : (bytes : List ℕ) (size : ℕ) (front last : List ℕ) (w : WrongCheck) → IsCut bytes size front last → IsWrong w front last
+pub wrong : (bytes : List ℕ) (size : ℕ) (front last : List ℕ) (w : WrongCheck) → IsCut bytes size front last → IsWrongCheck w front last
     → IsCheckOf (checked_bytes bytes) (check_value bytes)
     → ⊥
 wrong bytes size front last w cut other is =

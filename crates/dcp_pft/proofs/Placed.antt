@@ -49,11 +49,11 @@ marks_is f check bytes e =
     ∙ from_be_bytes-to_be_bytes_2 (32768 * flag f.rs + 16384 * flag f.addr + length f.payload) (omega (arith, flag_small f.rs, flag_small f.addr, e.small))
 
 -- whether there are a code and addresses
-code_told : (f : PftFragment) (check : ℕ) (bytes : List ℕ) → EndsWith f check bytes → has_code (marks bytes) ≡ is_some f.rs
-code_told f check bytes e = ap has_code (marks_is f check bytes e) ∙ code_of f.rs f.addr (length f.payload) e.small
+code_marked : (f : PftFragment) (check : ℕ) (bytes : List ℕ) → EndsWith f check bytes → has_code (marks bytes) ≡ is_some f.rs
+code_marked f check bytes e = ap has_code (marks_is f check bytes e) ∙ code_of f.rs f.addr (length f.payload) e.small
 
-addresses_told : (f : PftFragment) (check : ℕ) (bytes : List ℕ) → EndsWith f check bytes → has_addresses (marks bytes) ≡ is_some f.addr
-addresses_told f check bytes e = ap has_addresses (marks_is f check bytes e) ∙ addresses_of f.rs f.addr (length f.payload) e.small
+addresses_marked : (f : PftFragment) (check : ℕ) (bytes : List ℕ) → EndsWith f check bytes → has_addresses (marks bytes) ≡ is_some f.addr
+addresses_marked f check bytes e = ap has_addresses (marks_is f check bytes e) ∙ addresses_of f.rs f.addr (length f.payload) e.small
 
 code_if : List ℕ → Bool → Option Rs
 code_if bytes b = if b then Some (record { k = get_or bytes 12 0; z = get_or bytes 13 0 }) else None
@@ -73,15 +73,15 @@ made seq index count rs addr payload = record { seq = seq; index = index; count 
 
 code_is : (seq index count : ℕ) (rs : Option Rs) (addr : Option Addr) (payload : List ℕ) (check : ℕ) (bytes : List ℕ) → EndsWith (made seq index count rs addr payload) check bytes → code bytes ≡ rs
 unfolding code_if
-code_is seq index count None addr payload check bytes e = ap (code_if bytes) (code_told (made seq index count None addr payload) check bytes e)
+code_is seq index count None addr payload check bytes e = ap (code_if bytes) (code_marked (made seq index count None addr payload) check bytes e)
 code_is seq index count (Some rs) addr payload check bytes e =
-    ap (code_if bytes) (code_told (made seq index count (Some rs) addr payload) check bytes e)
+    ap (code_if bytes) (code_marked (made seq index count (Some rs) addr payload) check bytes e)
     ∙ ap (λ (l : List ℕ). Some (record { k = get_or l 12 0; z = get_or l 13 0 })) e.spelled
 
 place_is : (rs : Option Rs) (bytes : List ℕ) → has_code (marks bytes) ≡ is_some rs → addresses_place bytes ≡ 12 + length (rs_bytes rs)
 unfolding place_if
-place_is None bytes told = ap place_if told
-place_is (Some rs) bytes told = ap place_if told
+place_is None bytes marked = ap place_if marked
+place_is (Some rs) bytes marked = ap place_if marked
 
 numbers_of : (addr : Addr) → (addr.source < 2 ^ 16) × (addr.dest < 2 ^ 16)
     → record { source = from_be_bytes w16 (to_be_bytes w16 addr.source); dest = from_be_bytes w16 (to_be_bytes w16 addr.dest) } ≡ addr
@@ -91,22 +91,22 @@ numbers_of addr fits =
 addresses_is : (seq index count : ℕ) (rs : Option Rs) (addr : Option Addr) (payload : List ℕ) (check : ℕ) (bytes : List ℕ) → EndsWith (made seq index count rs addr payload) check bytes → addresses bytes ≡ addr
 unfolding addresses_if
 addresses_is seq index count rs None payload check bytes e =
-    ap (addresses_if bytes (addresses_place bytes)) (addresses_told (made seq index count rs None payload) check bytes e)
+    ap (addresses_if bytes (addresses_place bytes)) (addresses_marked (made seq index count rs None payload) check bytes e)
 addresses_is seq index count None (Some addr) payload check bytes e =
     let f : PftFragment = made seq index count None (Some addr) payload in
-    ap (addresses_if bytes (addresses_place bytes)) (addresses_told f check bytes e)
-    ∙ (ap (λ (n : ℕ). Some (addresses_at bytes n)) (place_is None bytes (code_told f check bytes e))
+    ap (addresses_if bytes (addresses_place bytes)) (addresses_marked f check bytes e)
+    ∙ (ap (λ (n : ℕ). Some (addresses_at bytes n)) (place_is None bytes (code_marked f check bytes e))
     ∙ (ap (λ (l : List ℕ). Some (addresses_at l 12)) e.spelled ∙ ap (λ (a : Addr). Some a) (numbers_of addr e.addr)))
 addresses_is seq index count (Some rs) (Some addr) payload check bytes e =
     let f : PftFragment = made seq index count (Some rs) (Some addr) payload in
-    ap (addresses_if bytes (addresses_place bytes)) (addresses_told f check bytes e)
-    ∙ (ap (λ (n : ℕ). Some (addresses_at bytes n)) (place_is (Some rs) bytes (code_told f check bytes e))
+    ap (addresses_if bytes (addresses_place bytes)) (addresses_marked f check bytes e)
+    ∙ (ap (λ (n : ℕ). Some (addresses_at bytes n)) (place_is (Some rs) bytes (code_marked f check bytes e))
     ∙ (ap (λ (l : List ℕ). Some (addresses_at l 14)) e.spelled ∙ ap (λ (a : Addr). Some a) (numbers_of addr e.addr)))
 
 size_of : (rs : Option Rs) (addr : Option Addr) (bytes : List ℕ) → has_code (marks bytes) ≡ is_some rs → has_addresses (marks bytes) ≡ is_some addr → checked_size bytes ≡ 12 + length (rs_bytes rs) + length (addr_bytes addr)
 unfolding size_if
-size_of rs None bytes code_told told = omega (arith, ap (size_if (addresses_place bytes)) told, place_is rs bytes code_told)
-size_of rs (Some addr) bytes code_told told = omega (arith, ap (size_if (addresses_place bytes)) told, place_is rs bytes code_told)
+size_of rs None bytes code_marked marked = omega (arith, ap (size_if (addresses_place bytes)) marked, place_is rs bytes code_marked)
+size_of rs (Some addr) bytes code_marked marked = omega (arith, ap (size_if (addresses_place bytes)) marked, place_is rs bytes code_marked)
 
 length-head : (f : PftFragment) → length (head f) ≡ 12 + length (rs_bytes f.rs) + length (addr_bytes f.addr)
 length-head f = omega (arith, length-append (rs_bytes f.rs) (addr_bytes f.addr))
@@ -129,7 +129,7 @@ pub placed : (f : PftFragment) (check : ℕ) (bytes : List ℕ) → EndsWith f c
 unfolding marks_of
 placed f check bytes e =
     let n : ℕ = checked_size bytes in
-    let size : n ≡ length (head f) = size_of f.rs f.addr bytes (code_told f check bytes e) (addresses_told f check bytes e) ∙ sym (length-head f) in
+    let size : n ≡ length (head f) = size_of f.rs f.addr bytes (code_marked f check bytes e) (addresses_marked f check bytes e) ∙ sym (length-head f) in
     let last : List ℕ = to_be_bytes w16 check in
     let whole : bytes ≡ head f ++ (last ++ f.payload) = e.spelled ∙ append_assoc (head f) last f.payload in
     let behind : drop n bytes ≡ last ++ f.payload = ap (drop n) whole ∙ drop_at (head f) (last ++ f.payload) n (sym size) in

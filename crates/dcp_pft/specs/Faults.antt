@@ -65,32 +65,32 @@ abbrev pub payload : List ℕ → List ℕ
 payload bytes = drop (head_size bytes) bytes
 
 -- what each fault says
-abbrev pub Row : PftFault → List ℕ → Type 0
-Row Sync bytes = take 2 bytes ≢ sync
-Row HeadCut bytes = length bytes < head_size bytes
-Row HeadCrc bytes = IsCheckOf (checked_bytes bytes) (check_value bytes) → ⊥
-Row Count bytes = fragment_count bytes ≡ 0
-Row Index bytes = fragment_count bytes ≤ fragment_index bytes
-Row PlenMismatch bytes = described bytes ≢ length (payload bytes)
-Row RsK bytes = IsSomeAnd (code bytes) (λ rs. (rs.k ≡ 0) ⊎ (207 < rs.k))
-Row RsZ bytes = IsSomeAnd (code bytes) (λ rs. rs.k ≤ rs.z)
-Row TooMany bytes = most_fragments < fragment_count bytes
-Row TooLarge bytes = most_carried < fragment_count bytes * described bytes
-Row Chunks bytes = IsSomeAnd (code bytes) (λ rs. fragment_count bytes * described bytes / (rs.k + 48) ≡ 0)
+abbrev pub FaultHolds : PftFault → List ℕ → Type 0
+FaultHolds Sync bytes = take 2 bytes ≢ sync
+FaultHolds HeadCut bytes = length bytes < head_size bytes
+FaultHolds HeadCrc bytes = IsCheckOf (checked_bytes bytes) (check_value bytes) → ⊥
+FaultHolds Count bytes = fragment_count bytes ≡ 0
+FaultHolds Index bytes = fragment_count bytes ≤ fragment_index bytes
+FaultHolds PlenMismatch bytes = described bytes ≢ length (payload bytes)
+FaultHolds RsK bytes = IsSomeAnd (code bytes) (λ rs. (rs.k ≡ 0) ⊎ (207 < rs.k))
+FaultHolds RsZ bytes = IsSomeAnd (code bytes) (λ rs. rs.k ≤ rs.z)
+FaultHolds TooMany bytes = most_fragments < fragment_count bytes
+FaultHolds TooLarge bytes = most_carried < fragment_count bytes * described bytes
+FaultHolds Chunks bytes = IsSomeAnd (code bytes) (λ rs. fragment_count bytes * described bytes / (rs.k + 48) ≡ 0)
 
 -- the rows in their order
 abbrev pub table : List PftFault
 table = Sync ∷ HeadCut ∷ HeadCrc ∷ Count ∷ Index ∷ PlenMismatch ∷ RsK ∷ RsZ ∷ TooMany ∷ TooLarge ∷ Chunks ∷ []
 
 -- the fault is the first of these rows that holds
-abbrev pub IsFirst : List PftFault → PftFault → List ℕ → Type 0
-IsFirst [] fault bytes = ⊥
-IsFirst (row ∷ more) fault bytes = (Row row bytes × (fault ≡ row)) ⊎ ((Row row bytes → ⊥) × IsFirst more fault bytes)
+abbrev pub IsFirstRow : List PftFault → PftFault → List ℕ → Type 0
+IsFirstRow [] fault bytes = ⊥
+IsFirstRow (row ∷ more) fault bytes = (FaultHolds row bytes × (fault ≡ row)) ⊎ ((FaultHolds row bytes → ⊥) × IsFirstRow more fault bytes)
 
 -- none of these rows holds
 abbrev pub NoneOf : List PftFault → List ℕ → Type 0
 NoneOf [] bytes = Unit {0}
-NoneOf (row ∷ more) bytes = (Row row bytes → ⊥) × NoneOf more bytes
+NoneOf (row ∷ more) bytes = (FaultHolds row bytes → ⊥) × NoneOf more bytes
 
 abbrev pub IsFault : PftFault → List ℕ → Type 0
-IsFault fault bytes = IsFirst table fault bytes
+IsFault fault bytes = IsFirstRow table fault bytes

@@ -2,7 +2,7 @@
 use Rattle.std.specs.Prelude.{ℕ, ◌≡◌, ◌+◌, ◌*◌, ◌^◌, ◌<◌, ◌≤◌, ◌⊎◌, List, [], ◌∷◌, length, IfSome, Result, Ok, Err}
 use Rattle.dcp_pft.specs.declared.shape.Rs.{Rs}
 use Rattle.dcp_pft.specs.declared.fragment.Fragment.{Fragment}
-use Rattle.dcp_pft.specs.declared.head.Head.{Head}
+use Rattle.dcp_pft.specs.declared.head.PftHead.{PftHead}
 use Rattle.dcp_pft.specs.declared.fault.PftFault.{PftFault}
 use Rattle.dcp_pft.specs.declared.fault.PftFault.TheVariants.{Sync, HeadCut, HeadCrc, Count, Index, PlenMismatch, RsK, RsZ, TooMany, TooLarge, Chunks}
 use Rattle.dcp_pft.specs.Limits.{most_fragments, most_carried}
@@ -33,7 +33,7 @@ pub record IsPft (f : PftFragment) (bytes : List ℕ) : Type 0 where
   pub code : IfSome f.rs (λ rs. IsCodeFor (f.count * length f.payload) rs)
 
 -- the fields of the header of these bytes
-pub record IsHeadOf (h : Head) (bytes : List ℕ) : Type 0 where
+pub record IsHeadOf (h : PftHead) (bytes : List ℕ) : Type 0 where
   pub seq : h.seq ≡ sequence_number bytes
   pub index : h.index ≡ fragment_index bytes
   pub count : h.count ≡ fragment_count bytes

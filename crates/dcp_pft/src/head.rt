@@ -16,7 +16,7 @@ const ADDRESS_BYTES: usize = 4;
 const CODE_PLACE: usize = 12;
 
 #[derive(Drop)]
-pub(crate) struct Head {
+pub(crate) struct PftHead {
     pub seq: u16,
     pub index: u32,
     pub count: u32,
@@ -116,12 +116,12 @@ fn addresses_of(datagram: &[u8]) -> Option<Addr>
     }
 }
 
-pub(crate) fn head_of(datagram: &[u8]) -> Head
+pub(crate) fn head_of(datagram: &[u8]) -> PftHead
     requires least { 14 ≤ length datagram.now }
     requires whole { head_size datagram.now ≤ length datagram.now }
     ensures { IsHeadOf result datagram.now }
 {
-    Head {
+    PftHead {
         seq: u16::from_be_bytes([datagram[2], datagram[3]]),
         index: u32::from_be_bytes([0, datagram[4], datagram[5], datagram[6]]),
         count: u32::from_be_bytes([0, datagram[7], datagram[8], datagram[9]]),

@@ -3,10 +3,10 @@
 ghost use Rattle.std.specs.Prelude.{◌≡◌, ◌≤◌, ◌+◌, ◌/◌, List, ℕ, length, IfOk, IfErr, IsOkAnd, OnOk, MatchBool, IsSomeAnd, IfSome};
 ghost use Rattle.drm_bits.specs.Crc.{IsCheckOf};
 ghost use Rattle.dcp_pft.specs.Head.{PftFragment};
-ghost use Rattle.dcp_pft.specs.Faults.{IsFault, IsFirst, NoneOf, table, payload, described, head_size, checked_bytes, check_value};
+ghost use Rattle.dcp_pft.specs.Faults.{IsFault, IsFirstRow, NoneOf, table, payload, described, head_size, checked_bytes, check_value};
 ghost use Rattle.dcp_pft.specs.Reading.{pft_of, IsPft, IsHeadOf, size_rows, check_rows, head_rows, number_rows, JudgesCode};
 
-use crate::head::{CHECK_BYTES, Head, LEAST_HEAD, head_of, payload_size, size_of_head};
+use crate::head::{CHECK_BYTES, LEAST_HEAD, PftHead, head_of, payload_size, size_of_head};
 use crate::{Fragment, MOST_CARRIED, MOST_FRAGMENTS, PftFault, Rs};
 use drm_bits::compare_crc16;
 
@@ -39,7 +39,7 @@ pub fn read_fragment(datagram: &[u8]) -> Result<Fragment<'_>, PftFault>
 
 /// The bytes of the fragment that begins with these, by its header: all that is read is the header.
 pub fn size_by_head(front: &[u8]) -> Result<usize, PftFault>
-    ensures fault { IfErr result (λ fault. IsFirst head_rows fault front.now) }
+    ensures fault { IfErr result (λ fault. IsFirstRow head_rows fault front.now) }
     ensures right { OnOk result (NoneOf head_rows front.now) }
     ensures check { OnOk result (IsCheckOf (checked_bytes front.now) (check_value front.now)) }
     ensures size { IfOk result (λ size. size ≡ head_size front.now + described front.now) }
@@ -50,7 +50,7 @@ pub fn size_by_head(front: &[u8]) -> Result<usize, PftFault>
 }
 
 // The header, where nothing is refused.
-fn read_head(datagram: &[u8]) -> Result<Head, PftFault>
+fn read_head(datagram: &[u8]) -> Result<PftHead, PftFault>
     ensures fault { IfErr result (λ fault. IsFault fault datagram.now) }
     ensures right { OnOk result (NoneOf table datagram.now) }
     ensures check { OnOk result (IsCheckOf (checked_bytes datagram.now) (check_value datagram.now)) }
@@ -65,7 +65,7 @@ fn read_head(datagram: &[u8]) -> Result<Head, PftFault>
 
 // The size of the header, where all of it stands there.
 fn whole_head(datagram: &[u8]) -> Result<usize, PftFault>
-    ensures fault { IfErr result (λ fault. IsFirst size_rows fault datagram.now) }
+    ensures fault { IfErr result (λ fault. IsFirstRow size_rows fault datagram.now) }
     ensures right { OnOk result (NoneOf size_rows datagram.now) }
     ensures size { IfOk result (λ size. size ≡ head_size datagram.now) }
 {
@@ -87,7 +87,7 @@ fn whole_head(datagram: &[u8]) -> Result<usize, PftFault>
 fn compare(datagram: &[u8], size: usize) -> Result<(), PftFault>
     requires whole { head_size datagram.now ≤ length datagram.now }
     requires size { size ≡ head_size datagram.now }
-    ensures fault { IfErr result (λ fault. IsFirst check_rows fault datagram.now) }
+    ensures fault { IfErr result (λ fault. IsFirstRow check_rows fault datagram.now) }
     ensures right { OnOk result (NoneOf check_rows datagram.now) }
     ensures check { OnOk result (IsCheckOf (checked_bytes datagram.now) (check_value datagram.now)) }
 {
@@ -99,11 +99,11 @@ fn compare(datagram: &[u8], size: usize) -> Result<(), PftFault>
 }
 
 // Whether the numbers of the header go together with each other and with the bytes behind it.
-fn judge(head: &Head, datagram: &[u8]) -> Result<(), PftFault>
+fn judge(head: &PftHead, datagram: &[u8]) -> Result<(), PftFault>
     requires least { 14 ≤ length datagram.now }
     requires whole { head_size datagram.now ≤ length datagram.now }
     requires head { IsHeadOf head.now datagram.now }
-    ensures fault { IfErr result (λ fault. IsFirst number_rows fault datagram.now) }
+    ensures fault { IfErr result (λ fault. IsFirstRow number_rows fault datagram.now) }
     ensures right { OnOk result (NoneOf number_rows datagram.now) }
 {
     if head.count == 0 {

@@ -16,7 +16,7 @@ use Rattle.dcp_pft.specs.Cutting.{shape_of}
 use Rattle.dcp_pft.specs.Carrying.{fragment_size, CarriesPacket}
 use Rattle.dcp_pft.specs.Head.{IsFragmentOf}
 use Rattle.dcp_pft.proofs.DatagramSizes.{sizes}
-use Rattle.dcp_sender.specs.Carried.{Carried, most_room}
+use Rattle.dcp_sender.specs.CarriesText.{CarriesText, most_room}
 
 -- the first i fragments stand at the front
 pub record Gathered (shape : Shape) (seq : ℕ) (packet into : List ℕ) (at i : ℕ) : Type 0 where
@@ -78,7 +78,7 @@ gathered_one m mtu shape seq packet into new at i n is g same room small fragmen
       within = omega (arith, room, small);
     }
 
-pub gathered_all : (m mtu : ℕ) (shape : Shape) (seq : ℕ) (packet into : List ℕ) (at i : ℕ) → shape ≡ shape_of (length packet) m mtu → i ≡ shape.count → Gathered shape seq packet into at i → Carried (Pft m mtu) seq packet (take at into)
+pub gathered_all : (m mtu : ℕ) (shape : Shape) (seq : ℕ) (packet into : List ℕ) (at i : ℕ) → shape ≡ shape_of (length packet) m mtu → i ≡ shape.count → Gathered shape seq packet into at i → CarriesText (Pft m mtu) seq packet (take at into)
 gathered_all m mtu shape seq packet into at i is all g =
     record {
       datagrams = g.datagrams;
@@ -94,8 +94,8 @@ whole_each : (seq : ℕ) (packet : List ℕ) (i : ℕ) (none : List ℕ) → i <
 whole_each seq packet zero none below = refl
 whole_each seq packet (suc i) none below = absurd (omega (arith, below))
 
-pub whole_carried : (carry : Carry) (seq : ℕ) (packet : List ℕ) → carry ≡ Plain → Carried carry seq packet packet
+pub whole_carried : (carry : Carry) (seq : ℕ) (packet : List ℕ) → carry ≡ Plain → CarriesText carry seq packet packet
 whole_carried carry seq packet is =
-    let P : Carry → Type 0 = λ c. Carried c seq packet packet in
-    let whole : Carried Plain seq packet packet = record { datagrams = packet ∷ []; are = record { many = refl; each = whole_each seq packet }; is = sym (append-nil packet) } in
+    let P : Carry → Type 0 = λ c. CarriesText c seq packet packet in
+    let whole : CarriesText Plain seq packet packet = record { datagrams = packet ∷ []; are = record { many = refl; each = whole_each seq packet }; is = sym (append-nil packet) } in
     subst P (sym is) whole

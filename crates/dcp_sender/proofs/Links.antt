@@ -1,10 +1,10 @@
 -- Datagrams over a link, one after another and without a rest.
 use Rattle.std.proofs.Common.{◌≡◌, ◌+◌, ℕ, zero, suc, ap, List, [], ◌∷◌, ◌++◌, replicate, refl, sym, subst, ◌∙◌, arith}
 use Rattle.std.proofs.lemmas.List.{append-nil}
-use Rattle.drm_links.specs.Told.{Known}
+use Rattle.drm_links.specs.Known.{Known}
 use Rattle.drm_links.specs.Link.{Traffic}
 use Rattle.drm_links.specs.Transmission.{LinkTransmits, SendsAll, SendsNoMore, WaitsBetween, since, still}
-use Rattle.drm_links.proofs.ToldLemmas.{Tells-nothing}
+use Rattle.drm_links.proofs.KnownLemmas.{Tells-nothing}
 use Rattle.drm_links.proofs.TransmissionLemmas.{Transmits-then, Transmits-both, SendsAll-then, SendsAll-no_more, Waits-then}
 use Rattle.dcp_sender.specs.Sending.{MadeCalls}
 

@@ -2,7 +2,7 @@
 use Rattle.std.proofs.Common.{◌≡◌, ◌≤◌, ℕ, Bool, true, false, refl, Result, Ok, Err, List, ◌++◌, length, Option, None, Some, replicate, sym, subst, ◌∙◌, arith}
 use Rattle.std.specs.Prelude.{slice_index_or, IfSome, IfOk, OnErr, IsErr, is_ok}
 use Rattle.std.proofs.lemmas.Bool.Decides.{nat_tests}
-use Rattle.drm_links.specs.Told.{Known, HasCause, KnownThrough}
+use Rattle.drm_links.specs.Known.{Known, HasCause, KnownThrough}
 use Rattle.drm_links.specs.ManyCalls.{MakesCalls}
 use Rattle.drm_links.specs.Link.{Traffic}
 use Rattle.drm_links.specs.Transmission.{LinkTransmits, SendsAll, SendsNoMore, WaitsBetween}

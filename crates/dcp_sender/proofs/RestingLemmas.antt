@@ -1,10 +1,10 @@
 -- Calls of links that never rest.
 use Rattle.std.proofs.Common.{◌≡◌, ℕ, zero, suc, ◌+◌, ◌≤◌, List, [], ◌∷◌, ◌++◌, length, map, replicate, refl, sym, ap, ◌∙◌}
 use Rattle.std.proofs.lemmas.List.{map-append}
-use Rattle.drm_links.specs.Told.{Known, KnownThrough}
+use Rattle.drm_links.specs.Known.{Known, KnownThrough}
 use Rattle.drm_links.specs.Link.{Traffic}
 use Rattle.drm_links.specs.Transmission.{LinkTransmits, SendsAll, SendsNoMore, WaitsBetween, since, still}
-use Rattle.drm_links.proofs.ToldLemmas.{Tells-nothing, Tells-then}
+use Rattle.drm_links.proofs.KnownLemmas.{Tells-nothing, Tells-then}
 use Rattle.drm_links.proofs.TransmissionLemmas.{Transmits-weaker, Transmits-both}
 use Rattle.drm_links.proofs.ManyCallsLemmas.{no_calls, more_calls, at_most}
 use Rattle.dcp_sender.specs.Resting.{NeverRests, MakesSends}

@@ -1,7 +1,7 @@
 pub mod Parity
 pub mod Sending
 pub mod Packets
-pub mod Carried
+pub mod CarriesText
 pub mod Resting
 pub mod Targets
 pub mod OverLinks

@@ -5,10 +5,10 @@ use Rattle.dcp_pft.specs.declared.shape.Shape.{Shape}
 use Rattle.dcp_sender.specs.Sending as sending
 use Rattle.dcp_pft.specs.Limits.{most_packet, most_fragments}
 use Rattle.dcp_pft.specs.Carrying.{datagram_count, CarriesPacket}
-use Rattle.drm_links.specs.Told.{Known, HasFailed}
+use Rattle.drm_links.specs.Known.{Known, HasFailed}
 use Rattle.drm_links.specs.Link.{Traffic}
 use Rattle.drm_links.specs.Transmission.{LinkTransmits, SendsAll, SendsNoMore}
-use Rattle.dcp_sender.specs.Carried.{AreOf}
+use Rattle.dcp_sender.specs.CarriesText.{AreOf}
 use Rattle.dcp_sender.specs.Resting.{MakesSends}
 use Rattle.dcp_sender.specs.Targets.{Target}
 

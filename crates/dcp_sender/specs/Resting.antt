@@ -1,6 +1,6 @@
 -- Links that never rest.
 use Rattle.std.specs.Prelude.{ℕ, ◌≡◌, map}
-use Rattle.drm_links.specs.Told.{Known, KnownThrough}
+use Rattle.drm_links.specs.Known.{Known, KnownThrough}
 use Rattle.drm_links.specs.Link.{Traffic}
 use Rattle.drm_links.specs.ManyCalls.{MakesCalls}
 

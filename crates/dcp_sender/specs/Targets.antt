@@ -1,6 +1,6 @@
 -- The links over which a packet is sent, as what is known of them.
 use Rattle.std.specs.Prelude.{Bool, List, map}
-use Rattle.drm_links.specs.Told.{Known}
+use Rattle.drm_links.specs.Known.{Known}
 use Rattle.drm_links.specs.Link.{Traffic}
 use Rattle.link_group.specs.declared.member.Member.{Member}
 

@@ -59,7 +59,7 @@ pub fn write_cut(
     ensures room { length into.new ≡ length into.old }
 {
     match into.first_chunk_mut() {
-        Some(room) => write_in(packet, shape, parity, seq, i, room),
+        Some(scratch) => write_in(packet, shape, parity, seq, i, scratch),
         None => unreachable!(),
     }
 }
@@ -71,13 +71,13 @@ fn write_in(
     parity: &[u8],
     seq: u16,
     i: u32,
-    room: &mut [u8; MOST_FRAGMENT],
+    scratch: &mut [u8; MOST_FRAGMENT],
 ) -> usize
     requires { IsCoded shape.now packet.now parity.now i }
-    ensures fragment { IsFragmentOf shape.now seq packet.now i (take result room.new) }
+    ensures fragment { IsFragmentOf shape.now seq packet.now i (take result scratch.new) }
     ensures in_range { result ≤ most_fragment }
-    ensures length { length room.new ≡ most_fragment }
+    ensures length { length scratch.new ≡ most_fragment }
 {
     let len = parity_len(shape, packet.len());
-    write_fragment(shape, seq, i, packet, &parity[..len], room)
+    write_fragment(shape, seq, i, packet, &parity[..len], scratch)
 }

@@ -3,8 +3,8 @@
 ghost use Rattle.std.specs.Prelude.{[], ◌∷◌, ◌≡◌, ◌≤◌, length, replicate, Some, IfOk, IfSome, OnOk, OnErr, IsErr};
 ghost use Rattle.dcp_pft.specs.Limits.{most_parity, most_fragment, most_fragments};
 ghost use Rattle.dcp_pft.specs.Cutting.{IsShapeOf};
-ghost use Rattle.drm_links.specs.Told.{HasCause};
-ghost use Rattle.drm_links.specs.Link.{longest_told};
+ghost use Rattle.drm_links.specs.Known.{HasCause};
+ghost use Rattle.drm_links.specs.Link.{longest_kept};
 ghost use Rattle.drm_links.specs.ManyCalls.{MakesCalls};
 ghost use Rattle.drm_links.specs.Transmission.{LinkTransmits, SendsAll, SendsNoMore, WaitsBetween};
 ghost use Rattle.dcp_sender.specs.Parity.{HoldsParity};
@@ -21,14 +21,14 @@ pub fn send_packet<L: Link>(
     cut: Option<Shape>,
     parity: &[u8],
     seq: u16,
-    room: &mut [u8],
+    scratch: &mut [u8],
     link: &mut L,
 ) -> Result<u64, LinkFault>
     requires shaped { IfSome cut (IsShapeOf (length packet.now)) }
     requires stands { HoldsParity cut packet.now parity.now }
     requires whole_length { length parity.now ≡ most_parity }
-    requires in_range { length packet.now ≤ longest_told }
-    requires room { most_fragment ≤ length room.old }
+    requires in_range { length packet.now ≤ longest_kept }
+    requires room { most_fragment ≤ length scratch.old }
     ensures whole { IfOk result (λ n. SentPacket cut seq packet.now n (L.known link.old) (L.known link.new)) }
     ensures waits { IfOk result (λ n. LinkTransmits (L.known link.old) (L.known link.new) (WaitsBetween (replicate n 0) 0)) }
     ensures at_least_one { IfOk result (λ n. 1 ≤ n) }
@@ -38,14 +38,14 @@ pub fn send_packet<L: Link>(
     ensures cause { HasCause (L.known link.old) (L.known link.new) (IsErr result) }
     ensures idle { L.idles link.new ≡ L.idles link.old }
     ensures calls { MakesCalls (λ traffic. traffic.calls) most_fragments (L.known link.old) (L.known link.new) }
-    ensures room { length room.new ≡ length room.old }
+    ensures room { length scratch.new ≡ length scratch.old }
 {
     match cut {
         None => {
             send_datagram(link, packet)?;
             Ok(1)
         }
-        Some(shape) => send_fragments(packet, &shape, parity, seq, room, link),
+        Some(shape) => send_fragments(packet, &shape, parity, seq, scratch, link),
     }
 }
 
@@ -55,13 +55,13 @@ fn send_fragments<L: Link>(
     shape: &Shape,
     parity: &[u8],
     seq: u16,
-    room: &mut [u8],
+    scratch: &mut [u8],
     link: &mut L,
 ) -> Result<u64, LinkFault>
     requires shaped { IsShapeOf (length packet.now) shape.now }
     requires stands { HoldsParity (Some shape.now) packet.now parity.now }
     requires whole_length { length parity.now ≡ most_parity }
-    requires room { most_fragment ≤ length room.old }
+    requires room { most_fragment ≤ length scratch.old }
     ensures whole { IfOk result (λ n. SentFragments shape.now seq packet.now n (L.known link.old) (L.known link.new)) }
     ensures waits { IfOk result (λ n. LinkTransmits (L.known link.old) (L.known link.new) (WaitsBetween (replicate n 0) 0)) }
     ensures at_least_one { IfOk result (λ n. 1 ≤ n) }
@@ -71,19 +71,19 @@ fn send_fragments<L: Link>(
     ensures cause { HasCause (L.known link.old) (L.known link.new) (IsErr result) }
     ensures idle { L.idles link.new ≡ L.idles link.old }
     ensures calls { MakesCalls (λ traffic. traffic.calls) most_fragments (L.known link.old) (L.known link.new) }
-    ensures room { length room.new ≡ length room.old }
+    ensures room { length scratch.new ≡ length scratch.old }
 {
     all_taken();
     for i in 0..shape.count {
-        let len = write_cut(packet, shape, parity, seq, i, room);
-        send_datagram(link, &room[..len])?;
+        let len = write_cut(packet, shape, parity, seq, i, scratch);
+        send_datagram(link, &scratch[..len])?;
     }
     Ok(u64::from(shape.count))
 }
 
 /// Sends a datagram.
 pub fn send_datagram<L: Link>(link: &mut L, datagram: &[u8]) -> Result<(), LinkFault>
-    requires { length datagram.now ≤ longest_told }
+    requires { length datagram.now ≤ longest_kept }
     ensures sent { OnOk result (LinkTransmits (L.known link.old) (L.known link.new) (SendsAll (datagram.now ∷ []))) }
     ensures none { OnErr result (LinkTransmits (L.known link.old) (L.known link.new) (SendsNoMore [])) }
     ensures waited { OnOk result (LinkTransmits (L.known link.old) (L.known link.new) (WaitsBetween (0 ∷ []) 0)) }

@@ -7,10 +7,10 @@ ghost use Rattle.dcp_pft.specs.Cutting.{IsShapeOf};
 ghost use Rattle.dcp_pft.specs.Carrying.{CarryFits};
 ghost use Rattle.dcp_pft.specs.Head.{IsFragmentOf};
 ghost use Rattle.dcp_pft.specs.declared.carry.Carry.TheVariants.{Pft};
-ghost use Rattle.drm_links.specs.Link.{longest_told};
+ghost use Rattle.drm_links.specs.Link.{longest_kept};
 ghost use Rattle.drm_links.specs.Sink.{WritesWhole};
 ghost use Rattle.dcp_sender.specs.Parity.{HoldsParity, IsCoded};
-ghost use Rattle.dcp_sender.specs.Carried.{Carried, most_room, is_too_long};
+ghost use Rattle.dcp_sender.specs.CarriesText.{CarriesText, most_room, is_too_long};
 ghost use Rattle.dcp_sender.specs.OverLinks.{is_large, SentTo, CutOver};
 ghost use Rattle.dcp_sender.specs.Targets.{target};
 
@@ -38,7 +38,7 @@ pub struct PacketSender {
     carry: Carry,
     parity: Vec<u8>,
     // Room for the fragments of a packet, which are written at once; of those that are sent, for one.
-    room: Vec<u8>,
+    scratch: Vec<u8>,
 }
 
 impl Model for PacketSender {
@@ -46,7 +46,7 @@ impl Model for PacketSender {
     ghost use Rattle.dcp_pft.specs.declared.carry.Carry.{Carry};
     ghost use Rattle.dcp_pft.specs.Limits.{most_parity};
     ghost use Rattle.dcp_pft.specs.Carrying.{CarryFits};
-    ghost use Rattle.dcp_sender.specs.Carried.{most_room};
+    ghost use Rattle.dcp_sender.specs.CarriesText.{most_room};
 
     ghost Value = { Carry };
 
@@ -64,11 +64,11 @@ impl PacketSender {
         ensures { IfOk result (λ sender. sender ≡ carry) }
     {
         let parity = zeros(alloc, MOST_PARITY)?;
-        let room = zeros(alloc, MOST_ROOM)?;
+        let scratch = zeros(alloc, MOST_ROOM)?;
         Ok(PacketSender {
             carry,
             parity,
-            room,
+            scratch,
         })
     }
 
@@ -86,15 +86,15 @@ impl PacketSender {
     pub fn write<O: Sink>(&mut self, seq: u16, packet: &[u8], out: &mut O) -> Result<(), WriteFault>
         requires at_least_one { 1 ≤ length packet.now }
         requires in_range { is_too_long self.old (length packet.now) ≡ false }
-        ensures written { (text : List ℕ) × Carried self.old seq packet.now text
+        ensures written { (text : List ℕ) × CarriesText self.old seq packet.now text
             × WritesWhole result (O.known out.old) (O.known out.new) text }
         ensures carry { self.new ≡ self.old }
     {
         match self.carry {
             Carry::Plain => write_all(out, packet),
             Carry::Pft { m, mtu } => {
-                let len = gather(packet, seq, m, mtu, &mut self.parity, &mut self.room);
-                write_all(out, &self.room[..len])
+                let len = gather(packet, seq, m, mtu, &mut self.parity, &mut self.scratch);
+                write_all(out, &self.scratch[..len])
             }
         }
     }
@@ -120,7 +120,7 @@ impl PacketSender {
         let cut = cut_for(self.carry, packet.len());
         write_parity(packet, cut, &mut self.parity);
         for link in links.iter_mut() {
-            send_over(packet, cut, &self.parity, seq, &mut self.room, link);
+            send_over(packet, cut, &self.parity, seq, &mut self.scratch, link);
         }
         u64::from(datagrams(cut))
     }
@@ -135,7 +135,7 @@ fn gather(packet: &[u8], seq: u16, m: u8, mtu: u16, parity: &mut [u8], into: &mu
     requires most { mtu ≤ most_fragment }
     requires parity { length parity.old ≡ most_parity }
     requires room { length into.old ≡ most_room }
-    ensures fragments { Carried (Pft m mtu) seq packet.now (take result into.new) }
+    ensures fragments { CarriesText (Pft m mtu) seq packet.now (take result into.new) }
     ensures within { result ≤ most_room }
     ensures room { length into.new ≡ most_room }
     ensures parity { length parity.new ≡ most_parity }
@@ -175,19 +175,19 @@ fn send_over<K: Link>(
     cut: Option<Shape>,
     parity: &[u8],
     seq: u16,
-    room: &mut [u8],
+    scratch: &mut [u8],
     link: &mut Member<K>,
 )
     requires shaped { IfSome cut (IsShapeOf (length packet.now)) }
     requires stands { HoldsParity cut packet.now parity.now }
     requires whole_length { length parity.now ≡ most_parity }
-    requires in_range { length packet.now ≤ longest_told }
-    requires room { most_fragment ≤ length room.old }
+    requires in_range { length packet.now ≤ longest_kept }
+    requires room { most_fragment ≤ length scratch.old }
     ensures sent { CutOver link.old.up cut seq packet.now (target K.known link.old) (target K.known link.new) }
-    ensures room { length room.new ≡ length room.old }
+    ensures room { length scratch.new ≡ length scratch.old }
 {
     if link.up {
-        let sent = send_packet(packet, cut, parity, seq, room, &mut link.link);
+        let sent = send_packet(packet, cut, parity, seq, scratch, &mut link.link);
         link.up = sent.is_ok();
     }
 }

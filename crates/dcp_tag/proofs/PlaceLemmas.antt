@@ -3,16 +3,16 @@ use Rattle.std.proofs.Common.{◌≡◌, ℕ, ◌+◌, ◌-◌, ◌≤◌, List,
 use Rattle.std.proofs.lemmas.List.{take_rest, drop_at, drop-drop, take-append-drop, length-take-le}
 use Rattle.dcp_tag.specs.declared.items.Item.{Item}
 use Rattle.dcp_tag.specs.Tag.{TagItem, bytes_for, head, HasHead, IsSpelling, IsPayload}
-use Rattle.dcp_tag.specs.Place.{Place, left}
+use Rattle.dcp_tag.specs.PayloadPlace.{PayloadPlace, left}
 use Rattle.dcp_tag.specs.Reading.{tag_of, GivesItem}
 use Rattle.dcp_tag.specs.Laws.{GivesAll}
 use Rattle.dcp_tag.proofs.TagLemmas.{length-head, head_size, padded, one_front}
 
 -- the bytes of the code's slice are those that are left
-pub left_is : (place : Place) (payload : List ℕ) (at : ℕ) → record { payload = payload; at = at } ≡ place → take (length payload - at) (drop at payload) ≡ left place
+pub left_is : (place : PayloadPlace) (payload : List ℕ) (at : ℕ) → record { payload = payload; at = at } ≡ place → take (length payload - at) (drop at payload) ≡ left place
 left_is place payload at is = take_rest payload at ∙ ap left is
 
-pub begins_left : (place : Place) (payload : List ℕ) (at : ℕ) (name : List ℕ) (bits : ℕ) (behind : List ℕ) → record { payload = payload; at = at } ≡ place
+pub begins_left : (place : PayloadPlace) (payload : List ℕ) (at : ℕ) (name : List ℕ) (bits : ℕ) (behind : List ℕ) → record { payload = payload; at = at } ≡ place
     → HasHead (take (length payload - at) (drop at payload)) name bits behind → HasHead (left place) name bits behind
 begins_left place payload at name bits behind is begins =
     record { four = begins.four; fits = begins.fits; stands = sym (left_is place payload at is) ∙ begins.stands }
@@ -53,15 +53,15 @@ gives item payload at behind len begins is_len within is_value is_at =
       payload = refl;
     }
 
-pub gives_at : (item : Item) (place : Place) (payload : List ℕ) (at : ℕ) (behind : List ℕ) (len : ℕ) → record { payload = payload; at = at } ≡ place
+pub gives_at : (item : Item) (place : PayloadPlace) (payload : List ℕ) (at : ℕ) (behind : List ℕ) (len : ℕ) → record { payload = payload; at = at } ≡ place
     → HasHead (take (length payload - at) (drop at payload)) item.name item.bits behind → len ≡ bytes_for item.bits → len ≤ length behind
     → item.value.now ≡ take len behind → item.at ≡ at + 8
     → GivesItem item place (record { payload = payload; at = at + 8 + len })
 gives_at item place payload at behind len is begins is_len within is_value is_at =
     let stands : HasHead (drop at payload) item.name item.bits behind = begins_left (record { payload = payload; at = at }) payload at item.name item.bits behind refl begins in
-    subst (λ (p : Place). GivesItem item p (record { payload = payload; at = at + 8 + len })) is (gives item payload at behind len stands is_len within is_value is_at)
+    subst (λ (p : PayloadPlace). GivesItem item p (record { payload = payload; at = at + 8 + len })) is (gives item payload at behind len stands is_len within is_value is_at)
 
-pub given_payload : (old new : Place) (given others : List TagItem) → GivesAll old given new → IsPayload (given ++ others) (left old) ↔ IsPayload others (left new)
+pub given_payload : (old new : PayloadPlace) (given others : List TagItem) → GivesAll old given new → IsPayload (given ++ others) (left old) ↔ IsPayload others (left new)
 given_payload old new [] others same =
     let P : List ℕ → Type 0 = IsPayload others in
     (λ h. subst P (sym (ap left same)) h, λ h. subst P (ap left same) h)

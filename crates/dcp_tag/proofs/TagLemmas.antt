@@ -6,7 +6,7 @@ use Rattle.std.proofs.lemmas.Bool.{cases_lt}
 use Rattle.std.proofs.lemmas.Nat.{be_bytes_4, from_be_bytes-to_be_bytes_4}
 use Rattle.drm_bits.specs.Bits.{bits_of}
 use Rattle.drm_bits.proofs.BitsLemmas.{length-bits_of}
-use Rattle.dcp_tag.specs.Tag.{TagItem, bytes_for, head, HasHead, IsPadded, IsSpelling, IsPayload, IsCut}
+use Rattle.dcp_tag.specs.Tag.{TagItem, bytes_for, head, HasHead, IsPadded, IsSpelling, IsPayload, IsItemCut}
 use Rattle.dcp_tag.specs.Reading.{item_of}
 
 pub length-head : (name : List ℕ) (bits : ℕ) → length name ≡ 4 → length (head name bits) ≡ 8
@@ -95,7 +95,7 @@ payload_once (i ∷ is) (o ∷ os) bytes h k =
     ap (λ (x : TagItem). x ∷ is) front.0 ∙ ap (λ (xs : List TagItem). o ∷ xs) items
 
 -- the item that is cut, where the bytes begin with this head
-pub cut_front : (bytes name : List ℕ) (bits : ℕ) (behind : List ℕ) → IsCut bytes → HasHead bytes name bits behind → length behind < bytes_for bits
+pub cut_front : (bytes name : List ℕ) (bits : ℕ) (behind : List ℕ) → IsItemCut bytes → HasHead bytes name bits behind → length behind < bytes_for bits
 cut_front bytes name bits behind cut begins =
     let same = one_head cut.name name cut.bits bits cut.behind behind cut.begins.four begins.four cut.begins.fits begins.fits (sym cut.begins.stands ∙ begins.stands) in
     omega (arith, cut.short, ap length same.2, ap bytes_for same.1)
@@ -104,7 +104,7 @@ pub head_size : (bytes name : List ℕ) (bits : ℕ) (behind : List ℕ) → Has
 head_size bytes name bits behind begins =
     omega (arith, ap length begins.stands, length-append (head name bits) behind, length-head name bits begins.four)
 
-pub cut_is_no_payload : (bytes : List ℕ) (items : List TagItem) → IsCut bytes → IsPayload items bytes → ⊥
+pub cut_is_no_payload : (bytes : List ℕ) (items : List TagItem) → IsItemCut bytes → IsPayload items bytes → ⊥
 cut_is_no_payload bytes [] cut h = absurd (omega (arith, h, head_size bytes cut.name cut.bits cut.behind cut.begins))
 cut_is_no_payload bytes (i ∷ is) cut h =
     let p = h.3.1 in

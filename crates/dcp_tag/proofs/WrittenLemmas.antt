@@ -4,7 +4,7 @@ use Rattle.std.proofs.lemmas.List.{drop_at, get_or-drop, length-replicate}
 use Rattle.drm_bits.specs.Bits.{value, digits, bits_of}
 use Rattle.drm_bits.proofs.BitsLemmas.{length-digits, length-bits_of}
 use Rattle.drm_bits.proofs.DigitsLemmas.{value-digits}
-use Rattle.dcp_tag.specs.Tag.{TagItem, head, IsPadded, IsWritten}
+use Rattle.dcp_tag.specs.Tag.{TagItem, head, IsPadded, IsWrittenItem}
 use Rattle.dcp_tag.specs.Laws.{AreBytes}
 use Rattle.dcp_tag.proofs.TagLemmas.{length-head, same_fronts, behind_size}
 
@@ -26,7 +26,7 @@ behind_small item padding bytes p small i =
     let place : get_or p.behind i 0 ≡ get_or bytes (8 + i) 0 = ap (λ (l : List ℕ). get_or l i 0) (sym is) ∙ get_or-drop 8 bytes i 0 in
     omega (arith, place, small (8 + i))
 
-pub written_once : (item : TagItem) (bytes others : List ℕ) → AreBytes bytes → AreBytes others → IsWritten item bytes → IsWritten item others → bytes ≡ others
+pub written_once : (item : TagItem) (bytes others : List ℕ) → AreBytes bytes → AreBytes others → IsWrittenItem item bytes → IsWrittenItem item others → bytes ≡ others
 written_once item bytes others small small_too (m, p) (n, q) =
     let size : length p.behind ≡ length q.behind = behind_size item (replicate m false) bytes p ∙ sym (behind_size item (replicate n false) others q) in
     let count : m ≡ n =

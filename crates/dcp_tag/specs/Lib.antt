@@ -1,4 +1,4 @@
 pub mod Tag
-pub mod Place
+pub mod PayloadPlace
 pub mod Reading
 pub mod Laws

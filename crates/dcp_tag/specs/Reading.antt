@@ -3,8 +3,8 @@ use Rattle.std.specs.Prelude.{◌∷◌, ◌↔◌, ℕ, ◌≡◌, ◌+◌, ◌
 use Rattle.drm_bits.specs.Bits.{bits_of}
 use Rattle.dcp_tag.specs.declared.items.Item.{Item}
 use Rattle.dcp_tag.specs.declared.items.ValueCut.{ValueCut}
-use Rattle.dcp_tag.specs.Tag.{TagItem, bytes_for, head, HasHead, IsSpelling, IsPayload, IsCut}
-use Rattle.dcp_tag.specs.Place.{Place, left}
+use Rattle.dcp_tag.specs.Tag.{TagItem, bytes_for, head, HasHead, IsSpelling, IsPayload, IsItemCut}
+use Rattle.dcp_tag.specs.PayloadPlace.{PayloadPlace, left}
 
 -- the TAG item of a name, the number of its value's bits, and the bytes that have these bits and then the padding
 abbrev pub item_of : List ℕ → ℕ → List ℕ → TagItem
@@ -15,7 +15,7 @@ abbrev pub tag_of : Item → TagItem
 tag_of item = item_of item.name item.bits item.value.now
 
 -- The item stands at the old place, and the new place is the byte behind it.
-pub record GivesItem (item : Item) (old new : Place) : Type 0 where
+pub record GivesItem (item : Item) (old new : PayloadPlace) : Type 0 where
   -- where the value begins
   pub at : item.at ≡ old.at + 8
   -- the bytes that are lent are those of the payload from there on
@@ -33,10 +33,10 @@ pub record GivesItem (item : Item) (old new : Place) : Type 0 where
 
 -- An item that stands here, or none since fewer than eight bytes are left, or the place of an item that goes past the
 -- end. Without an item the place stays.
-abbrev pub AnswersItem : Result (Option Item) ValueCut → Place → Place → Type 0
+abbrev pub AnswersItem : Result (Option Item) ValueCut → PayloadPlace → PayloadPlace → Type 0
 AnswersItem (Ok (Some item)) old new = GivesItem item old new
 AnswersItem (Ok None) old new = (length (left old) < 8) × (new ≡ old)
-AnswersItem (Err cut) old new = (cut.at ≡ old.at) × IsCut (left old) × (new ≡ old)
+AnswersItem (Err cut) old new = (cut.at ≡ old.at) × IsItemCut (left old) × (new ≡ old)
 
 -- an item is given, and it is this one
 abbrev pub IsGiven : TagItem → Result (Option Item) ValueCut → Type 0

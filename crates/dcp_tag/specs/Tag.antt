@@ -36,8 +36,8 @@ abbrev pub IsSpelling : TagItem → List ℕ → Type 0
 IsSpelling item bytes = (padding : List Bool) × IsPadded item padding bytes
 
 -- the spelling that is written: each padding bit is 0
-abbrev pub IsWritten : TagItem → List ℕ → Type 0
-IsWritten item bytes = (n : ℕ) × IsPadded item (replicate n false) bytes
+abbrev pub IsWrittenItem : TagItem → List ℕ → Type 0
+IsWrittenItem item bytes = (n : ℕ) × IsPadded item (replicate n false) bytes
 
 -- a payload: spellings of the items one after another, then fewer than eight bytes of any content
 abbrev pub IsPayload : List TagItem → List ℕ → Type 0
@@ -45,7 +45,7 @@ IsPayload [] bytes = length bytes < 8
 IsPayload (item ∷ items) bytes = (spelling : List ℕ) × (rest : List ℕ) × (bytes ≡ spelling ++ rest) × IsSpelling item spelling × IsPayload items rest
 
 -- the item that begins here goes past the end: fewer bytes stand behind its head than its value takes
-pub record IsCut (bytes : List ℕ) : Type 0 where
+pub record IsItemCut (bytes : List ℕ) : Type 0 where
   pub name : List ℕ
   pub bits : ℕ
   pub behind : List ℕ

@@ -1,7 +1,7 @@
 //! The items of a payload.
 
 ghost use Rattle.std.specs.Prelude.{◌≡◌, ◌<◌, ℕ, List, ◌++◌, length, None};
-ghost use Rattle.dcp_tag.specs.Tag.{TagItem, IsSpelling, IsCut};
+ghost use Rattle.dcp_tag.specs.Tag.{TagItem, IsSpelling, IsItemCut};
 
 use crate::head::{HEAD_BYTES, bytes_for, split_head};
 use std::marker::Model;
@@ -34,9 +34,9 @@ pub struct Items<'a> {
 
 impl<'a> Model for Items<'a> {
     ghost use Rattle.std.specs.Prelude.{◌≤◌, length};
-    ghost use Rattle.dcp_tag.specs.Place.{Place};
+    ghost use Rattle.dcp_tag.specs.PayloadPlace.{PayloadPlace};
 
-    ghost Value = { Place };
+    ghost Value = { PayloadPlace };
 
     ghost view = { λ items. record { payload = items.payload.now; at = items.at } };
 
@@ -44,7 +44,7 @@ impl<'a> Model for Items<'a> {
 }
 
 impl<'a> Items<'a> {
-    ghost use Rattle.dcp_tag.specs.Place.{left};
+    ghost use Rattle.dcp_tag.specs.PayloadPlace.{left};
     ghost use Rattle.dcp_tag.specs.Reading.{AnswersItem, IsGiven};
 
     /// The items of this payload, from its front.
@@ -62,7 +62,7 @@ impl<'a> Items<'a> {
         ensures item { (item : TagItem) (spelling rest : List ℕ) → IsSpelling item spelling
             → left self.old ≡ spelling ++ rest → IsGiven item result }
         ensures none { length (left self.old) < 8 → result ≡ Ok None }
-        ensures cut { IsCut (left self.old) → result ≡ Err (record { at = self.old.at }) }
+        ensures cut { IsItemCut (left self.old) → result ≡ Err (record { at = self.old.at }) }
     {
         let Some((name, bits, behind)) = split_head(&self.payload[self.at..]) else {
             return Ok(None);

@@ -2,7 +2,7 @@
 
 ghost use Rattle.std.specs.Prelude.{◌≡◌, ◌+◌, ◌-◌, ◌*◌, ◌≤◌, ◌++◌, length, take, drop, false, replicate, slice_range};
 ghost use Rattle.drm_bits.specs.Bits.{bits_of};
-ghost use Rattle.dcp_tag.specs.Tag.{bytes_for, head, IsWritten};
+ghost use Rattle.dcp_tag.specs.Tag.{bytes_for, head, IsWrittenItem};
 ghost use Rattle.dcp_tag.specs.Reading.{item_of};
 
 use crate::head::HEAD_BYTES;
@@ -16,7 +16,7 @@ pub fn write_item(into: &mut [u8], at: usize, name: [u8; 4], bits: u32, value: &
     ensures end { result ≡ at + 8 + length value.now }
     ensures written { into.new ≡ take at into.old ++ (head name bits ++ value.now) ++ drop result into.old }
     // The bytes from `at` to the end are the written spelling of the item.
-    ensures spelling { IsWritten (item_of name bits value.now) (slice_range into.new at result) }
+    ensures spelling { IsWrittenItem (item_of name bits value.now) (slice_range into.new at result) }
 {
     let value_at = at + HEAD_BYTES;
     put_at(into, at, &name);

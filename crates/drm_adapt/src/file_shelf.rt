@@ -1,8 +1,8 @@
 //! The files of the system as a shelf. It tells no contents.
 
 ghost use Rattle.std.specs.Prelude.{◌≡◌, None, IfOk, IfSome, take};
-ghost use Rattle.drm_links.specs.Told.{RisesWhere};
-ghost use Rattle.drm_links.specs.Shelf.{IsWithin};
+ghost use Rattle.drm_links.specs.Known.{RisesWhere};
+ghost use Rattle.drm_links.specs.Shelf.{IsFileWithin};
 ghost use Rattle.drm_adapt.specs.Files.{HoldsFile, IsCopy};
 
 use drm_bits::{NoMemory, Octets};
@@ -28,10 +28,10 @@ impl<'a, R: Files> FileShelf<'a, R> {
 }
 
 impl<'a, R: Files> Shelf for FileShelf<'a, R> {
-    ghost known = { λ shelf. record { faults = shelf.faults; told = None } };
+    ghost known = { λ shelf. record { faults = shelf.faults; contents = None } };
 
     fn load(&mut self, alloc: Global, name: &str, limit: usize) -> Loaded
-        ensures within { IsWithin result limit }
+        ensures within { IsFileWithin result limit }
         ensures cause { RisesWhere self.old.faults self.new.faults (result ≡ Loaded.Failed) }
     {
         let loaded = match File::open(self.system, name) {
@@ -48,7 +48,7 @@ impl<'a, R: Files> Shelf for FileShelf<'a, R> {
 // The whole file, if it has at most `limit` bytes. One more byte is read at the most, so a huge file takes no more memory
 // than one at the limit.
 fn read_within<F: Read + Drop>(alloc: Global, file: F, limit: usize) -> Loaded
-    ensures within { IsWithin result limit }
+    ensures within { IsFileWithin result limit }
     // Where the file's bytes are known, the answer is about them.
     ensures file { IfSome (F.remaining file) (HoldsFile result limit) }
 {

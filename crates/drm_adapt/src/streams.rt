@@ -1,7 +1,7 @@
 //! Sources and sinks over std's streams. They tell no contents.
 
 ghost use Rattle.std.specs.Prelude.{◌≡◌, ◌<◌, None, length};
-ghost use Rattle.drm_links.specs.Told.{RisesWhere};
+ghost use Rattle.drm_links.specs.Known.{RisesWhere};
 ghost use Rattle.drm_links.specs.Source.{ReadsSome};
 ghost use Rattle.drm_links.specs.Sink.{WritesSome};
 ghost use Rattle.drm_adapt.specs.Streams.{StreamReads, StreamWrites};
@@ -35,7 +35,7 @@ impl<'a, C: Clock, R: Read> StreamSource<'a, C, R> {
 }
 
 impl<'a, C: Clock, R: Read> Source for StreamSource<'a, C, R> {
-    ghost known = { λ source. record { faults = source.faults; told = None } };
+    ghost known = { λ source. record { faults = source.faults; contents = None } };
 
     // Where the stream's bytes are known, the answer is about them.
     fn read(&mut self, buf: &mut [u8]) -> ReadOut
@@ -79,7 +79,7 @@ impl<'a, C: Clock, W: Write> StreamSink<'a, C, W> {
 }
 
 impl<'a, C: Clock, W: Write> Sink for StreamSink<'a, C, W> {
-    ghost known = { λ sink. record { faults = sink.faults; told = None } };
+    ghost known = { λ sink. record { faults = sink.faults; contents = None } };
 
     // Where the stream's bytes are known, the answer is about them.
     fn write(&mut self, bytes: &[u8]) -> WriteOut

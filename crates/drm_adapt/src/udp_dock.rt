@@ -1,7 +1,7 @@
 //! The network of the system as a dock. It tells nothing.
 
 ghost use Rattle.std.specs.Prelude.{◌≡◌, None, IfOk};
-ghost use Rattle.drm_links.specs.Told.{RisesWhere};
+ghost use Rattle.drm_links.specs.Known.{RisesWhere};
 ghost use Rattle.drm_links.specs.Dock.{IsFresh, IsFailed};
 
 use crate::UdpLink;
@@ -47,7 +47,7 @@ impl<'a, R: Net + Clock> UdpDock<'a, R> {
 impl<'a, R: Net + Clock> Dock for UdpDock<'a, R> {
     type L = UdpLink<'a, R>;
 
-    ghost known = { λ dock. record { faults = dock.faults; told = None } };
+    ghost known = { λ dock. record { faults = dock.faults; contents = None } };
 
     fn bind(&mut self, at: Address) -> Opened<UdpLink<'a, R>> {
         self.open(at, None)

@@ -78,7 +78,7 @@ impl<'a, R: Clock> UdpLink<'a, R> {
 }
 
 impl<'a, R: Clock> Link for UdpLink<'a, R> {
-    ghost known = { λ link. record { faults = link.faults; told = None } };
+    ghost known = { λ link. record { faults = link.faults; contents = None } };
 
     ghost idles = { λ link. link.idles };
 

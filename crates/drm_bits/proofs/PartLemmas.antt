@@ -2,7 +2,7 @@
 use Rattle.std.proofs.Common.{◌≡◌, ℕ, zero, suc, ◌+◌, ◌-◌, ◌*◌, ◌<◌, ◌≤◌, ◌^◌, Bool, List, [], ◌∷◌, ◌++◌, length, take, drop, replicate, get_or, refl, sym, ◌∙◌, ap, subst, arith, append_assoc, length-append, length-drop}
 use Rattle.std.proofs.lemmas.List.{get_or-take, length-take-le, length-replicate, take_at, drop_at, take-append-drop}
 use Rattle.drm_bits.specs.Bits.{digits, front}
-use Rattle.drm_bits.specs.Fields.{AreFields, Fit, spelled}
+use Rattle.drm_bits.specs.Fields.{AreFields, AllFit, spelled}
 use Rattle.drm_bits.specs.Description.{IsDescription, FitsWidths, described, description_fields, part_fields, parts_from, description_from}
 use Rattle.drm_bits.specs.declared.description.Part.{Part}
 use Rattle.drm_bits.specs.declared.description.MuxDesc.{MuxDesc}
@@ -12,13 +12,13 @@ use Rattle.drm_bits.proofs.WroteLemmas.{each}
 abbrev pub no_part : Part
 no_part = record { a = 0; b = 0 }
 
-pub parts_fit : (ps : List Part) → ((k : ℕ) → k < length ps → ((get_or ps k (record { a = 0; b = 0 })).a < 2 ^ 12) × ((get_or ps k (record { a = 0; b = 0 })).b < 2 ^ 12)) → Fit (part_fields ps)
+pub parts_fit : (ps : List Part) → ((k : ℕ) → k < length ps → ((get_or ps k (record { a = 0; b = 0 })).a < 2 ^ 12) × ((get_or ps k (record { a = 0; b = 0 })).b < 2 ^ 12)) → AllFit (part_fields ps)
 parts_fit [] each = tt
 parts_fit (p ∷ ps) each =
     let here = each 0 (omega arith) in
     (here.0, (here.1, parts_fit ps (λ k within. each (suc k) (omega arith))))
 
-pub part_fits : (ps : List Part) (k : ℕ) (d : Part) → k < length ps → Fit (part_fields ps) → ((get_or ps k d).a < 2 ^ 12) × ((get_or ps k d).b < 2 ^ 12)
+pub part_fits : (ps : List Part) (k : ℕ) (d : Part) → k < length ps → AllFit (part_fields ps) → ((get_or ps k d).a < 2 ^ 12) × ((get_or ps k d).b < 2 ^ 12)
 part_fits [] k d within fit = absurd (omega (arith, within))
 part_fits (p ∷ ps) zero d within fit = (fit.0, fit.1.0)
 part_fits (p ∷ ps) (suc k) d within fit = part_fits ps k d (omega (arith, within)) fit.1.1
@@ -112,7 +112,7 @@ description_again d bits is are =
     ∙ ap (λ m. record { prot_a = front 2 bits; prot_b = m; count = d.count; parts = parts_from d.count rest ++ replicate (4 - d.count) (record { a = 0; b = 0 }) }) (sym are.2.1))
 
 -- numbers that fit their widths in a description fit those of its fields
-pub description_fit : (d : MuxDesc) → IsDescription d → FitsWidths d → Fit (description_fields d)
+pub description_fit : (d : MuxDesc) → IsDescription d → FitsWidths d → AllFit (description_fields d)
 description_fit d is fits =
     let each_fits : (k : ℕ) → k < length (described d)
     → ((get_or (described d) k (record { a = 0; b = 0 })).a < 2 ^ 12) × ((get_or (described d) k (record { a = 0; b = 0 })).b < 2 ^ 12) = λ k within.

@@ -1,7 +1,7 @@
 -- The multiplex description (ES 201 980, TS 102 820): protections, and the lengths of each stream's parts.
 use Rattle.std.specs.Prelude.{ℕ, zero, suc, Bool, ◌≡◌, ◌++◌, ◌-◌, ◌≤◌, List, [], ◌∷◌, take, drop, replicate, ◌<◌, ◌^◌, length, All}
 use Rattle.drm_bits.specs.Bits.{front}
-use Rattle.drm_bits.specs.Fields.{Field, field}
+use Rattle.drm_bits.specs.Fields.{BitField, field}
 use Rattle.drm_bits.specs.declared.description.Part.{Part}
 use Rattle.drm_bits.specs.declared.description.MuxDesc.{MuxDesc}
 
@@ -27,12 +27,12 @@ pub record IsWritable (d : MuxDesc) : Type 0 where
   pub fits : FitsWidths d
 
 -- part A and part B of each stream, in 12 bits each
-abbrev pub part_fields : List Part → List Field
+abbrev pub part_fields : List Part → List BitField
 part_fields [] = []
 part_fields (p ∷ parts) = field 12 p.a ∷ field 12 p.b ∷ part_fields parts
 
 -- both protections in 2 bits each, then the parts
-abbrev pub description_fields : MuxDesc → List Field
+abbrev pub description_fields : MuxDesc → List BitField
 description_fields d = field 2 d.prot_a ∷ field 2 d.prot_b ∷ part_fields (described d)
 
 -- what stands in the bits, whatever they are: so many parts, and the description of so many streams

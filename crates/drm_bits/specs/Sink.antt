@@ -17,7 +17,7 @@ abbrev pub lender : BitSink → GName
 lender s = s.bytes.ghost_name
 
 -- These bits, behind those that were written; what stands behind them stays.
-pub record Wrote (bits : List Bool) (old new : BitSink) : Type 0 where
+pub record WroteBits (bits : List Bool) (old new : BitSink) : Type 0 where
   pub more : written new ≡ written old ++ bits
   pub behind : unwritten new ≡ drop (length bits) (unwritten old)
   pub same_reference : lender new ≡ lender old

@@ -3,7 +3,7 @@
 ghost use Rattle.std.specs.Prelude.{◌≡◌, length, OnOk, IfErr};
 ghost use Rattle.std.specs.Int.{w16, from_be_bytes};
 ghost use Rattle.drm_bits.specs.Crc.{IsCheckOf};
-ghost use Rattle.drm_bits.specs.Compared.{IsWrong};
+ghost use Rattle.drm_bits.specs.Compared.{IsWrongCheck};
 
 use crate::crc16;
 
@@ -20,7 +20,7 @@ pub struct WrongCheck {
 pub fn compare_crc16(bytes: &[u8], check: &[u8]) -> Result<(), WrongCheck>
     requires { length check.now ≡ 2 }
     ensures right { OnOk result (IsCheckOf bytes.now (from_be_bytes w16 check.now)) }
-    ensures wrong { IfErr result (λ w. IsWrong w bytes.now check.now) }
+    ensures wrong { IfErr result (λ w. IsWrongCheck w bytes.now check.now) }
 {
     let stands = u16::from_be_bytes([check[0], check[1]]);
     let computed = crc16(bytes);

@@ -2,9 +2,9 @@
 
 ghost use Rattle.std.specs.Prelude.{◌≡◌, ◌↔◌, ◌+◌, ◌*◌, ◌≤◌, ◌<◌, ◌^◌, IsTrue, length, drop, replicate};
 ghost use Rattle.drm_bits.specs.Bits.{front};
-ghost use Rattle.drm_bits.specs.Fields.{Fit, AreFields, spelled};
+ghost use Rattle.drm_bits.specs.Fields.{AllFit, AreFields, spelled};
 ghost use Rattle.drm_bits.specs.Description.{part_fields};
-ghost use Rattle.drm_bits.specs.Sink.{Wrote, unwritten};
+ghost use Rattle.drm_bits.specs.Sink.{WroteBits, unwritten};
 
 use crate::{BitSink, Bits};
 
@@ -59,9 +59,9 @@ impl MuxDesc {
     /// Writes the description behind what is written.
     pub fn write(&self, sink: &mut BitSink<'_>)
         requires description { IsDescription self.now }
-        requires fits { Fit (description_fields self.now) }
+        requires fits { AllFit (description_fields self.now) }
         requires room { 4 + 24 * self.now.count ≤ length (unwritten sink.old) }
-        ensures wrote { Wrote (spelled (description_fields self.now)) sink.old sink.new }
+        ensures wrote { WroteBits (spelled (description_fields self.now)) sink.old sink.new }
         ensures remaining { length (unwritten sink.new) + (4 + 24 * self.now.count) ≡ length (unwritten sink.old) }
     {
         sink.put_u8(self.prot_a, 2);
@@ -79,7 +79,7 @@ impl MuxDesc {
     /// Whether each field fits its width.
     pub fn fits(&self) -> bool
         requires { IsDescription self.now }
-        ensures { IsTrue result ↔ Fit (description_fields self.now) }
+        ensures { IsTrue result ↔ AllFit (description_fields self.now) }
     {
         self.prot_a < 4 && self.prot_b < 4 && all_narrow(&self.parts[..usize::from(self.count)])
     }
@@ -99,9 +99,9 @@ fn read_part(bits: &mut Bits<'_>) -> Part
 }
 
 fn write_parts(sink: &mut BitSink<'_>, parts: &[Part])
-    requires fits { Fit (part_fields parts.now) }
+    requires fits { AllFit (part_fields parts.now) }
     requires room { 24 * length parts.now ≤ length (unwritten sink.old) }
-    ensures wrote { Wrote (spelled (part_fields parts.now)) sink.old sink.new }
+    ensures wrote { WroteBits (spelled (part_fields parts.now)) sink.old sink.new }
     ensures remaining { length (unwritten sink.new) + 24 * length parts.now ≡ length (unwritten sink.old) }
 {
     for part in parts {
@@ -128,7 +128,7 @@ fn is_zero(part: Part) -> bool
 }
 
 fn all_narrow(parts: &[Part]) -> bool
-    ensures { IsTrue result ↔ Fit (part_fields parts.now) }
+    ensures { IsTrue result ↔ AllFit (part_fields parts.now) }
 {
     for part in parts {
         if !is_narrow(*part) {

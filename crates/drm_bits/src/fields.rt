@@ -3,7 +3,7 @@
 ghost use Rattle.std.specs.Prelude.{◌≡◌, ◌+◌, ◌≤◌, ◌<◌, ◌^◌, length, drop};
 ghost use Rattle.std.specs.Int.{from_bool};
 ghost use Rattle.drm_bits.specs.Bits.{digits, front, bit};
-ghost use Rattle.drm_bits.specs.Sink.{Wrote, unwritten};
+ghost use Rattle.drm_bits.specs.Sink.{WroteBits, unwritten};
 
 use crate::{BitSink, Bits};
 
@@ -63,7 +63,7 @@ impl<'a> BitSink<'a> {
     /// Puts a field of one bit.
     pub fn put_flag(&mut self, set: bool)
         requires { 1 ≤ length (unwritten self.old) }
-        ensures wrote { Wrote (digits 1 (from_bool set)) self.old self.new }
+        ensures wrote { WroteBits (digits 1 (from_bool set)) self.old self.new }
         ensures remaining { length (unwritten self.new) + 1 ≡ length (unwritten self.old) }
     {
         self.put_u32(u32::from(set), 1);
@@ -74,7 +74,7 @@ impl<'a> BitSink<'a> {
         requires narrow { width ≤ 8 }
         requires fits { number < 2 ^ width }
         requires room { width ≤ length (unwritten self.old) }
-        ensures wrote { Wrote (digits width number) self.old self.new }
+        ensures wrote { WroteBits (digits width number) self.old self.new }
         ensures remaining { length (unwritten self.new) + width ≡ length (unwritten self.old) }
     {
         self.put_u32(u32::from(number), width);
@@ -85,7 +85,7 @@ impl<'a> BitSink<'a> {
         requires narrow { width ≤ 16 }
         requires fits { number < 2 ^ width }
         requires room { width ≤ length (unwritten self.old) }
-        ensures wrote { Wrote (digits width number) self.old self.new }
+        ensures wrote { WroteBits (digits width number) self.old self.new }
         ensures remaining { length (unwritten self.new) + width ≡ length (unwritten self.old) }
     {
         self.put_u32(u32::from(number), width);
@@ -96,7 +96,7 @@ impl<'a> BitSink<'a> {
         requires narrow { width ≤ 32 }
         requires fits { number < 2 ^ width }
         requires room { width ≤ length (unwritten self.old) }
-        ensures wrote { Wrote (digits width number) self.old self.new }
+        ensures wrote { WroteBits (digits width number) self.old self.new }
         ensures remaining { length (unwritten self.new) + width ≡ length (unwritten self.old) }
     {
         match self.put(u64::from(number), width) {

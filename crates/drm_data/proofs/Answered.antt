@@ -9,8 +9,8 @@ use Rattle.drm_bits.specs.Crc.{IsCheckOf}
 use Rattle.drm_data.specs.declared.fault.DataFault.{DataFault}
 use Rattle.drm_data.specs.declared.fault.DataFault.TheVariants.{Length, Crc, Useful}
 use Rattle.drm_data.specs.declared.packet.DataPacket.{DataPacket}
-use Rattle.drm_data.specs.declared.packet.Head.{Head}
-use Rattle.drm_data.specs.Packet.{Packet, is_padded, IsPacket}
+use Rattle.drm_data.specs.declared.packet.DataHead.{DataHead}
+use Rattle.drm_data.specs.PacketFields.{PacketFields, is_padded, IsPacket}
 use Rattle.drm_data.specs.Faults.{checked_bytes, check_value, says_padded, HasCheck, IsFault}
 use Rattle.drm_data.specs.Reading.{packet_of, flag_at, useful_in, IsHeadOf, FindsUseful}
 use Rattle.drm_data.proofs.Spellings.{IsBytes, packet_at, placed, head_fields, is_packet_at, found_at}
@@ -27,7 +27,7 @@ one_fault d (Useful n) (Crc s c) bytes h k = absurd (k.3 (k.1 ∙ one_check (che
 one_fault d (Useful n) (Useful m) bytes h k = ap Useful (h.2 ∙ sym k.2)
 
 -- a packet has no fault
-pub no_fault : (d : ℕ) (p : Packet) (f : DataFault) (bytes : List ℕ) → IsPacket d p bytes → IsFault d f bytes → ⊥
+pub no_fault : (d : ℕ) (p : PacketFields) (f : DataFault) (bytes : List ℕ) → IsPacket d p bytes → IsFault d f bytes → ⊥
 no_fault d p (Length s) bytes is h = h.1 (h.0 ∙ (placed d p is.0 is.1 bytes is.2).size)
 no_fault d p (Crc s c) bytes is h =
     let at = placed d p is.0 is.1 bytes is.2 in
@@ -41,11 +41,11 @@ no_fault d p (Useful n) bytes is h =
     absurd (omega (arith, at.count_is padded, h.2, h.3, ltb-true (length p.useful) d padded))
 
 -- bytes are one packet
-pub one_packet : (d : ℕ) (p q : Packet) (bytes : List ℕ) → IsPacket d p bytes → IsPacket d q bytes → p ≡ q
+pub one_packet : (d : ℕ) (p q : PacketFields) (bytes : List ℕ) → IsPacket d p bytes → IsPacket d q bytes → p ≡ q
 one_packet d p q bytes h k = sym (is_packet_at d p bytes h) ∙ is_packet_at d q bytes k
 
 -- what a fault that is handed on excludes
-pub fault_only : (d : ℕ) (r : Result DataPacket DataFault) (e f : DataFault) (bytes : List ℕ) → r ≡ Err e → e ≡ f → IsFault d f bytes → (p : Packet) → IsPacket d p bytes → IsOkAnd r (λ given. packet_of given ≡ p)
+pub fault_only : (d : ℕ) (r : Result DataPacket DataFault) (e f : DataFault) (bytes : List ℕ) → r ≡ Err e → e ≡ f → IsFault d f bytes → (p : PacketFields) → IsPacket d p bytes → IsOkAnd r (λ given. packet_of given ≡ p)
 fault_only d r e f bytes is same h p packet = absurd (no_fault d p f bytes packet h)
 
 pub fault_is : (d : ℕ) (r : Result DataPacket DataFault) (e f : DataFault) (bytes : List ℕ) → r ≡ Err e → e ≡ f → IsFault d f bytes → (g : DataFault) → IsFault d g bytes → r ≡ Err g
@@ -78,7 +78,7 @@ given_is : (bytes : List ℕ) (first last : Bool) (id continuity : ℕ) (useful 
     → first ≡ (packet_at bytes).first → last ≡ (packet_at bytes).last → id ≡ (packet_at bytes).id → continuity ≡ (packet_at bytes).continuity → useful ≡ (packet_at bytes).useful
     → record { first = first; last = last; id = id; continuity = continuity; useful = useful } ≡ packet_at bytes
 given_is bytes first last id continuity useful is_first is_last is_id is_continuity is_useful =
-    let p : Packet = packet_at bytes in
+    let p : PacketFields = packet_at bytes in
     ap (λ b. record { first = b; last = last; id = id; continuity = continuity; useful = useful }) is_first
     ∙ (ap (λ b. record { first = p.first; last = b; id = id; continuity = continuity; useful = useful }) is_last
     ∙ (ap (λ n. record { first = p.first; last = p.last; id = n; continuity = continuity; useful = useful }) is_id
@@ -86,10 +86,10 @@ given_is bytes first last id continuity useful is_first is_last is_id is_continu
     ∙ ap (λ l. record { first = p.first; last = p.last; id = p.id; continuity = p.continuity; useful = l }) is_useful)))
 
 -- the packet that is given, where nothing is refused
-abbrev pub given : Head → Bor (List ℕ) → Packet
+abbrev pub given : DataHead → Bor (List ℕ) → PacketFields
 given h useful = record { first = h.first; last = h.last; id = h.id; continuity = h.continuity; useful = useful.now }
 
-pub given_at : (d : ℕ) (bytes front : List ℕ) (h : Head) (useful : Bor (List ℕ)) → 1 ≤ d → HasCheck d bytes → front ≡ checked_bytes bytes → IsHeadOf h (get_or front 0 0)
+pub given_at : (d : ℕ) (bytes front : List ℕ) (h : DataHead) (useful : Bor (List ℕ)) → 1 ≤ d → HasCheck d bytes → front ≡ checked_bytes bytes → IsHeadOf h (get_or front 0 0)
     → FindsUseful (length front - 1) h.padded front (Ok useful) → given h useful ≡ packet_at bytes
 given_at d bytes front h useful some whole is head finds =
     let byte = (front_at d bytes front some whole is).head in
@@ -97,10 +97,10 @@ given_at d bytes front h useful some whole is head finds =
     given_is bytes h.first h.last h.id h.continuity useful.now (head.first ∙ ap (flag_at 128) byte) (head.last ∙ ap (flag_at 64) byte) (head.id ∙ ap (λ n. n / 16 % 4) byte)
     (head.continuity ∙ ap (λ n. n % 8) byte) (finds.0 ∙ (ap (λ b. useful_in b front) padded ∙ ap (useful_in (says_padded bytes)) is))
 
-pub found : (d : ℕ) (bytes front : List ℕ) (h : Head) (useful : Bor (List ℕ)) → 1 ≤ d → IsBytes bytes → HasCheck d bytes → front ≡ checked_bytes bytes → IsHeadOf h (get_or front 0 0)
+pub found : (d : ℕ) (bytes front : List ℕ) (h : DataHead) (useful : Bor (List ℕ)) → 1 ≤ d → IsBytes bytes → HasCheck d bytes → front ≡ checked_bytes bytes → IsHeadOf h (get_or front 0 0)
     → FindsUseful (length front - 1) h.padded front (Ok useful) → IsPacket d (given h useful) bytes
 found d bytes front h useful some fits whole is head finds =
     let at = front_at d bytes front some whole is in
     let padded : h.padded ≡ says_padded bytes = head.padded ∙ ap (flag_at 8) at.head in
-    let P : Packet → Type 0 = λ p. IsPacket d p bytes in
+    let P : PacketFields → Type 0 = λ p. IsPacket d p bytes in
     subst P (sym (given_at d bytes front h useful some whole is head finds)) (found_at d bytes some fits whole (λ says. omega (arith, at.field, at.count, finds.1 (padded ∙ says))))

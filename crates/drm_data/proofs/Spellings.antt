@@ -5,7 +5,7 @@ use Rattle.std.proofs.lemmas.Bool.{lt-ltb, le-ltb, cases_lt}
 use Rattle.std.proofs.lemmas.List.{take_at, drop_at, take-append-drop, length-take-le, get_or-drop, get_or-take, drop_more}
 use Rattle.std.proofs.lemmas.Nat.{be_bytes_2, from_be_bytes-to_be_bytes_2}
 use Rattle.drm_bits.specs.Crc.{IsCheckOf}
-use Rattle.drm_data.specs.Packet.{Packet, is_padded, head, data_field, front, SpellsDataPacket, IsPacket}
+use Rattle.drm_data.specs.PacketFields.{PacketFields, is_padded, head, data_field, front, SpellsDataPacket, IsPacket}
 use Rattle.drm_data.specs.Faults.{checked_bytes, check_value, says_padded, said_count, HasLength, HasCheck}
 use Rattle.drm_data.specs.Reading.{flag_at, useful_in}
 use Rattle.drm_data.proofs.Heads.{AreFields, fields_of_head, head_of_fields, head_byte}
@@ -14,7 +14,7 @@ abbrev pub IsBytes : List ℕ → Type 0
 IsBytes bytes = (i : ℕ) → get_or bytes i 0 < 256
 
 -- the packet whose fields stand at their places
-abbrev pub packet_at : List ℕ → Packet
+abbrev pub packet_at : List ℕ → PacketFields
 packet_at bytes =
     let byte : ℕ = get_or bytes 0 0 in
     record { first = flag_at 128 byte; last = flag_at 64 byte; id = byte / 16 % 4; continuity = byte % 8; useful = useful_in (says_padded bytes) (checked_bytes bytes) }
@@ -30,7 +30,7 @@ useful_fit d useful rest size =
     ]
 
 -- where the parts of a spelling stand
-pub record IsPlaced (d : ℕ) (p : Packet) (rest : List ℕ) (check : ℕ) (bytes : List ℕ) : Type 0 where
+pub record IsPlaced (d : ℕ) (p : PacketFields) (rest : List ℕ) (check : ℕ) (bytes : List ℕ) : Type 0 where
   pub size : HasLength d bytes
   pub front_is : checked_bytes bytes ≡ front d p rest
   pub check_is : check_value bytes ≡ check
@@ -38,7 +38,7 @@ pub record IsPlaced (d : ℕ) (p : Packet) (rest : List ℕ) (check : ℕ) (byte
   pub count_is : is_padded d p ≡ true → said_count bytes ≡ length p.useful
   pub useful_is : useful_in (is_padded d p) (front d p rest) ≡ p.useful
 
-useful_there : (d : ℕ) (p : Packet) (rest : List ℕ) (b : Bool) → nat_lt (length p.useful) d ≡ b
+useful_there : (d : ℕ) (p : PacketFields) (rest : List ℕ) (b : Bool) → nat_lt (length p.useful) d ≡ b
     → useful_in b (front d p rest) ≡ p.useful
 useful_there d p rest true is =
     let field : data_field d p.useful rest ≡ length p.useful ∷ p.useful ++ rest = ap (λ b. if b then length p.useful ∷ p.useful ++ rest else p.useful) is in
@@ -46,12 +46,12 @@ useful_there d p rest true is =
 useful_there d p rest false is =
     ap (λ b. if b then length p.useful ∷ p.useful ++ rest else p.useful) is
 
-count_there : (d : ℕ) (p : Packet) (rest : List ℕ) (check : ℕ) (bytes : List ℕ) → SpellsDataPacket d p rest check bytes → is_padded d p ≡ true → said_count bytes ≡ length p.useful
+count_there : (d : ℕ) (p : PacketFields) (rest : List ℕ) (check : ℕ) (bytes : List ℕ) → SpellsDataPacket d p rest check bytes → is_padded d p ≡ true → said_count bytes ≡ length p.useful
 count_there d p rest check bytes s is =
     let field : data_field d p.useful rest ≡ length p.useful ∷ p.useful ++ rest = ap (λ b. if b then length p.useful ∷ p.useful ++ rest else p.useful) is in
     ap said_count s.spelled ∙ ap (λ l. get_or (l ++ to_be_bytes w16 check) 0 0) field
 
-pub placed : (d : ℕ) (p : Packet) (rest : List ℕ) (check : ℕ) (bytes : List ℕ) → SpellsDataPacket d p rest check bytes → IsPlaced d p rest check bytes
+pub placed : (d : ℕ) (p : PacketFields) (rest : List ℕ) (check : ℕ) (bytes : List ℕ) → SpellsDataPacket d p rest check bytes → IsPlaced d p rest check bytes
 placed d p rest check bytes s =
     let last : List ℕ = to_be_bytes w16 check in
     let size : length bytes ≡ d + 3 = omega (arith, ap length s.spelled, length-append (front d p rest) last, s.size) in
@@ -66,13 +66,13 @@ placed d p rest check bytes s =
       useful_is = useful_there d p rest (is_padded d p) refl;
     }
 
-pub head_fields : (d : ℕ) (p : Packet) (rest : List ℕ) (check : ℕ) (bytes : List ℕ) → SpellsDataPacket d p rest check bytes → AreFields (get_or bytes 0 0) p.first p.last p.id (is_padded d p) p.continuity
+pub head_fields : (d : ℕ) (p : PacketFields) (rest : List ℕ) (check : ℕ) (bytes : List ℕ) → SpellsDataPacket d p rest check bytes → AreFields (get_or bytes 0 0) p.first p.last p.id (is_padded d p) p.continuity
 head_fields d p rest check bytes s =
     let P : ℕ → Type 0 = λ n. AreFields n p.first p.last p.id (is_padded d p) p.continuity in
     subst P (sym (placed d p rest check bytes s).first_is) (fields_of_head p.first p.last p.id (is_padded d p) p.continuity s.id s.continuity)
 
 -- a packet's fields stand at their places
-pub is_packet_at : (d : ℕ) (p : Packet) (bytes : List ℕ) → IsPacket d p bytes → packet_at bytes ≡ p
+pub is_packet_at : (d : ℕ) (p : PacketFields) (bytes : List ℕ) → IsPacket d p bytes → packet_at bytes ≡ p
 is_packet_at d p bytes is =
     let at = placed d p is.0 is.1 bytes is.2 in
     let fields = head_fields d p is.0 is.1 bytes is.2 in

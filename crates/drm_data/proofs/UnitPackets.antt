@@ -2,9 +2,9 @@
 use Rattle.std.proofs.Common.{◌≡◌, ℕ, ◌+◌, ◌-◌, ◌*◌, ◌==◌, nat_le, List, length, take, drop, ap, subst, ◌∙◌, arith, length-drop}
 use Rattle.std.proofs.lemmas.Bool.Decides.{nat_tests}
 use Rattle.std.proofs.lemmas.List.{take_rest}
-use Rattle.drm_data.specs.Packet.{Packet}
+use Rattle.drm_data.specs.PacketFields.{PacketFields}
 use Rattle.drm_data.specs.Units.{unit_packet}
-use Rattle.drm_data.specs.Writing.{IsWritten}
+use Rattle.drm_data.specs.Writing.{IsWrittenPacket}
 
 fits_test : (l n d : ℕ) → nat_le (l - n) d ≡ nat_le l (n + d)
 fits_test l n d = grind (arith, nat_tests)
@@ -25,11 +25,11 @@ as_unit_packet id d continuity unit k =
 
 -- what was written is a packet of the unit
 pub written_as : (id d continuity : ℕ) (unit : List ℕ) (k n : ℕ) (useful bytes : List ℕ) → n ≡ d → useful ≡ take n (left n unit k)
-    → IsWritten n (record { first = k == 0; last = nat_le (length (left n unit k)) n; id = id; continuity = continuity; useful = useful }) bytes
-    → IsWritten d (unit_packet id d continuity unit k) bytes
+    → IsWrittenPacket n (record { first = k == 0; last = nat_le (length (left n unit k)) n; id = id; continuity = continuity; useful = useful }) bytes
+    → IsWrittenPacket d (unit_packet id d continuity unit k) bytes
 written_as id d continuity unit k n useful bytes same is written =
     let P : List ℕ → Type 0 = λ l.
-    IsWritten n (record { first = k == 0; last = nat_le (length (left n unit k)) n; id = id; continuity = continuity; useful = l }) bytes in
-    let Q : Packet → Type 0 = λ p. IsWritten n p bytes in
-    let R : ℕ → Type 0 = λ m. IsWritten m (unit_packet id m continuity unit k) bytes in
+    IsWrittenPacket n (record { first = k == 0; last = nat_le (length (left n unit k)) n; id = id; continuity = continuity; useful = l }) bytes in
+    let Q : PacketFields → Type 0 = λ p. IsWrittenPacket n p bytes in
+    let R : ℕ → Type 0 = λ m. IsWrittenPacket m (unit_packet id m continuity unit k) bytes in
     subst R same (subst Q (as_unit_packet id n continuity unit k) (subst P is written))

@@ -1,4 +1,4 @@
-pub mod Packet
+pub mod PacketFields
 pub mod Faults
 pub mod Reading
 pub mod Units

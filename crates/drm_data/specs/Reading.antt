@@ -4,11 +4,11 @@ use Rattle.std.specs.Borrow.{Bor}
 use Rattle.drm_data.specs.declared.fault.DataFault.{DataFault}
 use Rattle.drm_data.specs.declared.fault.DataFault.TheVariants.{Useful}
 use Rattle.drm_data.specs.declared.packet.DataPacket.{DataPacket}
-use Rattle.drm_data.specs.declared.packet.Head.{Head}
-use Rattle.drm_data.specs.Packet.{Packet}
+use Rattle.drm_data.specs.declared.packet.DataHead.{DataHead}
+use Rattle.drm_data.specs.PacketFields.{PacketFields}
 
 -- the packet that is given
-abbrev pub packet_of : DataPacket → Packet
+abbrev pub packet_of : DataPacket → PacketFields
 packet_of p =
     record { first = p.first; last = p.last; id = p.id; continuity = p.continuity; useful = p.useful.now }
 
@@ -16,7 +16,7 @@ packet_of p =
 abbrev pub flag_at : ℕ → ℕ → Bool
 flag_at weight byte = byte / weight % 2 == 1
 
-pub record IsHeadOf (h : Head) (byte : ℕ) : Type 0 where
+pub record IsHeadOf (h : DataHead) (byte : ℕ) : Type 0 where
   pub first : h.first ≡ flag_at 128 byte
   pub last : h.last ≡ flag_at 64 byte
   pub id : h.id ≡ byte / 16 % 4

@@ -1,14 +1,14 @@
 -- What a packer writes.
 use Rattle.std.specs.Prelude.{ℕ, ◌-◌, ◌<◌, ◌≤◌, List, length, replicate}
-use Rattle.drm_data.specs.Packet.{Packet, SpellsDataPacket}
+use Rattle.drm_data.specs.PacketFields.{PacketFields, SpellsDataPacket}
 use Rattle.drm_data.specs.Units.{next_continuity}
 
 -- the bytes are this packet, with zeros in what isn't read
-abbrev pub IsWritten : ℕ → Packet → List ℕ → Type 0
-IsWritten d p bytes = (check : ℕ) × SpellsDataPacket d p (replicate (d - 1 - length p.useful) 0) check bytes
+abbrev pub IsWrittenPacket : ℕ → PacketFields → List ℕ → Type 0
+IsWrittenPacket d p bytes = (check : ℕ) × SpellsDataPacket d p (replicate (d - 1 - length p.useful) 0) check bytes
 
 -- a packet that has a spelling
-pub record FitsDataPacket (d : ℕ) (p : Packet) : Type 0 where
+pub record FitsDataPacket (d : ℕ) (p : PacketFields) : Type 0 where
   pub id : p.id < 4
   pub continuity : p.continuity < 8
   pub useful : length p.useful ≤ d

@@ -5,7 +5,7 @@ ghost use Rattle.std.specs.Borrow.{sem};
 ghost use Rattle.drm_data.specs.Joining.{made, closed, TakesEvent};
 ghost use Rattle.drm_data.specs.Lending.{JoinerAfterEvent};
 
-use crate::room::{Step, UnitRoom};
+use crate::unit_buffer::{JoinStep, UnitBuffer};
 use crate::{Joined, read_packet};
 use drm_bits::NoMemory;
 use std::alloc::Global;
@@ -16,18 +16,18 @@ use std::marker::Model;
 pub struct Joiner {
     id: u8,
     length: u8,
-    room: UnitRoom,
+    room: UnitBuffer,
 }
 
 impl Model for Joiner {
-    ghost use Rattle.drm_data.specs.Joining.{State};
-    ghost use Rattle.drm_data.specs.Room.{state, IsSound};
+    ghost use Rattle.drm_data.specs.Joining.{JoinerState};
+    ghost use Rattle.drm_data.specs.Room.{state, JoinerInvariant};
 
-    ghost Value = { State };
+    ghost Value = { JoinerState };
 
     ghost view = { state };
 
-    ghost invariant = { IsSound };
+    ghost invariant = { JoinerInvariant };
 }
 
 impl Joiner {
@@ -37,7 +37,7 @@ impl Joiner {
         requires length { 1 ≤ length }
         ensures { IfOk result (λ joiner. joiner ≡ made id length) }
     {
-        let room = UnitRoom::make(alloc)?;
+        let room = UnitBuffer::make(alloc)?;
         Ok(Joiner { id, length, room })
     }
 
@@ -57,10 +57,10 @@ impl Joiner {
             return Joined::Nothing;
         }
         match self.room.join(&packet) {
-            Step::Nothing => Joined::Nothing,
-            Step::Unit(len) => Joined::Unit(self.room.front(len)),
-            Step::Cut => Joined::Cut,
-            Step::CutUnit(len) => Joined::CutUnit(self.room.front(len)),
+            JoinStep::Nothing => Joined::Nothing,
+            JoinStep::Unit(len) => Joined::Unit(self.room.front(len)),
+            JoinStep::Cut => Joined::Cut,
+            JoinStep::CutUnit(len) => Joined::CutUnit(self.room.front(len)),
         }
     }
 

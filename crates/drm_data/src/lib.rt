@@ -6,7 +6,7 @@ mod joined;
 mod joiner;
 mod packer;
 mod packet;
-mod room;
+mod unit_buffer;
 mod write;
 
 pub use fault::DataFault;

@@ -2,7 +2,7 @@
 
 ghost use Rattle.std.specs.Prelude.{◌≡◌, ◌+◌, ◌*◌, ◌<◌, ◌≤◌, length, take, drop};
 ghost use Rattle.drm_data.specs.Units.{unit_packet as packet_of_unit, most_unit};
-ghost use Rattle.drm_data.specs.Writing.{IsWritten, new_packer, after_packet};
+ghost use Rattle.drm_data.specs.Writing.{IsWrittenPacket, new_packer, after_packet};
 
 use crate::DataPacket;
 use crate::write::write_packet;
@@ -48,7 +48,7 @@ impl Packer {
         requires within_limit { length unit.now ≤ most_unit }
         requires within { k * self.old.length < length unit.now }
         ensures end { result ≡ self.old.length + 3 }
-        ensures packet { IsWritten self.old.length
+        ensures packet { IsWrittenPacket self.old.length
             (packet_of_unit self.old.id self.old.length self.old.continuity unit.now k) (take result into.new) }
         ensures behind { drop result into.new ≡ drop result into.old }
         ensures after { self.new ≡ after_packet self.old }

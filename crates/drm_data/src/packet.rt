@@ -1,7 +1,7 @@
 //! A data packet, read.
 
 ghost use Rattle.std.specs.Prelude.{◌≡◌, ◌-◌, ◌≤◌, length, IfOk, IfErr, IsOkAnd, OnOk};
-ghost use Rattle.drm_data.specs.Packet.{Packet, IsPacket};
+ghost use Rattle.drm_data.specs.PacketFields.{PacketFields, IsPacket};
 ghost use Rattle.drm_data.specs.Faults.{IsFault, HasCheck, checked_bytes};
 ghost use Rattle.drm_data.specs.Reading.{packet_of, IsHeadOf, FindsUseful};
 
@@ -29,7 +29,7 @@ pub struct DataPacket<'a> {
 }
 
 #[derive(Drop)]
-pub(crate) struct Head {
+pub(crate) struct DataHead {
     pub first: bool,
     pub last: bool,
     pub id: u8,
@@ -42,7 +42,7 @@ pub fn read_packet(bytes: &[u8], length: u8) -> Result<DataPacket<'_>, DataFault
     requires { 1 ≤ length }
     // What is read is the packet, and what is a packet is read.
     ensures found { IfOk result (λ packet. IsPacket length (packet_of packet) bytes.now) }
-    ensures only { (p : Packet) → IsPacket length p bytes.now → IsOkAnd result (λ given. packet_of given ≡ p) }
+    ensures only { (p : PacketFields) → IsPacket length p bytes.now → IsOkAnd result (λ given. packet_of given ≡ p) }
     // A fault is the first one, and where there is a fault it is answered.
     ensures fault { IfErr result (λ fault. IsFault length fault bytes.now) }
     ensures faults { (fault : DataFault) → IsFault length fault bytes.now → result ≡ Err fault }
@@ -79,10 +79,10 @@ fn checked_front(bytes: &[u8], length: u8) -> Result<&[u8], DataFault>
     }
 }
 
-fn head_of(byte: u8) -> Head
+fn head_of(byte: u8) -> DataHead
     ensures { IsHeadOf result byte }
 {
-    Head {
+    DataHead {
         first: byte / 0x80 % 2 == 1,
         last: byte / 0x40 % 2 == 1,
         id: byte / 0x10 % 4,

@@ -1,9 +1,9 @@
 //! A data packet, written.
 
 ghost use Rattle.std.specs.Prelude.{◌≡◌, ℕ, ◌+◌, ◌-◌, ◌≤◌, ◌<◌, ◌++◌, length, take, drop, replicate};
-ghost use Rattle.drm_data.specs.Packet.{head as head_byte, data_field};
+ghost use Rattle.drm_data.specs.PacketFields.{head as head_byte, data_field};
 ghost use Rattle.drm_data.specs.Reading.{packet_of};
-ghost use Rattle.drm_data.specs.Writing.{IsWritten, FitsDataPacket};
+ghost use Rattle.drm_data.specs.Writing.{IsWrittenPacket, FitsDataPacket};
 
 use crate::DataPacket;
 use drm_bits::{crc16, put_at};
@@ -15,7 +15,7 @@ pub(crate) fn write_packet(packet: &DataPacket<'_>, len: usize, into: &mut [u8])
     requires fits { FitsDataPacket len (packet_of packet.now) }
     requires room { len + 3 ≤ length into.old }
     ensures end { result ≡ len + 3 }
-    ensures packet { IsWritten len (packet_of packet.now) (take result into.new) }
+    ensures packet { IsWrittenPacket len (packet_of packet.now) (take result into.new) }
     ensures behind { drop result into.new ≡ drop result into.old }
 {
     let first = head_of(packet, len);

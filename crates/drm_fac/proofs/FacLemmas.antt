@@ -3,7 +3,7 @@ use Rattle.std.proofs.Common.{◌≡◌, ℕ, Bool, true, false, List, take, ref
 use Rattle.std.specs.Int.{from_bool}
 use Rattle.drm_bits.specs.Bits.{bits_of}
 use Rattle.drm_bits.specs.Crc.{crc8_polynomial}
-use Rattle.drm_bits.specs.Fields.{Field}
+use Rattle.drm_bits.specs.Fields.{BitField}
 use Rattle.drm_bits.proofs.Checks.{IsCheck-unique, crc8_low}
 use Rattle.drm_bits.proofs.FieldLemmas.{same_fields, fields_fit}
 use Rattle.drm_fac.specs.declared.fac.Fac.{Fac}
@@ -42,13 +42,13 @@ fac_from ns = record {
   };
 }
 
-fac_again : (f : Fac) → f ≡ fac_from (map (λ (x : Field). x.number) (fac_fields f))
+fac_again : (f : Fac) → f ≡ fac_from (map (λ (x : BitField). x.number) (fac_fields f))
 fac_again f =
     rw (is_set f.channel.enhancement, is_set f.channel.short_depth, is_set f.channel.qam4, is_set f.service.ca, is_set f.service.is_data, is_set f.service.data_ca) refl
 
 -- a FAC is known by its fields
 pub same_fac : (f g : Fac) → fac_fields f ≡ fac_fields g → f ≡ g
-same_fac f g same = fac_again f ∙ (ap (λ fs. fac_from (map (λ (x : Field). x.number) fs)) same ∙ sym (fac_again g))
+same_fac f g same = fac_again f ∙ (ap (λ fs. fac_from (map (λ (x : BitField). x.number) fs)) same ∙ sym (fac_again g))
 
 -- nine bytes are at most one FAC
 pub one_fac : (f g : Fac) (bytes : List ℕ) → IsFac f bytes → IsFac g bytes → f ≡ g

@@ -1,8 +1,8 @@
 //! The channel parameters.
 
 ghost use Rattle.std.specs.Prelude.{◌≡◌, ◌+◌, ◌≤◌, ◌↔◌, length, IsTrue};
-ghost use Rattle.drm_bits.specs.Fields.{BeginsWith, Fit, spelled};
-ghost use Rattle.drm_bits.specs.Sink.{Wrote, unwritten};
+ghost use Rattle.drm_bits.specs.Fields.{BeginsWith, AllFit, spelled};
+ghost use Rattle.drm_bits.specs.Sink.{WroteBits, unwritten};
 
 use drm_bits::{BitSink, Bits};
 
@@ -55,9 +55,9 @@ impl Channel {
 
     /// Writes the channel parameters behind what is written.
     pub(crate) fn write(self, sink: &mut BitSink<'_>)
-        requires fits { Fit (channel_fields self) }
+        requires fits { AllFit (channel_fields self) }
         requires room { 20 ≤ length (unwritten sink.old) }
-        ensures wrote { Wrote (spelled (channel_fields self)) sink.old sink.new }
+        ensures wrote { WroteBits (spelled (channel_fields self)) sink.old sink.new }
         ensures remaining { length (unwritten sink.new) + 20 ≡ length (unwritten sink.old) }
     {
         sink.put_flag(self.enhancement);
@@ -73,7 +73,7 @@ impl Channel {
 
     /// Whether each field fits its width.
     pub(crate) fn fits(self) -> bool
-        ensures { IsTrue result ↔ Fit (channel_fields self) }
+        ensures { IsTrue result ↔ AllFit (channel_fields self) }
     {
         self.identity < 4
             && self.occupancy < 16

@@ -1,8 +1,8 @@
 //! The service parameters.
 
 ghost use Rattle.std.specs.Prelude.{◌≡◌, ◌+◌, ◌≤◌, ◌↔◌, length, IsTrue};
-ghost use Rattle.drm_bits.specs.Fields.{BeginsWith, Fit, spelled};
-ghost use Rattle.drm_bits.specs.Sink.{Wrote, unwritten};
+ghost use Rattle.drm_bits.specs.Fields.{BeginsWith, AllFit, spelled};
+ghost use Rattle.drm_bits.specs.Sink.{WroteBits, unwritten};
 
 use drm_bits::{BitSink, Bits};
 
@@ -51,9 +51,9 @@ impl Service {
 
     /// Writes the service parameters behind what is written.
     pub(crate) fn write(self, sink: &mut BitSink<'_>)
-        requires fits { Fit (service_fields self) }
+        requires fits { AllFit (service_fields self) }
         requires room { 44 ≤ length (unwritten sink.old) }
-        ensures wrote { Wrote (spelled (service_fields self)) sink.old sink.new }
+        ensures wrote { WroteBits (spelled (service_fields self)) sink.old sink.new }
         ensures remaining { length (unwritten sink.new) + 44 ≡ length (unwritten sink.old) }
     {
         sink.put_u32(self.id, 24);
@@ -68,7 +68,7 @@ impl Service {
 
     /// Whether each field fits its width.
     pub(crate) fn fits(self) -> bool
-        ensures { IsTrue result ↔ Fit (service_fields self) }
+        ensures { IsTrue result ↔ AllFit (service_fields self) }
     {
         self.id < 1 << 24
             && self.short < 4

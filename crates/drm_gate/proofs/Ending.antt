@@ -1,11 +1,11 @@
 -- A gateway's reading, item by item, and how it ends.
 use Rattle.std.proofs.Common.{◌≡◌, ℕ, ◌+◌, ◌*◌, ◌≤◌, true, false, List, [], ◌∷◌, ◌++◌, Option, length, sym, subst, ap, ◌∙◌, refl, inl, inr, arith, append_assoc, IfSome, Ok, Err, slice_index_or}
 use Rattle.std.proofs.lemmas.List.{append-nil}
-use Rattle.recv_reading.proofs.Common.{Answer, Failed, Known, Taken, State, ready, Item, IsItem, MayBeFirst, KeepsFirst, first_of}
-use Rattle.recv_reading.proofs.Common.{ReadingState, has_enough, has_ended, word_of, Reached, ReadingWaits, ReadsOn}
+use Rattle.recv_reading.proofs.Common.{Answer, Failed, Known, Taken, CollectorState, ready, CollectorItem, IsItem, MayBeFirst, KeepsFirst, first_of}
+use Rattle.recv_reading.proofs.Common.{ReadingState, has_enough, has_ended, word_of, ReadingReached, ReadingWaits, ReadsOn}
 use Rattle.recv_reading.specs.declared.options.ReceiveOptions.{ReceiveOptions}
 use Rattle.drm_links.specs.Link.{Traffic}
-use Rattle.drm_links.specs.Hearing.{Heard}
+use Rattle.drm_links.specs.Hearing.{LinkHeard}
 use Rattle.dcp_pft.specs.declared.carry.Carry.{Carry}
 use Rattle.dcp_pft.specs.Limits.{most_fragments}
 use Rattle.recv_reading.specs.declared.source.SourceFault.{SourceFault}
@@ -21,9 +21,9 @@ use Rattle.dcp_sender.specs.Targets.{Target}
 use Rattle.drm_gate.specs.Targets.{EachSends, SomeUp}
 use Rattle.drm_gate.specs.Tallies.{nothing, tally_of, items_in}
 use Rattle.drm_gate.specs.Passed.{PassedAll}
-use Rattle.drm_gate.specs.Steps.{Passed, Broken}
+use Rattle.drm_gate.specs.Steps.{ItemPassed, LastLinkFails}
 use Rattle.drm_gate.specs.declared.gate.GateEnded.{GateEnded}
-use Rattle.drm_gate.specs.Run.{StopsAt, CountsOver, EndsAs, PassesAll, BreaksOff, StopsSending, most_sends}
+use Rattle.drm_gate.specs.Run.{StopsAt, CountsOver, GateEndsAs, PassesAll, BreaksOff, StopsSending, most_sends}
 use Rattle.drm_gate.proofs.TargetLemmas.{more_sent, few_sent_each, none_weaker}
 use Rattle.drm_gate.proofs.Stopping.{LastPart, over_by, last_part, at_last}
 use Rattle.drm_gate.proofs.Tallying.{nothing_plus, items_plus, items_all, few_sent}
@@ -31,36 +31,36 @@ use Rattle.drm_gate.proofs.PassedLemmas.{all_none, all_then, all_one, all_later,
 
 -- ---- how much was sent
 
-tally_is : (carry : Carry) (c : State) (items : List Item) (t : Tally) (x y : List Target) → (all : PassedAll carry c items nothing t x y) → t ≡ tally_of all.fates
+tally_is : (carry : Carry) (c : CollectorState) (items : List CollectorItem) (t : Tally) (x y : List Target) → (all : PassedAll carry c items nothing t x y) → t ≡ tally_of all.fates
 tally_is carry c items t x y all = all.tally ∙ nothing_plus (tally_of all.fates)
 
 -- a stretch that began anew, and sent no more packets than datagrams were taken
-only_so_many : (rules : ReceiveOptions) (carry : Carry) (c : State) (items : List Item) (t : Tally) (x y : List Target) → t.given ≤ rules.limit → PassedAll carry c items nothing t x y
+only_so_many : (rules : ReceiveOptions) (carry : Carry) (c : CollectorState) (items : List CollectorItem) (t : Tally) (x y : List Target) → t.given ≤ rules.limit → PassedAll carry c items nothing t x y
     → EachSends (most_fragments * rules.limit) x y
 only_so_many rules carry c items t x y few all =
     let given : t.given ≡ (tally_of all.fates).given = ap (λ (u : Tally). u.given) (tally_is carry c items t x y all) in
     few_sent_each (most_fragments * (tally_of all.fates).given) (most_fragments * rules.limit) x y (omega (arith, few, given)) all.only
 
-only_all : (rules : ReceiveOptions) (carry : Carry) (c : State) (items : List Item) (t : Tally) (x y : List Target) → t.given ≤ rules.limit → PassedAll carry c items nothing t x y
+only_all : (rules : ReceiveOptions) (carry : Carry) (c : CollectorState) (items : List CollectorItem) (t : Tally) (x y : List Target) → t.given ≤ rules.limit → PassedAll carry c items nothing t x y
     → EachSends (most_sends rules) x y
 only_all rules carry c items t x y few all =
     few_sent_each (most_fragments * rules.limit) (most_sends rules) x y (omega arith) (only_so_many rules carry c items t x y few all)
 
 -- all that was given was passed on
-pub record HasPassed (carry : Carry) (x y : List Target) (t : Tally) (taken : List Taken) (during more : List Item) (c : State) : Type 0 where
+pub record HasPassed (carry : Carry) (x y : List Target) (t : Tally) (taken : List Taken) (during more : List CollectorItem) (c : CollectorState) : Type 0 where
   pub all : PassedAll carry c (during ++ more) nothing t x y
   pub few : t.sent ≤ most_fragments * t.given
   pub up : SomeUp y
 
-pub none_passed : (carry : Carry) (c : State) (t : Tally) (x : List Target) → t ≡ nothing → SomeUp x → HasPassed carry x x t [] [] [] c
+pub none_passed : (carry : Carry) (c : CollectorState) (t : Tally) (x : List Target) → t ≡ nothing → SomeUp x → HasPassed carry x x t [] [] [] c
 none_passed carry c t x empty up = record {
   all = subst (λ u. PassedAll carry c [] nothing u x x) (sym empty) (all_none carry c nothing x);
   few = subst (λ (u : Tally). u.sent ≤ most_fragments * u.given) (sym empty) (omega arith);
   up = up;
 }
 
-module _ (rules : ReceiveOptions) (carry : Carry) (came : List Answer → Type 0) (x y : List Target) (r : ReadingState) (c : State) (t : Tally)
-    (i : Loop rules came (HasPassed carry x y t) r c) where
+module _ (rules : ReceiveOptions) (carry : Carry) (so_far : List Answer → Type 0) (x y : List Target) (r : ReadingState) (c : CollectorState) (t : Tally)
+    (i : Loop rules so_far (HasPassed carry x y t) r c) where
   count_is : items_in t ≡ length (i.during ++ i.more)
   count_is = ap items_in i.has.all.tally ∙ (items_plus nothing (tally_of i.has.all.fates) ∙ (let e = items_all i.has.all.fates in let m = i.has.all.many in omega (arith, e, m)))
 
@@ -81,8 +81,8 @@ module _ (rules : ReceiveOptions) (carry : Carry) (came : List Answer → Type 0
 
   -- ---- an item
 
-  pub one_passed : (used : Carry) (s : ReadingState) (d : State) (u : Tally) (z : List Target) (item : Item) → Passed used (first_of c) item t u y z → used ≡ carry
-      → IsItem c item → Reached rules i.answers i.taken i.during (i.more ++ item ∷ []) s d → KeepsFirst c d → Loop rules came (HasPassed carry x z u) s d
+  pub one_passed : (used : Carry) (s : ReadingState) (d : CollectorState) (u : Tally) (z : List Target) (item : CollectorItem) → ItemPassed used (first_of c) item t u y z → used ≡ carry
+      → IsItem c item → ReadingReached rules i.answers i.taken i.during (i.more ++ item ∷ []) s d → KeepsFirst c d → Loop rules so_far (HasPassed carry x z u) s d
   one_passed used s d u z item one same is reached keeps =
       loop_given _ _ _ _ _ i (HasPassed carry x z u) item s d reached (record {
         all = subst (λ l. PassedAll carry d l nothing u x z) (append_assoc i.during i.more (item ∷ []))
@@ -94,10 +94,10 @@ module _ (rules : ReceiveOptions) (carry : Carry) (came : List Answer → Type 0
       })
 
   -- the last link failed at an item
-  pub loop_stopped : (used : Carry) (z : List Target) (item : Item) → Broken used (first_of c) item y z → used ≡ carry → has_enough r ≡ false → ready c ≡ true → IsItem c item
-      → StopsSending rules carry came x z
+  pub loop_stopped : (used : Carry) (z : List Target) (item : CollectorItem) → LastLinkFails used (first_of c) item y z → used ≡ carry → has_enough r ≡ false → ready c ≡ true → IsItem c item
+      → StopsSending rules carry so_far x z
   loop_stopped used z item broken_used same enough now is =
-      let broken : Broken carry (first_of c) item y z = subst (λ k. Broken k (first_of c) item y z) same broken_used in
+      let broken : LastLinkFails carry (first_of c) item y z = subst (λ k. LastLinkFails k (first_of c) item y z) same broken_used in
       let s = stands rules i.answers i.taken i.during i.more r c i.reached now in
       let IsPart : List (List ℕ) → Type 0 = λ part. (first : ℕ) → MayBeFirst c first → SendsSome carry first item part in
       let none = none_weaker (SendsSome carry (first_of c) item) IsPart y z (λ part begins first may. begins_at carry c item first part i.reached.knows is may begins) broken.none in
@@ -152,19 +152,19 @@ module _ (rules : ReceiveOptions) (carry : Carry) (came : List Answer → Type 0
 
   -- ---- one answer more
 
-  pub one_on : (came' : List Answer → Type 0) (breaks : SourceFault → List Answer → Type 0) (answer : Option Taken) (s : ReadingState) (d : State) → KeepsFirst c d
-      → ReadsOn came' breaks rules i.answers i.taken (i.during ++ i.more) (Ok answer) s d → Loop rules came' (HasPassed carry x y t) s d
-  one_on came' breaks answer s d keeps reads =
-      loop_on _ _ _ _ _ i came' breaks (HasPassed carry x y t) answer s d reads (λ next. record {
+  pub one_on : (so_far' : List Answer → Type 0) (breaks : SourceFault → List Answer → Type 0) (answer : Option Taken) (s : ReadingState) (d : CollectorState) → KeepsFirst c d
+      → ReadsOn so_far' breaks rules i.answers i.taken (i.during ++ i.more) (Ok answer) s d → Loop rules so_far' (HasPassed carry x y t) s d
+  one_on so_far' breaks answer s d keeps reads =
+      loop_on _ _ _ _ _ i so_far' breaks (HasPassed carry x y t) answer s d reads (λ next. record {
         all = subst (λ l. PassedAll carry d l nothing t x y) (sym (append-nil (i.during ++ i.more))) (all_later carry c d (i.during ++ i.more) nothing t x y keeps i.has.all);
         few = i.has.few;
         up = i.has.up;
       })
 
   -- no more can be had
-  pub loop_broken : (came' : List Answer → Type 0) (breaks : SourceFault → List Answer → Type 0) (why : SourceFault) (s : ReadingState) (d : State) → KeepsFirst c d → ReadingWaits r c
-      → ReadsOn came' breaks rules i.answers i.taken (i.during ++ i.more) (Err why) s d → BreaksOff rules carry (breaks why) x y
-  loop_broken came' breaks why s d keeps waits (heard, broken, gave) = record {
+  pub loop_broken : (so_far' : List Answer → Type 0) (breaks : SourceFault → List Answer → Type 0) (why : SourceFault) (s : ReadingState) (d : CollectorState) → KeepsFirst c d → ReadingWaits r c
+      → ReadsOn so_far' breaks rules i.answers i.taken (i.during ++ i.more) (Err why) s d → BreaksOff rules carry (breaks why) x y
+  loop_broken so_far' breaks why s d keeps waits (heard, broken, gave) = record {
     answers = i.answers ++ Failed ∷ [];
     heard = heard;
     few = one_more_few rules i.answers i.taken i.during i.more r c i.reached waits Failed;
@@ -177,7 +177,7 @@ module _ (rules : ReceiveOptions) (carry : Carry) (came : List Answer → Type 0
   }
 
   -- no more is read
-  pub loop_over : has_ended r ≡ true → IsOver r c → PassesAll rules carry came x y t
+  pub loop_over : has_ended r ≡ true → IsOver r c → PassesAll rules carry so_far x y t
   loop_over ended over =
       let all = finishes rules i.answers i.taken i.during i.more r c i.reached ended over in
       let f : ℕ = first_of all.run.mid in
@@ -197,11 +197,11 @@ module _ (rules : ReceiveOptions) (carry : Carry) (came : List Answer → Type 0
 
 -- a link that can't be read is what stops a reading
 pub link_broke : (rules : ReceiveOptions) (carry : Carry) (from from' : Known Traffic) (x y : List Target) (why : SourceFault) → IsOfLink why
-    → BreaksOff rules carry (BreaksLink why from from') x y → BreaksOff rules carry (Heard from from') x y
+    → BreaksOff rules carry (BreaksLink why from from') x y → BreaksOff rules carry (LinkHeard from from') x y
 link_broke rules carry from from' x y source.Link is breaks = breaks
 link_broke rules carry from from' x y (source.Capture fault) is breaks = absurd is
 
 pub counts_over : (rules : ReceiveOptions) (carry : Carry) (hears : List Answer → Type 0) (x y : List Target) (sent : Tally) (ended : GateEnded) → PassesAll rules carry hears x y sent → CountsOver y sent ended
-    → EndsAs rules carry hears x y ended
-counts_over rules carry hears x y sent ended passes (inl (up, is)) = subst (λ (e : GateEnded). EndsAs rules carry hears x y e) (sym is) (up, sent, passes, refl)
-counts_over rules carry hears x y sent ended passes (inr (not, is)) = subst (λ (e : GateEnded). EndsAs rules carry hears x y e) (sym is) (not, sent, passes)
+    → GateEndsAs rules carry hears x y ended
+counts_over rules carry hears x y sent ended passes (inl (up, is)) = subst (λ (e : GateEnded). GateEndsAs rules carry hears x y e) (sym is) (up, sent, passes, refl)
+counts_over rules carry hears x y sent ended passes (inr (not, is)) = subst (λ (e : GateEnded). GateEndsAs rules carry hears x y e) (sym is) (not, sent, passes)

@@ -7,13 +7,13 @@ use Rattle.dcp_pft.specs.declared.carry.Carry.TheVariants.{Plain, Pft}
 use Rattle.dcp_pft.specs.Carrying.{CarriesPacket}
 use Rattle.dcp_pft.proofs.OneFragment.{one_datagram}
 use Rattle.dcp_af.proofs.Answered.{no_fault}
-use Rattle.dcp_collect.specs.Runs.{Item, Packet, Lost, Damaged}
+use Rattle.dcp_collect.specs.Runs.{CollectorItem, Packet, Lost, Damaged}
 use Rattle.law_collect.proofs.SentCuts.{packet_long}
-use Rattle.dcp_sender.specs.Carried.{AreOf}
+use Rattle.dcp_sender.specs.CarriesText.{AreOf}
 use Rattle.dcp_sender.specs.Packets.{IsAny, sequence_of}
 use Rattle.dcp_sender.specs.OverLinks.{AreSome}
-use Rattle.drm_gate.specs.Passing.{Fate, Sent, Bad, Large, Missing, IsNone, OutcomeOf, SendsSome, BecomeAll, datagrams_of, sent_of}
-use Rattle.drm_gate.specs.Run.{IsFrontOf}
+use Rattle.drm_gate.specs.Passing.{Outcome, Sent, Bad, Large, Missing, IsNone, OutcomeOf, SendsSome, OutcomesOf, datagrams_of, sent_of}
+use Rattle.drm_gate.specs.Run.{IsProperPrefix}
 
 -- ---- lists of datagrams
 
@@ -46,7 +46,7 @@ one_sending carry sequence packet xs ys any a b =
     (λ i none below. carried_same carry sequence i packet (slice_index_or xs i none) (slice_index_or ys i none) (some_bytes packet any) (a.each i none below) (b.each i none (omega (arith, below, size)))) in
     sym (no_rest xs ys rest are (omega (arith, size)))
 
-pub some_first : (carry : Carry) (sequence : ℕ) (packet : List ℕ) (xs ys : List (List ℕ)) → IsAny packet → AreSome carry sequence packet xs → AreOf carry sequence packet ys → IsFrontOf ys xs
+pub some_first : (carry : Carry) (sequence : ℕ) (packet : List ℕ) (xs ys : List (List ℕ)) → IsAny packet → AreSome carry sequence packet xs → AreOf carry sequence packet ys → IsProperPrefix ys xs
 some_first carry sequence packet xs ys any a b =
     let few : length xs < length ys = omega (arith, a.fewer, b.many) in
     let (rest, are) = front_list xs ys (omega (arith, few))
@@ -58,7 +58,7 @@ some_first carry sequence packet xs ys any a b =
 no_bad : (bytes : List ℕ) → IsAny bytes → IsNone bytes → ⊥
 no_bad bytes any none = no_fault any.0 none.0 bytes any.1 none.1
 
-sent_first : (carry : Carry) (first : ℕ) (item : Item) (xs : List (List ℕ)) (h : Fate) → OutcomeOf carry first item (Sent xs) → OutcomeOf carry first item h → xs ≡ datagrams_of h
+sent_first : (carry : Carry) (first : ℕ) (item : CollectorItem) (xs : List (List ℕ)) (h : Outcome) → OutcomeOf carry first item (Sent xs) → OutcomeOf carry first item h → xs ≡ datagrams_of h
 sent_first carry first (Packet q bytes) xs (Sent ys) a b = one_sending carry (sequence_of first q) bytes xs ys a.0 a.2 b.2
 sent_first carry first (Packet q bytes) xs Bad a b = absurd (no_bad bytes a.0 b)
 sent_first carry first (Packet q bytes) xs Large a b = absurd (true≢false (sym b.1 ∙ a.1))
@@ -66,7 +66,7 @@ sent_first carry first (Packet q bytes) xs Missing a b = absurd b
 sent_first carry first (Lost q had total) xs h a b = absurd a
 sent_first carry first (Damaged q) xs h a b = absurd a
 
-pub one_sent : (carry : Carry) (first : ℕ) (item : Item) (g h : Fate) → OutcomeOf carry first item g → OutcomeOf carry first item h → datagrams_of g ≡ datagrams_of h
+pub one_sent : (carry : Carry) (first : ℕ) (item : CollectorItem) (g h : Outcome) → OutcomeOf carry first item g → OutcomeOf carry first item h → datagrams_of g ≡ datagrams_of h
 one_sent carry first item (Sent xs) h a b = sent_first carry first item xs h a b
 one_sent carry first item Bad (Sent ys) a b = sym (sent_first carry first item ys Bad b a)
 one_sent carry first item Large (Sent ys) a b = sym (sent_first carry first item ys Large b a)
@@ -81,7 +81,7 @@ one_sent carry first item Missing Bad a b = refl
 one_sent carry first item Missing Large a b = refl
 one_sent carry first item Missing Missing a b = refl
 
-pub begins_front : (carry : Carry) (first : ℕ) (item : Item) (datagrams : List (List ℕ)) (g : Fate) → SendsSome carry first item datagrams → OutcomeOf carry first item g → IsFrontOf (datagrams_of g) datagrams
+pub begins_front : (carry : Carry) (first : ℕ) (item : CollectorItem) (datagrams : List (List ℕ)) (g : Outcome) → SendsSome carry first item datagrams → OutcomeOf carry first item g → IsProperPrefix (datagrams_of g) datagrams
 begins_front carry first (Packet q bytes) datagrams (Sent ys) a b = some_first carry (sequence_of first q) bytes datagrams ys a.0 a.2 b.2
 begins_front carry first (Packet q bytes) datagrams Bad a b = absurd (no_bad bytes a.0 b)
 begins_front carry first (Packet q bytes) datagrams Large a b = absurd (true≢false (sym b.1 ∙ a.1))
@@ -91,7 +91,7 @@ begins_front carry first (Damaged q) datagrams g a b = absurd a
 
 -- ---- several
 
-pub all_sent : (carry : Carry) (first : ℕ) (items : List Item) (fs gs : List Fate) → BecomeAll carry first items fs → BecomeAll carry first items gs → sent_of fs ≡ sent_of gs
+pub all_sent : (carry : Carry) (first : ℕ) (items : List CollectorItem) (fs gs : List Outcome) → OutcomesOf carry first items fs → OutcomesOf carry first items gs → sent_of fs ≡ sent_of gs
 all_sent carry first [] [] [] a b = refl
 all_sent carry first [] [] (g ∷ gs) a b = absurd b
 all_sent carry first [] (f ∷ fs) gs a b = absurd a
@@ -99,8 +99,8 @@ all_sent carry first (item ∷ items) [] gs a b = absurd a
 all_sent carry first (item ∷ items) (f ∷ fs) [] a b = absurd b
 all_sent carry first (item ∷ items) (f ∷ fs) (g ∷ gs) a b = ap₂ (λ x y. x ++ y) (one_sent carry first item f g a.0 b.0) (all_sent carry first items fs gs a.1 b.1)
 
-pub split : (carry : Carry) (first : ℕ) (items more : List Item) (fates : List Fate) → BecomeAll carry first (items ++ more) fates
-    → (fs : List Fate) × (gs : List Fate) × (fates ≡ fs ++ gs) × BecomeAll carry first items fs × BecomeAll carry first more gs
+pub split : (carry : Carry) (first : ℕ) (items more : List CollectorItem) (fates : List Outcome) → OutcomesOf carry first (items ++ more) fates
+    → (fs : List Outcome) × (gs : List Outcome) × (fates ≡ fs ++ gs) × OutcomesOf carry first items fs × OutcomesOf carry first more gs
 split carry first [] more fates all = ([], fates, refl, tt, all)
 split carry first (item ∷ items) more [] all = absurd all
 split carry first (item ∷ items) more (fate ∷ fates) all =

@@ -2,26 +2,26 @@
 use Rattle.std.proofs.Common.{◌≡◌, None, ℕ, ◌*◌, ◌<◌, ◌≤◌, Bool, true, false, List, [], ◌++◌, length, sym, ◌∙◌, refl, subst, ap, arith, slice_index_or}
 use Rattle.dcp_pft.specs.declared.carry.Carry.{Carry}
 use Rattle.dcp_pft.specs.Limits.{most_fragments}
-use Rattle.dcp_collect.specs.Runs.{Item, Packet}
-use Rattle.link_group.specs.Took.{TookBy}
+use Rattle.dcp_collect.specs.Runs.{CollectorItem, Packet}
+use Rattle.link_group.specs.MemberTook.{TookBy}
 use Rattle.link_group.proofs.TookLemmas.{took_more, took_part, still_some}
-use Rattle.dcp_sender.specs.Carried.{AreOf}
+use Rattle.dcp_sender.specs.CarriesText.{AreOf}
 use Rattle.dcp_sender.specs.Packets.{IsAny, sequence_of}
 use Rattle.drm_gate.specs.declared.tally.Tally.{Tally}
 use Rattle.dcp_sender.specs.OverLinks.{is_large, AreSome, SentBy, SentOver, SentTo}
-use Rattle.drm_gate.specs.Passing.{Fate, Sent, OutcomeOf, SendsSome, datagrams_of}
+use Rattle.drm_gate.specs.Passing.{Outcome, Sent, OutcomeOf, SendsSome, datagrams_of}
 use Rattle.dcp_sender.specs.Resting.{MakesSends}
 use Rattle.dcp_sender.specs.Targets.{Target}
-use Rattle.drm_gate.specs.Targets.{Each, TakesMore, TakesNoMore, EachTakes, EachSends, SomeUp}
+use Rattle.drm_gate.specs.Targets.{EachLink, TakesMore, TakesNoMore, EachTakes, EachSends, SomeUp}
 use Rattle.drm_gate.specs.Tallies.{plus, tally_one}
-use Rattle.drm_gate.specs.Steps.{Passed, Broken}
+use Rattle.drm_gate.specs.Steps.{ItemPassed, LastLinkFails}
 use Rattle.drm_gate.proofs.Fates.{one_sending, some_first}
 use Rattle.dcp_sender.proofs.RestingLemmas.{no_sends, few_sends}
 use Rattle.drm_gate.proofs.TargetLemmas.{takes_nothing, none_sent, few_sent_each}
 
 -- an item of which nothing is sent
-pub unsent : (carry : Carry) (first : ℕ) (item : Item) (fate : Fate) (t t' : Tally) (to : List Target) → SomeUp to
-    → OutcomeOf carry first item fate → datagrams_of fate ≡ [] → t' ≡ plus t (tally_one fate) → Passed carry first item t t' to to
+pub unsent : (carry : Carry) (first : ℕ) (item : CollectorItem) (fate : Outcome) (t t' : Tally) (to : List Target) → SomeUp to
+    → OutcomeOf carry first item fate → datagrams_of fate ≡ [] → t' ≡ plus t (tally_one fate) → ItemPassed carry first item t t' to to
 unsent carry first item fate t t' to up becomes none tally = record {
   fate = fate;
   becomes = becomes;
@@ -59,7 +59,7 @@ module _ (carry : Carry) (seq n : ℕ) (bytes : List ℕ) (any : IsAny bytes) wh
   sends_by true b a s = s.1
   sends_by false b a s = subst (λ (t : Target). MakesSends most_fragments b.known t.known) (sym s) (few_sends 0 most_fragments b.known b.known (omega arith) (no_sends b.known))
 
-  each_sends : (x y : List Target) → length y ≡ length x → Each (SentTo carry seq bytes n) x y → EachSends most_fragments x y
+  each_sends : (x y : List Target) → length y ≡ length x → EachLink (SentTo carry seq bytes n) x y → EachSends most_fragments x y
   each_sends x y many each = record {
     as_many = many;
     each = λ k none within. sends_by (slice_index_or x k none).up (slice_index_or x k none) (slice_index_or y k none) (each k none within);
@@ -85,11 +85,11 @@ module _ (carry : Carry) (seq n : ℕ) (bytes : List ℕ) (any : IsAny bytes) wh
 
 -- a packet that is sent
 pub sent_whole : (carry : Carry) (first index seq n : ℕ) (bytes : List ℕ) (t t' : Tally) (to to' : List Target)
-    → IsAny bytes → is_large carry (length bytes) ≡ false → seq ≡ sequence_of first index → length to' ≡ length to → Each (SentTo carry seq bytes n) to to' → SomeUp to' → n ≤ most_fragments
+    → IsAny bytes → is_large carry (length bytes) ≡ false → seq ≡ sequence_of first index → length to' ≡ length to → EachLink (SentTo carry seq bytes n) to to' → SomeUp to' → n ≤ most_fragments
     → ((datagrams : List (List ℕ)) → length datagrams ≡ n → t' ≡ plus t (tally_one (Sent datagrams)))
-    → Passed carry first (Packet index bytes) t t' to to'
+    → ItemPassed carry first (Packet index bytes) t t' to to'
 sent_whole carry first index seq n bytes t t' to to' any small is many each up few tally =
-    let none : Target = record { up = true; known = record { faults = 0; told = None } } in
+    let none : Target = record { up = true; known = record { faults = 0; contents = None } } in
     let k = up.k in
     let here : k < length to = (let within = up.within in omega (arith, within, many)) in
     let (datagrams, are, size) = whole_by carry seq n bytes any (slice_index_or to k none).up (slice_index_or to k none) (slice_index_or to' k none) refl (up.up none) (each k none here) in
@@ -105,8 +105,8 @@ sent_whole carry first index seq n bytes t t' to to' any small is many each up f
 
 -- one at which the last link failed
 pub sent_part : (carry : Carry) (first index seq n : ℕ) (bytes : List ℕ) (to to' : List Target)
-    → IsAny bytes → is_large carry (length bytes) ≡ false → seq ≡ sequence_of first index → length to' ≡ length to → Each (SentTo carry seq bytes n) to to' → SomeUp to → Each (λ b a. a.up ≡ false) to to'
-    → Broken carry first (Packet index bytes) to to'
+    → IsAny bytes → is_large carry (length bytes) ≡ false → seq ≡ sequence_of first index → length to' ≡ length to → EachLink (SentTo carry seq bytes n) to to' → SomeUp to → EachLink (λ b a. a.up ≡ false) to to'
+    → LastLinkFails carry first (Packet index bytes) to to'
 sent_part carry first index seq n bytes to to' any small is many each up down = record {
   none = record {
     as_many = many;

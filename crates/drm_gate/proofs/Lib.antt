@@ -1,7 +1,7 @@
 pub mod PassedLemmas
 pub mod Ending
 pub mod Fates
-pub mod Fronts
+pub mod Prefixes
 pub mod ItemLemmas
 pub mod Stopping
 pub mod Tallying

@@ -4,36 +4,36 @@ use Rattle.std.proofs.lemmas.List.{append-nil}
 use Rattle.std.proofs.lemmas.List.Concat.{flat_map-append}
 use Rattle.dcp_pft.specs.declared.carry.Carry.{Carry}
 use Rattle.dcp_pft.specs.Limits.{most_fragments}
-use Rattle.recv_reading.proofs.Common.{State, Item, Packet, Lost, Damaged, IsItem, MayBeFirst, KnowsFirst, KeepsFirst}
+use Rattle.recv_reading.proofs.Common.{CollectorState, CollectorItem, Packet, Lost, Damaged, IsItem, MayBeFirst, KnowsFirst, KeepsFirst}
 use Rattle.recv_reading.proofs.First.{packet_first}
-use Rattle.recv_reading.specs.Reached.{packets_in}
+use Rattle.recv_reading.specs.ReadingReached.{packets_in}
 use Rattle.drm_gate.specs.declared.tally.Tally.{Tally}
-use Rattle.drm_gate.specs.Passing.{Fate, Sent, Bad, Large, Missing, OutcomeOf, SendsSome, BecomeAll, datagrams_of, sent_of}
+use Rattle.drm_gate.specs.Passing.{Outcome, Sent, Bad, Large, Missing, OutcomeOf, SendsSome, OutcomesOf, datagrams_of, sent_of}
 use Rattle.dcp_sender.specs.Targets.{Target}
 use Rattle.drm_gate.specs.Targets.{EachTakes}
 use Rattle.drm_gate.specs.Tallies.{plus, tally_one, tally_of}
-use Rattle.drm_gate.specs.Steps.{Passed}
+use Rattle.drm_gate.specs.Steps.{ItemPassed}
 use Rattle.drm_gate.specs.Passed.{PassedAll}
 use Rattle.drm_gate.proofs.TargetLemmas.{takes_nothing, then_takes, none_sent, more_sent, few_sent_each}
 use Rattle.drm_gate.proofs.Tallying.{plus_nothing, plus_assoc, tally_join}
 
 -- ---- fates
 
-pub become_join : (carry : Carry) (first : ℕ) (items more : List Item) (fates others : List Fate) → BecomeAll carry first items fates → BecomeAll carry first more others → BecomeAll carry first (items ++ more) (fates ++ others)
+pub become_join : (carry : Carry) (first : ℕ) (items more : List CollectorItem) (fates others : List Outcome) → OutcomesOf carry first items fates → OutcomesOf carry first more others → OutcomesOf carry first (items ++ more) (fates ++ others)
 become_join carry first [] more [] others a b = b
 become_join carry first [] more (fate ∷ fates) others a b = absurd a
 become_join carry first (item ∷ items) more [] others a b = absurd a
 become_join carry first (item ∷ items) more (fate ∷ fates) others a b = (a.0, become_join carry first items more fates others a.1 b)
 
-pub sent_join : (xs ys : List Fate) → sent_of (xs ++ ys) ≡ sent_of xs ++ sent_of ys
+pub sent_join : (xs ys : List Outcome) → sent_of (xs ++ ys) ≡ sent_of xs ++ sent_of ys
 sent_join xs ys = flat_map-append datagrams_of xs ys
 
 -- nothing was passed on yet
-pub all_none : (carry : Carry) (c : State) (t : Tally) (to : List Target) → PassedAll carry c [] t t to to
+pub all_none : (carry : Carry) (c : CollectorState) (t : Tally) (to : List Target) → PassedAll carry c [] t t to to
 all_none carry c t to = record { fates = []; many = refl; become = λ first may. tt; tally = sym (plus_nothing t); sent = takes_nothing to; only = none_sent to }
 
 -- two stretches; what may be the first number of the later state may be that of the earlier one
-pub all_then : (carry : Carry) (c d : State) (items more : List Item) (t u v : Tally) (x y z : List Target) → ((first : ℕ) → MayBeFirst d first → MayBeFirst c first)
+pub all_then : (carry : Carry) (c d : CollectorState) (items more : List CollectorItem) (t u v : Tally) (x y z : List Target) → ((first : ℕ) → MayBeFirst d first → MayBeFirst c first)
     → PassedAll carry c items t u x y → PassedAll carry d more u v y z → PassedAll carry d (items ++ more) t v x z
 all_then carry c d items more t u v x y z may first second =
     let P : List (List ℕ) → Type 0 = λ l. EachTakes l x z in
@@ -55,19 +55,19 @@ all_then carry c d items more t u v x y z may first second =
 
 -- ---- the first number
 
-lost_at : (carry : Carry) (m n q had total : ℕ) (fate : Fate) → OutcomeOf carry m (Lost q had total) fate → OutcomeOf carry n (Lost q had total) fate
+lost_at : (carry : Carry) (m n q had total : ℕ) (fate : Outcome) → OutcomeOf carry m (Lost q had total) fate → OutcomeOf carry n (Lost q had total) fate
 lost_at carry m n q had total (Sent datagrams) is = absurd is
 lost_at carry m n q had total Bad is = absurd is
 lost_at carry m n q had total Large is = absurd is
 lost_at carry m n q had total Missing is = tt
 
-damaged_at : (carry : Carry) (m n q : ℕ) (fate : Fate) → OutcomeOf carry m (Damaged q) fate → OutcomeOf carry n (Damaged q) fate
+damaged_at : (carry : Carry) (m n q : ℕ) (fate : Outcome) → OutcomeOf carry m (Damaged q) fate → OutcomeOf carry n (Damaged q) fate
 damaged_at carry m n q (Sent datagrams) is = absurd is
 damaged_at carry m n q Bad is = tt
 damaged_at carry m n q Large is = absurd is
 damaged_at carry m n q Missing is = absurd is
 
-becomes_at : (carry : Carry) (d : State) (item : Item) (fate : Fate) (first : ℕ) → KnowsFirst d → IsItem d item → MayBeFirst d first → OutcomeOf carry (unwrap_or d.first 0) item fate → OutcomeOf carry first item fate
+becomes_at : (carry : Carry) (d : CollectorState) (item : CollectorItem) (fate : Outcome) (first : ℕ) → KnowsFirst d → IsItem d item → MayBeFirst d first → OutcomeOf carry (unwrap_or d.first 0) item fate → OutcomeOf carry first item fate
 becomes_at carry d (Packet q bytes) fate first knows is may becomes =
     let at : unwrap_or d.first 0 ≡ first = packet_first d q bytes first knows is may in
     subst (λ (n : ℕ). OutcomeOf carry n (Packet q bytes) fate) at becomes
@@ -75,7 +75,7 @@ becomes_at carry d (Lost q had total) fate first knows is may becomes = lost_at 
 becomes_at carry d (Damaged q) fate first knows is may becomes = damaged_at carry (unwrap_or d.first 0) first q fate becomes
 
 -- one item
-pub all_one : (carry : Carry) (d : State) (item : Item) (t u : Tally) (x y : List Target) → KnowsFirst d → IsItem d item → Passed carry (unwrap_or d.first 0) item t u x y → PassedAll carry d (item ∷ []) t u x y
+pub all_one : (carry : Carry) (d : CollectorState) (item : CollectorItem) (t u : Tally) (x y : List Target) → KnowsFirst d → IsItem d item → ItemPassed carry (unwrap_or d.first 0) item t u x y → PassedAll carry d (item ∷ []) t u x y
 all_one carry d item t u x y knows is one =
     let P : List (List ℕ) → Type 0 = λ l. EachTakes l x y in
     record {
@@ -87,7 +87,7 @@ all_one carry d item t u x y knows is one =
       only = few_sent_each (most_fragments * (tally_one one.fate).given) (most_fragments * (tally_of (one.fate ∷ [])).given) x y (omega arith) one.only;
     }
 
-pub begins_at : (carry : Carry) (d : State) (item : Item) (first : ℕ) (datagrams : List (List ℕ)) → KnowsFirst d → IsItem d item → MayBeFirst d first → SendsSome carry (unwrap_or d.first 0) item datagrams → SendsSome carry first item datagrams
+pub begins_at : (carry : Carry) (d : CollectorState) (item : CollectorItem) (first : ℕ) (datagrams : List (List ℕ)) → KnowsFirst d → IsItem d item → MayBeFirst d first → SendsSome carry (unwrap_or d.first 0) item datagrams → SendsSome carry first item datagrams
 begins_at carry d (Packet q bytes) first datagrams knows is may begins =
     let at : unwrap_or d.first 0 ≡ first = packet_first d q bytes first knows is may in
     subst (λ (n : ℕ). SendsSome carry n (Packet q bytes) datagrams) at begins
@@ -97,7 +97,7 @@ begins_at carry d (Damaged q) first datagrams knows is may begins = absurd begin
 -- ---- at another state
 
 -- what may be the first number of the later state may be that of the earlier one
-pub all_later : (carry : Carry) (c d : State) (items : List Item) (t u : Tally) (x y : List Target) → KeepsFirst c d → PassedAll carry c items t u x y → PassedAll carry d items t u x y
+pub all_later : (carry : Carry) (c d : CollectorState) (items : List CollectorItem) (t u : Tally) (x y : List Target) → KeepsFirst c d → PassedAll carry c items t u x y → PassedAll carry d items t u x y
 all_later carry c d items t u x y keeps all = record {
   fates = all.fates;
   many = all.many;
@@ -109,7 +109,7 @@ all_later carry c d items t u x y keeps all = record {
 
 -- ---- how many packets are sent
 
-sent_one : (carry : Carry) (first : ℕ) (item : Item) (fate : Fate) → OutcomeOf carry first item fate → (tally_one fate).given + packets_in [] ≤ packets_in (item ∷ [])
+sent_one : (carry : Carry) (first : ℕ) (item : CollectorItem) (fate : Outcome) → OutcomeOf carry first item fate → (tally_one fate).given + packets_in [] ≤ packets_in (item ∷ [])
 sent_one carry first (Packet q bytes) (Sent datagrams) becomes = omega arith
 sent_one carry first (Packet q bytes) Bad becomes = omega arith
 sent_one carry first (Packet q bytes) Large becomes = omega arith
@@ -123,13 +123,13 @@ sent_one carry first (Damaged q) Bad becomes = omega arith
 sent_one carry first (Damaged q) Large becomes = absurd becomes
 sent_one carry first (Damaged q) Missing becomes = absurd becomes
 
-packets_one : (item : Item) (items : List Item) → packets_in (item ∷ items) ≡ packets_in (item ∷ []) + packets_in items
+packets_one : (item : CollectorItem) (items : List CollectorItem) → packets_in (item ∷ items) ≡ packets_in (item ∷ []) + packets_in items
 packets_one (Packet q bytes) items = omega arith
 packets_one (Lost q had total) items = omega arith
 packets_one (Damaged q) items = omega arith
 
 -- none but packets
-pub sent_packets : (carry : Carry) (first : ℕ) (items : List Item) (fates : List Fate) → BecomeAll carry first items fates → (tally_of fates).given ≤ packets_in items
+pub sent_packets : (carry : Carry) (first : ℕ) (items : List CollectorItem) (fates : List Outcome) → OutcomesOf carry first items fates → (tally_of fates).given ≤ packets_in items
 sent_packets carry first [] [] all = omega arith
 sent_packets carry first [] (fate ∷ fates) all = absurd all
 sent_packets carry first (item ∷ items) [] all = absurd all

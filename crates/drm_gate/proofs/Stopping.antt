@@ -1,30 +1,30 @@
 -- What went over one of a gateway's links where no link is left.
 use Rattle.std.proofs.Common.{◌≡◌, ℕ, ◌≤◌, Bool, true, false, List, [], ◌++◌, length, sym, subst, ap, ◌∙◌, arith, append_assoc, length-append}
-use Rattle.recv_reading.proofs.Common.{Answer, GoesOn}
+use Rattle.recv_reading.proofs.Common.{Answer, ReadingGoesOn}
 use Rattle.recv_reading.specs.declared.options.ReceiveOptions.{ReceiveOptions}
-use Rattle.drm_links.specs.Told.{HasFailed}
+use Rattle.drm_links.specs.Known.{HasFailed}
 use Rattle.drm_links.specs.Transmission.{LinkTransmits, SendsNoMore}
-use Rattle.drm_links.proofs.ToldLemmas.{once_then}
-use Rattle.link_group.specs.Took.{TookBy}
+use Rattle.drm_links.proofs.KnownLemmas.{once_then}
+use Rattle.link_group.specs.MemberTook.{TookBy}
 use Rattle.link_group.proofs.TookLemmas.{took_none}
 use Rattle.dcp_pft.specs.declared.carry.Carry.{Carry}
 use Rattle.dcp_sender.specs.Targets.{Target}
 use Rattle.drm_gate.specs.Targets.{TakesMore, TakesNoMore}
-use Rattle.drm_gate.specs.Run.{StopsAt, IsFrontOfOnward, StopsOver, StopsLast}
+use Rattle.drm_gate.specs.Run.{StopsAt, IsPrefixOfOnward, StopsOver, StopsLast}
 use Rattle.dcp_sender.proofs.OverLinks.{then_no_more}
-use Rattle.drm_gate.proofs.Fronts.{front_follows}
+use Rattle.drm_gate.proofs.Prefixes.{front_follows}
 
 -- it was up from the start
 pub took_from : (datagrams : List (List ℕ)) (b m : Target) → b.up ≡ true → TakesMore datagrams b m → TookBy m.up datagrams b.known m.known
 took_from datagrams b m was more = more [] b.known (subst (λ (u : Bool). TookBy u [] b.known b.known) (sym was) (took_none b.known))
 
 module _ (rules : ReceiveOptions) (carry : Carry) (answers : List Answer) (sent : List (List ℕ)) (IsPart : List (List ℕ) → Type 0)
-    (at : (part : List (List ℕ)) → IsPart part → StopsAt rules carry answers (sent ++ part)) (goes_on : GoesOn rules answers) where
-  front_at : (part : List (List ℕ)) → IsPart part → IsFrontOfOnward rules carry answers (sent ++ part)
+    (at : (part : List (List ℕ)) → IsPart part → StopsAt rules carry answers (sent ++ part)) (goes_on : ReadingGoesOn rules answers) where
+  front_at : (part : List (List ℕ)) → IsPart part → IsPrefixOfOnward rules carry answers (sent ++ part)
   front_at part holds = front_follows rules carry answers (sent ++ part) (at part holds) goes_on
 
   -- what goes less far than these is a front, too
-  front_before : (front rest part : List (List ℕ)) → sent ≡ front ++ rest → 1 ≤ length rest → IsPart part → IsFrontOfOnward rules carry answers front
+  front_before : (front rest part : List (List ℕ)) → sent ≡ front ++ rest → 1 ≤ length rest → IsPart part → IsPrefixOfOnward rules carry answers front
   front_before front rest part are some holds more ending fates other onward =
       let (others, any, whole) = front_at part holds more ending fates other onward in (
         rest ++ (part ++ others),

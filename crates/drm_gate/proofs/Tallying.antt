@@ -2,7 +2,7 @@
 use Rattle.std.proofs.Common.{◌≡◌, ℕ, ◌+◌, ◌*◌, ◌≤◌, List, [], ◌∷◌, ◌++◌, length, sym, ap, ◌∙◌, refl, arith}
 use Rattle.dcp_pft.specs.Limits.{most_fragments}
 use Rattle.drm_gate.specs.declared.tally.Tally.{Tally}
-use Rattle.drm_gate.specs.Passing.{Fate, Sent, Bad, Large, Missing, datagrams_of}
+use Rattle.drm_gate.specs.Passing.{Outcome, Sent, Bad, Large, Missing, datagrams_of}
 use Rattle.drm_gate.specs.Tallies.{nothing, plus, tally_one, tally_of, items_in}
 
 abbrev tally_from : ℕ → ℕ → ℕ → ℕ → ℕ → Tally
@@ -20,13 +20,13 @@ nothing_plus t = same _ _ _ _ _ _ _ _ _ _ (omega arith) (omega arith) (omega ari
 pub plus_assoc : (t u v : Tally) → plus (plus t u) v ≡ plus t (plus u v)
 plus_assoc t u v = same _ _ _ _ _ _ _ _ _ _ (omega arith) (omega arith) (omega arith) (omega arith) (omega arith)
 
-pub tally_join : (xs ys : List Fate) → tally_of (xs ++ ys) ≡ plus (tally_of xs) (tally_of ys)
+pub tally_join : (xs ys : List Outcome) → tally_of (xs ++ ys) ≡ plus (tally_of xs) (tally_of ys)
 tally_join [] ys = sym (nothing_plus (tally_of ys))
 tally_join (x ∷ xs) ys = ap (plus (tally_one x)) (tally_join xs ys) ∙ sym (plus_assoc (tally_one x) (tally_of xs) (tally_of ys))
 
 -- ---- one item more
 
-one_item : (fate : Fate) → items_in (tally_one fate) ≡ 1
+one_item : (fate : Outcome) → items_in (tally_one fate) ≡ 1
 one_item (Sent datagrams) = omega arith
 one_item Bad = omega arith
 one_item Large = omega arith
@@ -35,17 +35,17 @@ one_item Missing = omega arith
 pub items_plus : (t u : Tally) → items_in (plus t u) ≡ items_in t + items_in u
 items_plus t u = omega arith
 
-pub items_all : (fates : List Fate) → items_in (tally_of fates) ≡ length fates
+pub items_all : (fates : List Outcome) → items_in (tally_of fates) ≡ length fates
 items_all [] = refl
 items_all (fate ∷ fates) = let one = one_item fate in let more = items_all fates in let sum = items_plus (tally_one fate) (tally_of fates) in omega (arith, one, more, sum)
 
-few_one : (fate : Fate) → length (datagrams_of fate) ≤ most_fragments → (tally_one fate).sent ≤ most_fragments * (tally_one fate).given
+few_one : (fate : Outcome) → length (datagrams_of fate) ≤ most_fragments → (tally_one fate).sent ≤ most_fragments * (tally_one fate).given
 few_one (Sent datagrams) few = omega (arith, few)
 few_one Bad few = omega arith
 few_one Large few = omega arith
 few_one Missing few = omega arith
 
-pub few_sent : (t u : Tally) (fate : Fate) → u ≡ plus t (tally_one fate) → length (datagrams_of fate) ≤ most_fragments
+pub few_sent : (t u : Tally) (fate : Outcome) → u ≡ plus t (tally_one fate) → length (datagrams_of fate) ≤ most_fragments
     → t.sent ≤ most_fragments * t.given → u.sent ≤ most_fragments * u.given
 few_sent t u fate is few before =
     let sent : u.sent ≡ t.sent + (tally_one fate).sent = ap (λ (v : Tally). v.sent) is in

@@ -1,13 +1,13 @@
 -- What goes over several links, one stretch after another.
 use Rattle.std.proofs.Common.{◌≡◌, ◌+◌, ◌<◌, ◌≤◌, ℕ, zero, suc, Bool, true, false, List, [], ◌∷◌, ◌++◌, length, refl, sym, subst, ap, ◌∙◌, arith, append_assoc, slice_index_or}
 use Rattle.std.proofs.lemmas.List.{append-nil}
-use Rattle.drm_links.specs.Told.{Known}
+use Rattle.drm_links.specs.Known.{Known}
 use Rattle.drm_links.specs.Link.{Traffic}
 use Rattle.link_group.specs.declared.member.Member.{Member}
-use Rattle.link_group.specs.Took.{TookBy}
+use Rattle.link_group.specs.MemberTook.{TookBy}
 use Rattle.link_group.specs.Reaching.{AreUp, AreDown}
 use Rattle.dcp_sender.specs.Targets.{Target, target, targets}
-use Rattle.drm_gate.specs.Targets.{Each, TakesNoMore, EachTakes, EachSends, NoneTakes, AllUp, SomeUp}
+use Rattle.drm_gate.specs.Targets.{EachLink, TakesNoMore, EachTakes, EachSends, NoneTakes, AllUp, SomeUp}
 use Rattle.dcp_sender.proofs.RestingLemmas.{no_sends, more_sends, few_sends}
 
 -- ---- stretches
@@ -99,7 +99,7 @@ module _ {K : Type 0} (known : K → Known Traffic) where
 
   -- what holds of each link
   pub each_of : (P : Target → Target → Type 0) (olds news : List (Member K)) → length news ≡ length olds
-      → ((k : ℕ) (d : Member K) → k < length olds → P (target known (slice_index_or olds k d)) (target known (slice_index_or news k d))) → Each P (targets known olds) (targets known news)
+      → ((k : ℕ) (d : Member K) → k < length olds → P (target known (slice_index_or olds k d)) (target known (slice_index_or news k d))) → EachLink P (targets known olds) (targets known news)
   each_of P [] news many each k none within = absurd (omega (arith, within))
   each_of P (link ∷ links) news many each k none within =
       let size : length (targets known (link ∷ links)) ≡ length (link ∷ links) = as_many_targets (link ∷ links) in
@@ -111,7 +111,7 @@ module _ {K : Type 0} (known : K → Known Traffic) where
   same_many olds news many = as_many_targets news ∙ (many ∙ sym (as_many_targets olds))
 
   -- where each has failed
-  pub all_down : (olds news : List (Member K)) → length news ≡ length olds → AreDown news → Each (λ b a. a.up ≡ false) (targets known olds) (targets known news)
+  pub all_down : (olds news : List (Member K)) → length news ≡ length olds → AreDown news → EachLink (λ b a. a.up ≡ false) (targets known olds) (targets known news)
   all_down olds news many down = each_of (λ b a. a.up ≡ false) olds news many (λ k d within. down k d (omega (arith, within, many)))
 
   -- where there is a link, and none has failed

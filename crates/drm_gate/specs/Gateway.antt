@@ -1,27 +1,27 @@
 -- A gateway as data, and by what it reads.
 use Rattle.std.specs.Prelude.{◌≡◌, ◌<◌, ◌≤◌, IfSome}
 use Rattle.dcp_pft.specs.declared.carry.Carry.{Carry}
-use Rattle.dcp_collect.specs.State.{State, made}
+use Rattle.dcp_collect.specs.CollectorState.{CollectorState, made}
 use Rattle.recv_reading.specs.declared.options.ReceiveOptions.{ReceiveOptions}
 use Rattle.drm_gate.specs.declared.gate.GateOptions.{GateOptions}
 
 -- its collector, and the carry under which it sends
 pub record Gateway : Type 0 where
-  pub collector : State
+  pub collector : CollectorState
   pub carry : Carry
 
 -- nothing was taken yet
-pub record IsNew (gate : Gateway) : Type 0 where
+pub record IsNewGateway (gate : Gateway) : Type 0 where
   pub some : 1 ≤ gate.collector.window
   pub few : gate.collector.window ≤ 64
   pub is : gate.collector ≡ made gate.collector.window gate.collector.reach gate.collector.first
 
 -- what a call reads by: from its new collector and its options
-abbrev pub rules_of : State → GateOptions → ReceiveOptions
+abbrev pub rules_of : CollectorState → GateOptions → ReceiveOptions
 rules_of c options = record { window = c.window; reach = c.reach; first = c.first; frames = options.frames; idle = options.idle; limit = options.limit }
 
 -- each number of the options is in its range
-pub record IsReasonable (options : GateOptions) : Type 0 where
+pub record AreGateOptionsInRange (options : GateOptions) : Type 0 where
   pub idle : 0 < options.idle
   pub limit : 0 < options.limit
   pub some_frames : IfSome options.frames (λ n. 0 < n)

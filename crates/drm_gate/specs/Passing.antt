@@ -4,24 +4,24 @@ use Rattle.std.specs.List.{flat_map}
 use Rattle.dcp_pft.specs.declared.carry.Carry.{Carry}
 use Rattle.dcp_af.specs.declared.fault.AfFault.{AfFault}
 use Rattle.dcp_af.specs.Faults.{IsFault}
-use Rattle.dcp_collect.specs.Runs.{Item, Packet, Lost, Damaged}
-use Rattle.dcp_sender.specs.Carried.{AreOf}
+use Rattle.dcp_collect.specs.Runs.{CollectorItem, Packet, Lost, Damaged}
+use Rattle.dcp_sender.specs.CarriesText.{AreOf}
 use Rattle.dcp_sender.specs.Packets.{IsAny, sequence_of}
 use Rattle.dcp_sender.specs.OverLinks.{is_large, AreSome}
 
 -- It is sent, as these datagrams, or it is none that can be sent: bad, or above the limit of the carry, or missing.
-pub data Fate : Type 0 where
-  Sent : (datagrams : List (List ℕ)) → Fate
-  Bad : Fate
-  Large : Fate
-  Missing : Fate
+pub data Outcome : Type 0 where
+  Sent : (datagrams : List (List ℕ)) → Outcome
+  Bad : Outcome
+  Large : Outcome
+  Missing : Outcome
 
 -- the bytes are no AF packet
 abbrev pub IsNone : List ℕ → Type 0
 IsNone bytes = (fault : AfFault) × IsFault fault bytes
 
 -- An AF packet within the limit of the carry is sent under it.
-abbrev pub OutcomeOf : Carry → ℕ → Item → Fate → Type 0
+abbrev pub OutcomeOf : Carry → ℕ → CollectorItem → Outcome → Type 0
 OutcomeOf carry first (Packet index bytes) (Sent datagrams) =
     IsAny bytes × (is_large carry (length bytes) ≡ false) × AreOf carry (sequence_of first index) bytes datagrams
 OutcomeOf carry first (Packet index bytes) Large = IsAny bytes × (is_large carry (length bytes) ≡ true)
@@ -33,23 +33,23 @@ OutcomeOf carry first (Damaged index) Bad = Unit {0}
 OutcomeOf carry first (Damaged index) other = ⊥
 
 -- some of the datagrams that it becomes, and not all
-abbrev pub SendsSome : Carry → ℕ → Item → List (List ℕ) → Type 0
+abbrev pub SendsSome : Carry → ℕ → CollectorItem → List (List ℕ) → Type 0
 SendsSome carry first (Packet index bytes) datagrams =
     IsAny bytes × (is_large carry (length bytes) ≡ false) × AreSome carry (sequence_of first index) bytes datagrams
 SendsSome carry first other datagrams = ⊥
 
 -- each item has its fate
-abbrev pub BecomeAll : Carry → ℕ → List Item → List Fate → Type 0
-BecomeAll carry first [] [] = Unit {0}
-BecomeAll carry first (item ∷ items) (fate ∷ fates) = OutcomeOf carry first item fate × BecomeAll carry first items fates
-BecomeAll carry first items fates = ⊥
+abbrev pub OutcomesOf : Carry → ℕ → List CollectorItem → List Outcome → Type 0
+OutcomesOf carry first [] [] = Unit {0}
+OutcomesOf carry first (item ∷ items) (fate ∷ fates) = OutcomeOf carry first item fate × OutcomesOf carry first items fates
+OutcomesOf carry first items fates = ⊥
 
 -- the datagrams that are sent
-abbrev pub datagrams_of : Fate → List (List ℕ)
+abbrev pub datagrams_of : Outcome → List (List ℕ)
 datagrams_of (Sent datagrams) = datagrams
 datagrams_of Bad = []
 datagrams_of Large = []
 datagrams_of Missing = []
 
-abbrev pub sent_of : List Fate → List (List ℕ)
+abbrev pub sent_of : List Outcome → List (List ℕ)
 sent_of fates = flat_map datagrams_of fates

@@ -3,16 +3,16 @@
 ghost use Rattle.std.specs.Prelude.{◌≡◌, ◌*◌, ◌≤◌, length, IfOk};
 ghost use Rattle.dcp_pft.specs.Carrying.{CarryFits};
 ghost use Rattle.dcp_pft.specs.Limits.{most_fragments};
-ghost use Rattle.dcp_collect.specs.State.{made};
-ghost use Rattle.drm_links.specs.Told.{HasCause};
-ghost use Rattle.drm_gate.specs.Gateway.{IsNew, IsReasonable, rules_of};
+ghost use Rattle.dcp_collect.specs.CollectorState.{made};
+ghost use Rattle.drm_links.specs.Known.{HasCause};
+ghost use Rattle.drm_gate.specs.Gateway.{IsNewGateway, AreGateOptionsInRange, rules_of};
 ghost use Rattle.drm_gate.specs.Reading.{most_taken};
 ghost use Rattle.drm_gate.specs.Run.{GateRun, CountsOver};
 ghost use Rattle.dcp_sender.specs.Targets.{targets};
 ghost use Rattle.link_group.specs.Reaching.{AreUp};
 
 use crate::Tally;
-use crate::reading::{Stop, pass_on};
+use crate::reading::{GateError, pass_on};
 use dcp_collect::Collector;
 use dcp_pft::Carry;
 use dcp_sender::PacketSender;
@@ -89,9 +89,9 @@ pub fn gate_one<L: Link, K: Link>(
     options: &GateOptions,
     buffer: &mut [u8],
 ) -> GateEnded
-    requires new { IsNew gate.old }
+    requires new { IsNewGateway gate.old }
     requires buffer { 65536 ≤ length buffer.old }
-    requires options { IsReasonable options.now }
+    requires options { AreGateOptionsInRange options.now }
     requires links { (1 ≤ length to.old) × (length to.old ≤ 16) }
     requires up { AreUp to.old }
     // What was read of the one link, and what was sent of it over each of the others.
@@ -109,8 +109,8 @@ pub fn gate_one<L: Link, K: Link>(
     );
     let tally = match passed {
         Ok(tally) => tally,
-        Err(Stop::From) => return GateEnded::FromFailed,
-        Err(Stop::To) => return GateEnded::ToFailed,
+        Err(GateError::From) => return GateEnded::FromFailed,
+        Err(GateError::To) => return GateEnded::ToFailed,
     };
     passed_all(&tally, to)
 }

@@ -1,7 +1,7 @@
 //! What a collector gives, passed on.
 
 ghost use Rattle.std.specs.Prelude.{◌≡◌, ◌<◌, ◌^◌, true, false};
-ghost use Rattle.dcp_collect.specs.State.{ready, after_item};
+ghost use Rattle.dcp_collect.specs.CollectorState.{ready, after_item};
 ghost use Rattle.dcp_collect.specs.View.{item_of};
 ghost use Rattle.dcp_collect.specs.WholePackets.{IsAfIfWhole};
 ghost use Rattle.mod_feed.specs.Items.{number_of};

@@ -1,15 +1,15 @@
 //! Reading a link, and passing on each item as soon as it is ready.
 
 ghost use Rattle.std.specs.Prelude.{◌≡◌, ◌*◌, ◌≤◌, length, Err, IfOk};
-ghost use Rattle.drm_links.specs.Told.{HasCause};
-ghost use Rattle.drm_links.specs.Hearing.{Heard};
+ghost use Rattle.drm_links.specs.Known.{HasCause};
+ghost use Rattle.drm_links.specs.Hearing.{LinkHeard};
 ghost use Rattle.dcp_pft.specs.Limits.{most_fragments};
-ghost use Rattle.dcp_collect.specs.State.{made};
-ghost use Rattle.drm_gate.specs.Gateway.{IsReasonable, rules_of};
+ghost use Rattle.dcp_collect.specs.CollectorState.{made};
+ghost use Rattle.drm_gate.specs.Gateway.{AreGateOptionsInRange, rules_of};
 ghost use Rattle.drm_gate.specs.Reading.{EndsReading, most_taken};
 ghost use Rattle.dcp_sender.specs.Targets.{targets};
 ghost use Rattle.drm_gate.specs.Targets.{SomeUp};
-ghost use Rattle.drm_gate.specs.declared.reading.Stop.{Stop};
+ghost use Rattle.drm_gate.specs.declared.reading.GateError.{GateError};
 
 use crate::gate::GateOptions;
 use crate::item::pass_next;
@@ -18,34 +18,34 @@ use dcp_collect::Collector;
 use dcp_sender::PacketSender;
 use drm_links::{Link, LinkFault};
 use link_group::Member;
-use recv_reading::{Bounds, Reading, Room, SourceFault};
+use recv_reading::{Bounds, Reading, ReceiveBuffer, SourceFault};
 
 /// Whether the link that is read failed, or all those behind the gateway.
 #[derive(Clone, Copy, Debug, PartialEq, Eq)]
-pub(crate) enum Stop {
+pub(crate) enum GateError {
     From,
     To,
 }
 
-impl From<LinkFault> for Stop {
+impl From<LinkFault> for GateError {
     ghost use Rattle.std.specs.Prelude.{◌≡◌};
-    ghost use Rattle.drm_gate.specs.declared.reading.Stop.TheVariants.{To};
+    ghost use Rattle.drm_gate.specs.declared.reading.GateError.TheVariants.{To};
 
     ghost from_gives = { λ _ stop. stop ≡ To };
 
     fn from(_: LinkFault) -> Self {
-        Stop::To
+        GateError::To
     }
 }
 
-impl From<SourceFault> for Stop {
+impl From<SourceFault> for GateError {
     ghost use Rattle.std.specs.Prelude.{◌≡◌};
-    ghost use Rattle.drm_gate.specs.declared.reading.Stop.TheVariants as stops;
+    ghost use Rattle.drm_gate.specs.declared.reading.GateError.TheVariants as stops;
 
     ghost from_gives = { λ _ stop. stop ≡ stops.From };
 
     fn from(_: SourceFault) -> Self {
-        Stop::From
+        GateError::From
     }
 }
 
@@ -57,19 +57,19 @@ pub(crate) fn pass_on<L: Link, K: Link>(
     to: &mut [Member<K>],
     options: &GateOptions,
     buffer: &mut [u8],
-) -> Result<Tally, Stop>
+) -> Result<Tally, GateError>
     requires buffer { 65536 ≤ length buffer.old }
-    requires options { IsReasonable options.now }
+    requires options { AreGateOptionsInRange options.now }
     requires window { 1 ≤ collector.old.window }
     requires collector { collector.old ≡ made collector.old.window collector.old.reach collector.old.first }
     requires up { SomeUp (targets K.known to.old) }
     ensures ends { EndsReading (rules_of collector.old options.now) sender.old
-        (Heard (L.known from.old) (L.known from.new)) (targets K.known to.old) (targets K.known to.new) result }
+        (LinkHeard (L.known from.old) (L.known from.new)) (targets K.known to.old) (targets K.known to.new) result }
     ensures within_limit { IfOk result (λ tally. tally.sent ≤ most_fragments * most_taken) }
-    ensures from { HasCause (L.known from.old) (L.known from.new) (result ≡ Err Stop.From) }
+    ensures from { HasCause (L.known from.old) (L.known from.new) (result ≡ Err GateError.From) }
 {
     let mut tally = Tally::new();
-    let mut room = Room { bytes: buffer };
+    let mut reader = ReceiveBuffer { bytes: buffer };
     let mut reading = Reading::new(Bounds {
         frames: options.frames,
         idle: options.idle,
@@ -83,6 +83,6 @@ pub(crate) fn pass_on<L: Link, K: Link>(
         if reading.has_ended() {
             return Ok(tally);
         }
-        reading.read_on(collector, &mut room, from)?;
+        reading.read_on(collector, &mut reader, from)?;
     }
 }

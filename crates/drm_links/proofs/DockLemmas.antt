@@ -11,16 +11,16 @@ use Rattle.std.specs.Option.{option_map}
 use Rattle.std.specs.BTreeMap as tree
 use Rattle.std.specs.BTreeMap.{BTreeMap, is_at}
 use Rattle.std.specs.FinMap as map
-use Rattle.drm_links.specs.Told.{IfBothKnown, one_more}
+use Rattle.drm_links.specs.Known.{IfBothKnown, one_more}
 use Rattle.drm_links.specs.Dock.{LinkStart, DockOpens, DockReaches, address_key, start_at, first_traffic, with_reach}
-use Rattle.drm_links.specs.MemoryLink.{LinkState, IsUntouched, link_known}
+use Rattle.drm_links.specs.MemoryLink.{LinkState, IsUntouchedLink, link_known}
 use Rattle.drm_links.specs.MemoryDock.{DockState, LeavesDock, reached, link_at, start_of, starts_of, contents_of, dock_known, with_start}
 use Rattle.drm_links.specs.ClosedLinks.{entries_of}
 use Rattle.drm_links.specs.declared.dock.Address.{Address}
-use Rattle.drm_links.specs.declared.docked_link.Closed.{Closed}
+use Rattle.drm_links.specs.declared.docked_link.ClosedLink.{ClosedLink}
 use Rattle.drm_links.specs.declared.dock.Opened.{Opened}
 use Rattle.drm_links.specs.declared.dock.Opened.TheVariants as opened
-use Rattle.drm_links.proofs.MemoryLemmas.{while_told_for}
+use Rattle.drm_links.proofs.MemoryLemmas.{both_known_for}
 
 -- ---- a map of links as a finite map
 
@@ -103,19 +103,19 @@ starts_of-empty =
 
 -- ---- a link that is put
 
-told_changed : {T : Type 0} (told : Bool) (change : T → T) (contents : T) → (if told then Some (change contents) else None) ≡ option_map change (if told then Some contents else None)
-told_changed true change contents = refl
-told_changed false change contents = refl
+changed_if : {T : Type 0} (known : Bool) (change : T → T) (contents : T) → (if known then Some (change contents) else None) ≡ option_map change (if known then Some contents else None)
+changed_if true change contents = refl
+changed_if false change contents = refl
 
-pub put_told : (dock after : DockState) (at : Address) (link : LinkState) → after ≡ record dock { links = map.insert dock.links (address_key at) link } → (dock_known after).told ≡ option_map (with_start at (start_of link)) (dock_known dock).told
-put_told dock after at link is_after =
+pub contents-put : (dock after : DockState) (at : Address) (link : LinkState) → after ≡ record dock { links = map.insert dock.links (address_key at) link } → (dock_known after).contents ≡ option_map (with_start at (start_of link)) (dock_known dock).contents
+contents-put dock after at link is_after =
     rw (is_after, starts_of-insert)
-    (told_changed (nat_le dock.calls (2 ^ 62)) (with_start at (start_of link)) (contents_of dock))
+    (changed_if (nat_le dock.calls (2 ^ 62)) (with_start at (start_of link)) (contents_of dock))
 
 -- ---- a link that leaves
 
 -- a link on which no call was made tells how it starts
-untouched_tells : (link : LinkState) → IsUntouched link → (link_known link).told ≡ Some (first_traffic (start_of link))
+untouched_tells : (link : LinkState) → IsUntouchedLink link → (link_known link).contents ≡ Some (first_traffic (start_of link))
 untouched_tells link untouched = rw (untouched.recvs, untouched.calls, untouched.gone) (rw (untouched.waits, untouched.waiting) refl)
 
 no_start : (link : Option LinkState) → IsNone link → IsNone (option_map start_of link)
@@ -127,7 +127,7 @@ fails_so dock at (inl listed) = inl listed
 fails_so dock at (inr none) = inr (rw get-starts_of (no_start (link_at dock at) none))
 
 pub Leaves-opens : (result : Opened LinkState) (at : Address) (before after : DockState) → before.openings ≤ before.calls → LeavesDock result at before after → before.calls ≤ 2 ^ 62 → DockOpens link_known at result (contents_of before) (contents_of after)
-Leaves-opens (opened.Link link) at before after counts (unlisted, stands, untouched, is_after) told =
+Leaves-opens (opened.Link link) at before after counts (unlisted, stands, untouched, is_after) known =
     let start : map.get (starts_of before.links) (address_key at) ≡ Some (start_of link) =
     get-starts_of before.links (address_key at) ∙ ap (option_map start_of) stands in
     let calls : one_more before.calls ≡ before.calls + 1 = omega arith in
@@ -137,14 +137,14 @@ Leaves-opens (opened.Link link) at before after counts (unlisted, stands, untouc
       rw start (untouched_tells link untouched),
       rw (calls, openings, starts_of-remove) refl,
     )
-Leaves-opens opened.Failed at before after counts (reason, is_after) told =
+Leaves-opens opened.Failed at before after counts (reason, is_after) known =
     let calls : one_more before.calls ≡ before.calls + 1 = omega arith in
     let openings : one_more before.openings ≡ before.openings + 1 = omega arith in
     rw is_after (fails_so before at reason, rw (calls, openings) refl)
 
-pub leaves_told : (result : Opened LinkState) (at : Address) (before after : DockState) → before.openings ≤ before.calls → LeavesDock result at before after → IfBothKnown (dock_known before) (dock_known after) (DockOpens link_known at result)
-leaves_told result at before after counts leaves =
-    while_told_for before.calls after.calls (contents_of before) (contents_of after) (DockOpens link_known at result)
+pub leaves_known : (result : Opened LinkState) (at : Address) (before after : DockState) → before.openings ≤ before.calls → LeavesDock result at before after → IfBothKnown (dock_known before) (dock_known after) (DockOpens link_known at result)
+leaves_known result at before after counts leaves =
+    both_known_for before.calls after.calls (contents_of before) (contents_of after) (DockOpens link_known at result)
     (Leaves-opens result at before after counts leaves)
 
 -- ---- a link that leaves by `reach`
@@ -159,31 +159,31 @@ reached_leaves (opened.Link link) at before between after (unlisted, stands, unt
     (unlisted, stands, untouched, is_after ∙ ap reached is_between)
 reached_leaves opened.Failed at before between after (reason, is_between) is_after = (reason, is_after ∙ ap reached is_between)
 
-pub reached_told : (result : Opened LinkState) (at : Address) (before after : DockState) → before.openings ≤ before.calls → before.reaches ≤ before.calls → LeavesDock result at (reached before) after
+pub reached_known : (result : Opened LinkState) (at : Address) (before after : DockState) → before.openings ≤ before.calls → before.reaches ≤ before.calls → LeavesDock result at (reached before) after
     → IfBothKnown (dock_known before) (dock_known after) (DockReaches link_known at result)
-reached_told result at before after counts reaches leaves =
-    while_told_for before.calls after.calls (contents_of before) (contents_of after) (DockReaches link_known at result)
-    (λ told. let one : contents_of (reached before) ≡ with_reach (contents_of before) = one_reach before reaches told in
-    subst (λ c. DockOpens link_known at result c (contents_of after)) one (Leaves-opens result at (reached before) after counts leaves told))
+reached_known result at before after counts reaches leaves =
+    both_known_for before.calls after.calls (contents_of before) (contents_of after) (DockReaches link_known at result)
+    (λ known. let one : contents_of (reached before) ≡ with_reach (contents_of before) = one_reach before reaches known in
+    subst (λ c. DockOpens link_known at result c (contents_of after)) one (Leaves-opens result at (reached before) after counts leaves known))
   where
     one_reach : (dock : DockState) → dock.reaches ≤ dock.calls → dock.calls ≤ 2 ^ 62 → contents_of (reached dock) ≡ with_reach (contents_of dock)
-    one_reach dock reaches told = let one : one_more dock.reaches ≡ dock.reaches + 1 = omega arith in rw one refl
+    one_reach dock reaches known = let one : one_more dock.reaches ≡ dock.reaches + 1 = omega arith in rw one refl
 
 -- ---- the links that are kept
 
-module _ (key : List ℕ) (rest : List (Option Closed)) where
+module _ (key : List ℕ) (rest : List (Option ClosedLink)) where
   -- the first one is at this address
-  pub closed_here : (nodes : List (Option Closed)) (first : Option Closed) (closed : Closed) → nodes ≡ first ∷ rest → first ≡ Some closed → bytes_eq key (address_key closed.at) ≡ true → map.find (slice_cmp nat_cmp) key (entries_of nodes) ≡ Some closed.link
+  pub closed_here : (nodes : List (Option ClosedLink)) (first : Option ClosedLink) (closed : ClosedLink) → nodes ≡ first ∷ rest → first ≡ Some closed → bytes_eq key (address_key closed.at) ≡ true → map.find (slice_cmp nat_cmp) key (entries_of nodes) ≡ Some closed.link
   closed_here nodes first closed are is same =
       let here : is_eq (slice_cmp nat_cmp key (address_key closed.at)) ≡ true = is_eq-slice_cmp key (address_key closed.at) ∙ same in
       rw (are, is, here) refl
 
   -- the first one is at another address
-  pub closed_elsewhere : (nodes : List (Option Closed)) (first : Option Closed) (closed : Closed) → nodes ≡ first ∷ rest → first ≡ Some closed → bytes_eq key (address_key closed.at) ≡ false → map.find (slice_cmp nat_cmp) key (entries_of nodes) ≡ map.find (slice_cmp nat_cmp) key (entries_of rest)
+  pub closed_elsewhere : (nodes : List (Option ClosedLink)) (first : Option ClosedLink) (closed : ClosedLink) → nodes ≡ first ∷ rest → first ≡ Some closed → bytes_eq key (address_key closed.at) ≡ false → map.find (slice_cmp nat_cmp) key (entries_of nodes) ≡ map.find (slice_cmp nat_cmp) key (entries_of rest)
   closed_elsewhere nodes first closed are is other =
       let there : is_eq (slice_cmp nat_cmp key (address_key closed.at)) ≡ false = is_eq-slice_cmp key (address_key closed.at) ∙ other in
       rw (are, is, there) refl
 
   -- the first node holds none
-  pub closed_nowhere : (nodes : List (Option Closed)) (first : Option Closed) → nodes ≡ first ∷ rest → first ≡ None → map.find (slice_cmp nat_cmp) key (entries_of nodes) ≡ map.find (slice_cmp nat_cmp) key (entries_of rest)
+  pub closed_nowhere : (nodes : List (Option ClosedLink)) (first : Option ClosedLink) → nodes ≡ first ∷ rest → first ≡ None → map.find (slice_cmp nat_cmp) key (entries_of nodes) ≡ map.find (slice_cmp nat_cmp) key (entries_of rest)
   closed_nowhere nodes first are is = rw (are, is) refl

@@ -40,16 +40,16 @@ by_name-insert old new name bytes updates =
     ∙ sym (map.get-insert nat_list_cmp_total (by_name old) name bytes q)))))
 
 -- a load whose number isn't to fail gives what is there
-pub Loads-given : (loaded : Loaded) (name : List ℕ) (limit : ℕ) (told : Files) (file : Option (List ℕ)) → (Contains told.failing told.loads → ⊥) → LoadGives loaded limit file → file ≡ file_at told name → ShelfLoads loaded name limit told
-Loads-given (Bytes octets) name limit told file unlisted gives is = (unlisted, rw is at gives)
-Loads-given TooLong name limit told file unlisted gives is = (unlisted, rw is at gives)
-Loads-given Failed name limit told file unlisted gives is = inr (rw is at gives)
-Loads-given NoMemory name limit told file unlisted gives is = tt
+pub Loads-given : (loaded : Loaded) (name : List ℕ) (limit : ℕ) (known : Files) (file : Option (List ℕ)) → (Contains known.failing known.loads → ⊥) → LoadGives loaded limit file → file ≡ file_at known name → ShelfLoads loaded name limit known
+Loads-given (Bytes octets) name limit known file unlisted gives is = (unlisted, rw is at gives)
+Loads-given TooLong name limit known file unlisted gives is = (unlisted, rw is at gives)
+Loads-given Failed name limit known file unlisted gives is = inr (rw is at gives)
+Loads-given NoMemory name limit known file unlisted gives is = tt
 
-told_changed : {T : Type 0} (told : Bool) (change : T → T) (contents : T) → (if told then Some (change contents) else None) ≡ option_map change (if told then Some contents else None)
-told_changed true change contents = refl
-told_changed false change contents = refl
+changed_if : {T : Type 0} (known : Bool) (change : T → T) (contents : T) → (if known then Some (change contents) else None) ≡ option_map change (if known then Some contents else None)
+changed_if true change contents = refl
+changed_if false change contents = refl
 
 -- what is told of the shelf, with one file more
-pub told-with_file : (shelf : ShelfState) (name bytes : List ℕ) → (shelf_known (record shelf { files = map.insert shelf.files name bytes })).told ≡ option_map (with_file name bytes) (shelf_known shelf).told
-told-with_file shelf name bytes = told_changed (nat_le shelf.loads (2 ^ 62)) (with_file name bytes) _
+pub contents-with_file : (shelf : ShelfState) (name bytes : List ℕ) → (shelf_known (record shelf { files = map.insert shelf.files name bytes })).known ≡ option_map (with_file name bytes) (shelf_known shelf).contents
+contents-with_file shelf name bytes = changed_if (nat_le shelf.loads (2 ^ 62)) (with_file name bytes) _

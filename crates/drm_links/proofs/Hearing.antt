@@ -4,31 +4,31 @@ use Rattle.std.proofs.lemmas.List.{append-nil}
 use Rattle.drm_links.specs.declared.link.Came.{Came}
 use Rattle.drm_links.specs.Link.{Answer, Traffic, LinkReceives, answer_of}
 use Rattle.drm_links.specs.Dock.{LinkStart, first_traffic}
-use Rattle.drm_links.specs.Told.{Known, IfBothKnown, CountsCall, IfBoth, CountsTold}
-use Rattle.drm_links.specs.Hearing.{AreNext, HeardTold, Heard}
+use Rattle.drm_links.specs.Known.{Known, IfBothKnown, CountsCall, IfBoth, CountsOneCall}
+use Rattle.drm_links.specs.Hearing.{AreNext, HeardThroughout, LinkHeard}
 
 next_append : (ahead mid rest : List Answer) (xs ys : List Answer) → AreNext ahead xs mid → AreNext mid ys rest → AreNext ahead (xs ++ ys) rest
 next_append ahead mid rest [] ys p q = subst (λ m. AreNext m ys rest) p q
 next_append ahead mid rest (x ∷ xs) ys p q = (p.0, next_append (drop 1 ahead) mid rest xs ys p.1 q)
 
-none_told : (a : Option Traffic) → HeardTold [] a a
-none_told None = tt
-none_told (Some t) = record { given = sym (append-nil t.answers); ahead = refl; gone = refl; waits = refl; waiting = refl; sends = refl; calls = omega arith }
+none_through : (a : Option Traffic) → HeardThroughout [] a a
+none_through None = tt
+none_through (Some t) = record { given = sym (append-nil t.answers); ahead = refl; gone = refl; waits = refl; waiting = refl; sends = refl; calls = omega arith }
 
-pub heard_none : (a : Known Traffic) → Heard a a []
-heard_none a = none_told a.told
+pub heard_none : (a : Known Traffic) → LinkHeard a a []
+heard_none a = none_through a.contents
 
-then_told : (a b c : Option Traffic) (xs ys : List Answer) → HeardTold xs a b → HeardTold ys b c → HeardTold (xs ++ ys) a c
-then_told None None None xs ys p q = tt
-then_told None (Some y) None xs ys p q = absurd p
-then_told (Some x) None None xs ys p q = let e : length (xs ++ ys) ≡ length xs + length ys = length-append xs ys in omega (arith, p, e)
-then_told (Some x) (Some y) None xs ys p q =
+then_through : (a b c : Option Traffic) (xs ys : List Answer) → HeardThroughout xs a b → HeardThroughout ys b c → HeardThroughout (xs ++ ys) a c
+then_through None None None xs ys p q = tt
+then_through None (Some y) None xs ys p q = absurd p
+then_through (Some x) None None xs ys p q = let e : length (xs ++ ys) ≡ length xs + length ys = length-append xs ys in omega (arith, p, e)
+then_through (Some x) (Some y) None xs ys p q =
     let e : length (xs ++ ys) ≡ length xs + length ys = length-append xs ys in
     let f : y.calls ≡ x.calls + length xs = p.calls in
     omega (arith, q, e, f)
-then_told a None (Some z) xs ys p q = absurd q
-then_told None (Some y) (Some z) xs ys p q = absurd p
-then_told (Some x) (Some y) (Some z) xs ys p q = record {
+then_through a None (Some z) xs ys p q = absurd q
+then_through None (Some y) (Some z) xs ys p q = absurd p
+then_through (Some x) (Some y) (Some z) xs ys p q = record {
   given = q.given ∙ ap (λ l. l ++ ys) p.given ∙ append_assoc x.answers xs ys;
   ahead = next_append x.ahead y.ahead z.ahead xs ys p.ahead q.ahead;
   gone = q.gone ∙ p.gone;
@@ -42,31 +42,31 @@ then_told (Some x) (Some y) (Some z) xs ys p q = record {
       omega (arith, e, f, g);
 }
 
-pub heard_then : (a b c : Known Traffic) (xs ys : List Answer) → Heard a b xs → Heard b c ys → Heard a c (xs ++ ys)
-heard_then a b c = then_told a.told b.told c.told
+pub heard_then : (a b c : Known Traffic) (xs ys : List Answer) → LinkHeard a b xs → LinkHeard b c ys → LinkHeard a c (xs ++ ys)
+heard_then a b c = then_through a.contents b.contents c.contents
 
-one_told : (a b : Option Traffic) (result : Came) (buf : List ℕ) → IfBoth a b (LinkReceives result buf) → CountsTold (λ (t : Traffic). t.calls) a b → HeardTold (answer_of result buf ∷ []) a b
-one_told None None result buf told counts = tt
-one_told (Some x) None result buf told counts = let h : 2 ^ 62 ≤ x.calls = counts in omega (arith, h)
-one_told None (Some y) result buf told counts = cc
-one_told (Some x) (Some y) result buf told counts = record {
-  given = told.answers ∙ ap (λ w. x.answers ++ w ∷ []) (sym told.next);
-  ahead = (told.next, told.ahead);
-  gone = told.gone;
-  waits = told.waits;
-  waiting = told.waiting;
-  sends = told.sends;
+one_through : (a b : Option Traffic) (result : Came) (buf : List ℕ) → IfBoth a b (LinkReceives result buf) → CountsOneCall (λ (t : Traffic). t.calls) a b → HeardThroughout (answer_of result buf ∷ []) a b
+one_through None None result buf receives counts = tt
+one_through (Some x) None result buf receives counts = let h : 2 ^ 62 ≤ x.calls = counts in omega (arith, h)
+one_through None (Some y) result buf receives counts = cc
+one_through (Some x) (Some y) result buf receives counts = record {
+  given = receives.answers ∙ ap (λ w. x.answers ++ w ∷ []) (sym receives.next);
+  ahead = (receives.next, receives.ahead);
+  gone = receives.gone;
+  waits = receives.waits;
+  waiting = receives.waiting;
+  sends = receives.sends;
   calls = counts.0;
 }
 
-heard_one : (a b : Known Traffic) (result : Came) (buf : List ℕ) → IfBothKnown a b (LinkReceives result buf) → CountsCall (λ (t : Traffic). t.calls) a b → Heard a b (answer_of result buf ∷ [])
-heard_one a b = one_told a.told b.told
+heard_one : (a b : Known Traffic) (result : Came) (buf : List ℕ) → IfBothKnown a b (LinkReceives result buf) → CountsCall (λ (t : Traffic). t.calls) a b → LinkHeard a b (answer_of result buf ∷ [])
+heard_one a b = one_through a.contents b.contents
 
-pub heard_more : (a b c : Known Traffic) (xs : List Answer) (result : Came) (buf : List ℕ) → Heard a b xs → IfBothKnown b c (LinkReceives result buf) → CountsCall (λ (t : Traffic). t.calls) b c → Heard a c (xs ++ answer_of result buf ∷ [])
-heard_more a b c xs result buf p told counts = heard_then a b c xs (answer_of result buf ∷ []) p (heard_one b c result buf told counts)
+pub heard_more : (a b c : Known Traffic) (xs : List Answer) (result : Came) (buf : List ℕ) → LinkHeard a b xs → IfBothKnown b c (LinkReceives result buf) → CountsCall (λ (t : Traffic). t.calls) b c → LinkHeard a c (xs ++ answer_of result buf ∷ [])
+heard_more a b c xs result buf p receives counts = heard_then a b c xs (answer_of result buf ∷ []) p (heard_one b c result buf receives counts)
 
 -- what was heard of a new link stood ahead of it
-pub heard_next : (a b : Option Traffic) (start : LinkStart) (answers : List Answer) → HeardTold answers a b → a ≡ Some (first_traffic start) → length answers ≤ 2 ^ 62
+pub heard_next : (a b : Option Traffic) (start : LinkStart) (answers : List Answer) → HeardThroughout answers a b → a ≡ Some (first_traffic start) → length answers ≤ 2 ^ 62
     → (rest : List Answer) × AreNext start.ahead answers rest
 heard_next None b start answers heard is few = absurd (cc)
 heard_next (Some x) None start answers heard is few =

@@ -1,4 +1,4 @@
-pub mod ToldLemmas
+pub mod KnownLemmas
 pub mod TransmissionLemmas
 pub mod MemoryLemmas
 pub mod LinkLemmas

@@ -7,14 +7,14 @@ use Rattle.std.specs.Cmp.{nat_eq_equiv}
 use Rattle.std.specs.List.{filter_map}
 use Rattle.std.specs.Map.{lookup}
 use Rattle.std.proofs.lemmas.Map.Views.{list_any-from_Contains, Contains-from_any}
-use Rattle.drm_links.specs.Told.{IfBothKnown, one_more}
-use Rattle.drm_links.specs.Link.{Answer, Datagram, Idle, Failed, LinkReceives, LinkSends, LinkRests, next_answer, datagram_of, longest_told}
+use Rattle.drm_links.specs.Known.{IfBothKnown, one_more}
+use Rattle.drm_links.specs.Link.{Answer, Datagram, Idle, Failed, LinkReceives, LinkSends, LinkRests, next_answer, datagram_of, longest_kept}
 use Rattle.drm_links.specs.MemoryLink.{LinkState, CameBefore, is_among, first_of, answer_at, left_at, answers_from, after_last, listed_from, answers_ahead, answered_at, answered, taken_from, traffic_of, link_known, MemLinkReceives, MemLinkSends, after_rest, longest_wait, IsCounted, BringsDatagram}
 use Rattle.drm_links.specs.declared.link.Came.{Came}
 use Rattle.drm_links.specs.declared.link.Came.TheVariants as recv
 use Rattle.drm_links.specs.declared.link.Sent.{Sent}
 use Rattle.drm_links.specs.declared.link.Sent.TheVariants as send
-use Rattle.drm_links.proofs.MemoryLemmas.{while_told_for}
+use Rattle.drm_links.proofs.MemoryLemmas.{both_known_for}
 
 -- ---- numbers that are listed
 
@@ -102,11 +102,11 @@ datagrams_from failing idling (suc more) number coming =
     (datagrams_from failing idling more (number + 1) (left_at failing idling number coming))
 
 -- a datagram that is brought stands behind the others
-pub bring_told : (link after : LinkState) (bytes : List ℕ) → after ≡ record link { coming = link.coming ++ bytes ∷ [] } → IfBothKnown (link_known link) (link_known after) (BringsDatagram bytes)
-bring_told link after bytes is_after =
+pub bring_known : (link after : LinkState) (bytes : List ℕ) → after ≡ record link { coming = link.coming ++ bytes ∷ [] } → IfBothKnown (link_known link) (link_known after) (BringsDatagram bytes)
+bring_known link after bytes is_after =
     rw is_after
-    (while_told_for link.calls link.calls _ _ (BringsDatagram bytes)
-    (λ told. record {
+    (both_known_for link.calls link.calls _ _ (BringsDatagram bytes)
+    (λ known. record {
       answers = refl;
       ahead =
           datagrams_from link.failing link.idling _ link.recvs (link.coming ++ bytes ∷ [])
@@ -121,16 +121,16 @@ bring_told link after bytes is_after =
 -- ---- the answers so far
 
 is_other : (recvs number calls : ℕ) → (number < recvs) ⊎ (2 ^ 62 < calls) → calls ≤ 2 ^ 62 → nat_eq recvs number ≡ false
-is_other recvs number calls (inl earlier) told = grind (arith, nat_tests)
-is_other recvs number calls (inr over) told = absurd (omega arith)
+is_other recvs number calls (inl earlier) known = grind (arith, nat_tests)
+is_other recvs number calls (inr over) known = absurd (omega arith)
 
 no_number : (came : List (ℕ × List ℕ)) (recvs calls : ℕ) → CameBefore came recvs calls → calls ≤ 2 ^ 62 → lookup (nat_eq recvs) came ≡ None
-no_number [] recvs calls before told = refl
-no_number (heard ∷ came) recvs calls before told =
+no_number [] recvs calls before known = refl
+no_number (heard ∷ came) recvs calls before known =
     let here : (heard.0 < recvs) ⊎ (2 ^ 62 < calls) = All-head (λ (h : ℕ × List ℕ). (h.0 < recvs) ⊎ (2 ^ 62 < calls)) heard came before in
-    let other : nat_eq recvs heard.0 ≡ false = is_other recvs heard.0 calls here told in
+    let other : nat_eq recvs heard.0 ≡ false = is_other recvs heard.0 calls here known in
     let others : lookup (nat_eq recvs) came ≡ None =
-    no_number came recvs calls (All-tail (λ (h : ℕ × List ℕ). (h.0 < recvs) ⊎ (2 ^ 62 < calls)) heard came before) told in
+    no_number came recvs calls (All-tail (λ (h : ℕ × List ℕ). (h.0 < recvs) ⊎ (2 ^ 62 < calls)) heard came before) known in
     rw (other, others) refl
 
 found_behind : (first : List ℕ) (came : List (ℕ × List ℕ)) (recvs : ℕ) (bytes : List ℕ) (b : Bool) → cond b (Some first) (lookup (nat_eq recvs) came) ≡ None → (lookup (nat_eq recvs) came ≡ None → lookup (nat_eq recvs) (came ++ (recvs, bytes) ∷ []) ≡ Some bytes) → cond b (Some first) (lookup (nat_eq recvs) (came ++ (recvs, bytes) ∷ [])) ≡ Some bytes
@@ -156,7 +156,7 @@ answered_before failing came recvs bytes (suc number) earlier =
 
 came_later : (recvs calls more over : ℕ) → recvs ≤ more → calls ≤ over → (heard : ℕ × List ℕ) → (heard.0 < recvs) ⊎ (2 ^ 62 < calls) → (heard.0 < more) ⊎ (2 ^ 62 < over)
 came_later recvs calls more over later past heard (inl earlier) = inl (omega arith)
-came_later recvs calls more over later past heard (inr told) = inr (omega arith)
+came_later recvs calls more over later past heard (inr known) = inr (omega arith)
 
 now_or_over : (recvs calls more over : ℕ) → recvs ≤ calls → calls < 2 ^ 64 → more ≡ one_more recvs → over ≡ one_more calls → (recvs < more) ⊎ (more ≤ recvs) → (recvs < more) ⊎ (2 ^ 62 < over)
 now_or_over recvs calls more over within counts is_more is_over (inl now) = inl now
@@ -171,28 +171,28 @@ CameBefore-then came recvs calls more over bytes before within counts is_more is
 
 -- one more answer
 more_answered : (failing : List ℕ) (came : List (ℕ × List ℕ)) (recvs calls : ℕ) → recvs ≤ calls → calls ≤ 2 ^ 62 → answered failing came (one_more recvs) ≡ answered failing came recvs ++ answered_at failing came recvs ∷ []
-more_answered failing came recvs calls within told =
+more_answered failing came recvs calls within known =
     let next : one_more recvs ≡ suc recvs = omega arith in rw next refl
 
 -- ---- a recv
 
 -- what is ahead after a recv, by what it leaves of the datagrams
 then_ahead : (failing idling : List ℕ) (recvs calls : ℕ) (coming left : List (List ℕ)) → recvs ≤ calls → calls ≤ 2 ^ 62 → left_at failing idling recvs coming ≡ left → answers_ahead failing idling (one_more recvs) left ≡ drop 1 (answers_ahead failing idling recvs coming)
-then_ahead failing idling recvs calls coming left within told is =
+then_ahead failing idling recvs calls coming left within known is =
     let next : one_more recvs ≡ recvs + 1 = omega arith in
     rw (next, ← is) (sym (rest_ahead failing idling recvs coming))
 
 -- what was answered after a recv that gave no datagram
 then_answered : (failing : List ℕ) (came : List (ℕ × List ℕ)) (recvs calls : ℕ) (answer : Answer) → CameBefore came recvs calls → recvs ≤ calls → calls ≤ 2 ^ 62 → (if is_among failing recvs then Failed else Idle) ≡ answer → answered failing came (one_more recvs) ≡ answered failing came recvs ++ answer ∷ []
-then_answered failing came recvs calls answer before within told is =
-    more_answered failing came recvs calls within told
-    ∙ rw (no_number came recvs calls before told) (ap (λ a. answered failing came recvs ++ a ∷ []) is)
+then_answered failing came recvs calls answer before within known is =
+    more_answered failing came recvs calls within known
+    ∙ rw (no_number came recvs calls before known) (ap (λ a. answered failing came recvs ++ a ∷ []) is)
 
 -- what was answered after one that gave a datagram
 then_came : (failing : List ℕ) (came : List (ℕ × List ℕ)) (recvs calls : ℕ) (bytes : List ℕ) → CameBefore came recvs calls → recvs ≤ calls → calls ≤ 2 ^ 62 → answered failing (came ++ (recvs, bytes) ∷ []) (one_more recvs) ≡ answered failing came recvs ++ Datagram bytes ∷ []
-then_came failing came recvs calls bytes before within told =
-    let none : lookup (nat_eq recvs) came ≡ None = no_number came recvs calls before told in
-    more_answered failing (came ++ (recvs, bytes) ∷ []) recvs calls within told
+then_came failing came recvs calls bytes before within known =
+    let none : lookup (nat_eq recvs) came ≡ None = no_number came recvs calls before known in
+    more_answered failing (came ++ (recvs, bytes) ∷ []) recvs calls within known
     ∙ rw (answered_before failing came recvs bytes recvs (omega arith), found_last came recvs bytes none) refl
 
 idle_answer : (failing idling : List ℕ) (recvs : ℕ) (coming : List (List ℕ)) → is_among failing recvs ≡ false → (Contains idling recvs) ⊎ (coming ≡ []) → (b : Bool) → is_among idling recvs ≡ b → (answer_at failing idling recvs coming ≡ Idle) × (left_at failing idling recvs coming ≡ coming)
@@ -202,7 +202,7 @@ idle_answer failing idling recvs coming fails (inl listed) false idles =
 idle_answer failing idling recvs coming fails (inr none) false idles = rw (fails, idles, none) (refl, refl)
 
 pub Hears-receives : (result : Came) (old new : List ℕ) (before after : LinkState) → IsCounted before → MemLinkReceives result old new before after → before.calls ≤ 2 ^ 62 → LinkReceives result new (traffic_of before) (traffic_of after)
-Hears-receives (recv.Datagram n) old new before after counted (unlisted, unidle, first, within, rest, is_after) told =
+Hears-receives (recv.Datagram n) old new before after counted (unlisted, unidle, first, within, rest, is_after) known =
     let fails : is_among before.failing before.recvs ≡ false = is_unlisted before.failing before.recvs unlisted in
     let idles : is_among before.idling before.recvs ≡ false = is_unlisted before.idling before.recvs unidle in
     let answer : answer_at before.failing before.idling before.recvs before.coming ≡ Datagram (take n new) = rw (fails, idles, first) refl in
@@ -212,15 +212,15 @@ Hears-receives (recv.Datagram n) old new before after counted (unlisted, unidle,
     (record {
       next = sym next;
       answers =
-          then_came before.failing before.came before.recvs before.calls (take n new) counted.came counted.recvs told
+          then_came before.failing before.came before.recvs before.calls (take n new) counted.came counted.recvs known
           ∙ ap (λ a. answered before.failing before.came before.recvs ++ a ∷ []) (sym next);
-      ahead = then_ahead before.failing before.idling before.recvs before.calls before.coming _ counted.recvs told left;
+      ahead = then_ahead before.failing before.idling before.recvs before.calls before.coming _ counted.recvs known left;
       gone = refl;
       waits = refl;
       waiting = refl;
       sends = refl;
     })
-Hears-receives recv.Idle old new before after counted (unlisted, nothing, same, is_after) told =
+Hears-receives recv.Idle old new before after counted (unlisted, nothing, same, is_after) known =
     let fails : is_among before.failing before.recvs ≡ false = is_unlisted before.failing before.recvs unlisted in
     let both = idle_answer before.failing before.idling before.recvs before.coming fails nothing _ refl in
     let next = next_ahead before.failing before.idling before.recvs before.coming ∙ both.0 in
@@ -228,15 +228,15 @@ Hears-receives recv.Idle old new before after counted (unlisted, nothing, same, 
     (record {
       next = sym next;
       answers =
-          then_answered before.failing before.came before.recvs before.calls Idle counted.came counted.recvs told (rw fails refl)
+          then_answered before.failing before.came before.recvs before.calls Idle counted.came counted.recvs known (rw fails refl)
           ∙ ap (λ a. answered before.failing before.came before.recvs ++ a ∷ []) (sym next);
-      ahead = then_ahead before.failing before.idling before.recvs before.calls before.coming _ counted.recvs told both.1;
+      ahead = then_ahead before.failing before.idling before.recvs before.calls before.coming _ counted.recvs known both.1;
       gone = refl;
       waits = refl;
       waiting = refl;
       sends = refl;
     })
-Hears-receives recv.Failed old new before after counted (listed, same, is_after) told =
+Hears-receives recv.Failed old new before after counted (listed, same, is_after) known =
     let fails : is_among before.failing before.recvs ≡ true = is_listed before.failing before.recvs listed in
     let answer : answer_at before.failing before.idling before.recvs before.coming ≡ Failed = rw fails refl in
     let left : left_at before.failing before.idling before.recvs before.coming ≡ before.coming = rw fails refl in
@@ -245,18 +245,18 @@ Hears-receives recv.Failed old new before after counted (listed, same, is_after)
     (record {
       next = sym next;
       answers =
-          then_answered before.failing before.came before.recvs before.calls Failed counted.came counted.recvs told (rw fails refl)
+          then_answered before.failing before.came before.recvs before.calls Failed counted.came counted.recvs known (rw fails refl)
           ∙ ap (λ a. answered before.failing before.came before.recvs ++ a ∷ []) (sym next);
-      ahead = then_ahead before.failing before.idling before.recvs before.calls before.coming _ counted.recvs told left;
+      ahead = then_ahead before.failing before.idling before.recvs before.calls before.coming _ counted.recvs known left;
       gone = refl;
       waits = refl;
       waiting = refl;
       sends = refl;
     })
 
-pub hears_told : (result : Came) (old new : List ℕ) (before after : LinkState) → IsCounted before → MemLinkReceives result old new before after → IfBothKnown (link_known before) (link_known after) (LinkReceives result new)
-hears_told result old new before after counted hears =
-    while_told_for before.calls after.calls (traffic_of before) (traffic_of after) (LinkReceives result new)
+pub hears_known : (result : Came) (old new : List ℕ) (before after : LinkState) → IsCounted before → MemLinkReceives result old new before after → IfBothKnown (link_known before) (link_known after) (LinkReceives result new)
+hears_known result old new before after counted hears =
+    both_known_for before.calls after.calls (traffic_of before) (traffic_of after) (LinkReceives result new)
     (Hears-receives result old new before after counted hears)
 
 -- ---- sends
@@ -306,13 +306,13 @@ some_taken (fail ∷ failing) number room fails left =
     let others = neither (nat_eq number fail) (is_among failing number) fails in
     some_here fail number _ others.0 (some_taken failing number room others.1 left)
 
-none_taken : (link : LinkState) (bytes : List ℕ) → Contains link.failing link.sends ⊎ (link.room ≡ 0) ⊎ (longest_told < length bytes) → length bytes ≤ longest_told → taken_from link.failing link.sends link.room ≡ 0
+none_taken : (link : LinkState) (bytes : List ℕ) → Contains link.failing link.sends ⊎ (link.room ≡ 0) ⊎ (longest_kept < length bytes) → length bytes ≤ longest_kept → taken_from link.failing link.sends link.room ≡ 0
 none_taken link bytes (inl listed) short = none_where_listed link.failing link.sends link.room (is_listed link.failing link.sends listed)
 none_taken link bytes (inr (inl full)) short = rw full (none_left link.failing link.sends)
 none_taken link bytes (inr (inr long)) short = absurd (omega arith)
 
 pub Carries-sends : (result : Sent) (bytes : List ℕ) (before after : LinkState) → IsCounted before → MemLinkSends result bytes before after → before.calls ≤ 2 ^ 62 → LinkSends result bytes (traffic_of before) (traffic_of after)
-Carries-sends send.Sent bytes before after counted (unlisted, room, short, is_after) told =
+Carries-sends send.Sent bytes before after counted (unlisted, room, short, is_after) known =
     let fails : is_among before.failing before.sends ≡ false = is_unlisted before.failing before.sends unlisted in
     let some : 0 < taken_from before.failing before.sends before.room = some_taken before.failing before.sends before.room fails room in
     let sends = counted.sends in
@@ -324,26 +324,26 @@ Carries-sends send.Sent bytes before after counted (unlisted, room, short, is_af
       refl,
       rw next (ap Some (taken_then before.failing before.sends before.room fails)),
     )
-Carries-sends send.Failed bytes before after counted (reason, is_after) told =
+Carries-sends send.Failed bytes before after counted (reason, is_after) known =
     rw is_after ((λ short. ap Some (none_taken before bytes reason short)), refl, refl, refl)
 
-pub carries_told : (result : Sent) (bytes : List ℕ) (before after : LinkState) → IsCounted before → MemLinkSends result bytes before after → IfBothKnown (link_known before) (link_known after) (LinkSends result bytes)
-carries_told result bytes before after counted carries =
-    while_told_for before.calls after.calls (traffic_of before) (traffic_of after) (LinkSends result bytes)
+pub carries_known : (result : Sent) (bytes : List ℕ) (before after : LinkState) → IsCounted before → MemLinkSends result bytes before after → IfBothKnown (link_known before) (link_known after) (LinkSends result bytes)
+carries_known result bytes before after counted carries =
+    both_known_for before.calls after.calls (traffic_of before) (traffic_of after) (LinkSends result bytes)
     (Carries-sends result bytes before after counted carries)
 
 -- ---- rests
 
 -- a link that tells didn't rest so long that a wait isn't counted
 whole_wait : (wait calls millis : ℕ) → wait ≤ calls * 4294967295 → calls ≤ 2 ^ 62 → millis < 2 ^ 32 → min (wait + millis) longest_wait ≡ wait + millis
-whole_wait wait calls millis within told short = omega arith
+whole_wait wait calls millis within known short = omega arith
 
-pub rest_told : (millis : ℕ) (before after : LinkState) → IsCounted before → millis < 2 ^ 32 → after ≡ after_rest millis before → IfBothKnown (link_known before) (link_known after) (LinkRests millis)
-rest_told millis before after counted short is_after =
+pub rest_known : (millis : ℕ) (before after : LinkState) → IsCounted before → millis < 2 ^ 32 → after ≡ after_rest millis before → IfBothKnown (link_known before) (link_known after) (LinkRests millis)
+rest_known millis before after counted short is_after =
     rw is_after
-    (while_told_for before.calls (one_more before.calls) (traffic_of before) (traffic_of (after_rest millis before)) (LinkRests millis)
-    (λ told. record {
-      waiting = whole_wait before.waiting before.calls millis counted.waiting told short;
+    (both_known_for before.calls (one_more before.calls) (traffic_of before) (traffic_of (after_rest millis before)) (LinkRests millis)
+    (λ known. record {
+      waiting = whole_wait before.waiting before.calls millis counted.waiting known short;
       answers = refl;
       ahead = refl;
       gone = refl;

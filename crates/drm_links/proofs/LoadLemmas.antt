@@ -32,16 +32,16 @@ gives_within (Bytes octets) limit (Some file) gives =
     let short : length file ≤ limit = rw (← same) gives.1 in
     inr (ap Bytes same ∙ is_given limit file _ refl short)
 
-is_load : (loaded : Loaded) (name : List ℕ) (limit : ℕ) (told : Files) (b : Bool) → list_any (nat_eq told.loads) told.failing ≡ b → ShelfLoads loaded name limit told → (loaded ≡ NoMemory) ⊎ (loaded ≡ (if b then Failed else within limit (file_at told name)))
-is_load NoMemory name limit told b is loads = inl refl
-is_load Failed name limit told true is loads = inr refl
-is_load Failed name limit told false is (inl listed) = let found : list_any (nat_eq told.loads) told.failing ≡ true = list_any-from_Contains nat_eq_equiv told.loads told.failing listed in cc
-is_load Failed name limit told false is (inr gives) = gives_within Failed limit (file_at told name) gives
-is_load TooLong name limit told true is loads = absurd (loads.0 (Contains-from_any same_number told.loads told.failing is))
-is_load TooLong name limit told false is loads = gives_within TooLong limit (file_at told name) loads.1
-is_load (Bytes octets) name limit told true is loads = absurd (loads.0 (Contains-from_any same_number told.loads told.failing is))
-is_load (Bytes octets) name limit told false is loads = gives_within (Bytes octets) limit (file_at told name) loads.1
+is_load : (loaded : Loaded) (name : List ℕ) (limit : ℕ) (contents : Files) (b : Bool) → list_any (nat_eq contents.loads) contents.failing ≡ b → ShelfLoads loaded name limit contents → (loaded ≡ NoMemory) ⊎ (loaded ≡ (if b then Failed else within limit (file_at contents name)))
+is_load NoMemory name limit contents b is loads = inl refl
+is_load Failed name limit contents true is loads = inr refl
+is_load Failed name limit contents false is (inl listed) = let found : list_any (nat_eq contents.loads) contents.failing ≡ true = list_any-from_Contains nat_eq_equiv contents.loads contents.failing listed in cc
+is_load Failed name limit contents false is (inr gives) = gives_within Failed limit (file_at contents name) gives
+is_load TooLong name limit contents true is loads = absurd (loads.0 (Contains-from_any same_number contents.loads contents.failing is))
+is_load TooLong name limit contents false is loads = gives_within TooLong limit (file_at contents name) loads.1
+is_load (Bytes octets) name limit contents true is loads = absurd (loads.0 (Contains-from_any same_number contents.loads contents.failing is))
+is_load (Bytes octets) name limit contents false is loads = gives_within (Bytes octets) limit (file_at contents name) loads.1
 
 -- A load is the one that is told, unless memory ran out.
-pub Loads-is : (loaded : Loaded) (name : List ℕ) (limit : ℕ) (told : Files) → ShelfLoads loaded name limit told → (loaded ≡ NoMemory) ⊎ (loaded ≡ load_of told name limit)
-Loads-is loaded name limit told loads = is_load loaded name limit told _ refl loads
+pub Loads-is : (loaded : Loaded) (name : List ℕ) (limit : ℕ) (contents : Files) → ShelfLoads loaded name limit contents → (loaded ≡ NoMemory) ⊎ (loaded ≡ load_of contents name limit)
+Loads-is loaded name limit contents loads = is_load loaded name limit contents _ refl loads

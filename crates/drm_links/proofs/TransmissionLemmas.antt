@@ -1,11 +1,11 @@
 -- What was sent over a link, in one call and in several.
 use Rattle.std.proofs.Common.{◌≡◌, ℕ, ◌+◌, ◌-◌, List, [], ◌∷◌, ◌++◌, length, Option, None, Some, refl, sym, ◌∙◌, ap, arith, append_assoc, length-append}
 use Rattle.std.proofs.lemmas.List.{append-nil}
-use Rattle.drm_links.specs.Told.{Known}
+use Rattle.drm_links.specs.Known.{Known}
 use Rattle.drm_links.specs.Link.{Traffic, KeepsAnswers}
 use Rattle.drm_links.specs.Transmission.{LinkTransmits, SendsAll, SendsNoMore, WaitsBetween, TakesSends, fewer, since, still}
 use Rattle.drm_links.specs.declared.link.Sent.TheVariants as send
-use Rattle.drm_links.proofs.ToldLemmas.{Tells-nothing, Tells-then, Tells-weaker, Tells-both}
+use Rattle.drm_links.proofs.KnownLemmas.{Tells-nothing, Tells-then, Tells-weaker, Tells-both}
 
 -- ---- over many calls
 

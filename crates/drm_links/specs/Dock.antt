@@ -5,7 +5,7 @@ use Rattle.std.specs.List.{AllByRecursion}
 use Rattle.std.specs.Ordering.{nat_cmp}
 use Rattle.std.specs.Cmp.Lexicographic.{slice_cmp}
 use Rattle.std.specs.FinMap as map
-use Rattle.drm_links.specs.Told.{Known, KnownThrough}
+use Rattle.drm_links.specs.Known.{Known, KnownThrough}
 use Rattle.drm_links.specs.Link.{Answer, Traffic, IsUnused, rests_of}
 use Rattle.drm_links.specs.declared.dock.Address.{Address}
 use Rattle.drm_links.specs.declared.dock.Opened.{Opened}
@@ -54,18 +54,18 @@ first_traffic start =
 
 -- what it tells after a link was opened at this address, which stands there no more
 abbrev pub after_opening : Address → DockContents → DockContents
-after_opening at told = record told { openings = told.openings + 1; links = map.remove told.links (address_key at); calls = told.calls + 1 }
+after_opening at contents = record contents { openings = contents.openings + 1; links = map.remove contents.links (address_key at); calls = contents.calls + 1 }
 
 -- and after an opening that failed
 abbrev pub after_failure : DockContents → DockContents
-after_failure told = record told { openings = told.openings + 1; calls = told.calls + 1 }
+after_failure contents = record contents { openings = contents.openings + 1; calls = contents.calls + 1 }
 
 -- An opening is Failed exactly where its number is to fail or no link stands at its address. The link that it gives
 -- starts as it stood there.
 abbrev pub DockOpens : {L : Type 0} → (L → Known Traffic) → Address → Opened L → DockContents → DockContents → Type 0
 DockOpens known at (Link link) before after =
     (Contains before.failing before.openings → ⊥)
-    × MatchOption (start_at before at) ⊥ (λ start. (known link).told ≡ Some (first_traffic start))
+    × MatchOption (start_at before at) ⊥ (λ start. (known link).contents ≡ Some (first_traffic start))
     × (after ≡ after_opening at before)
 DockOpens known at Failed before after =
     (Contains before.failing before.openings ⊎ IsNone (start_at before at))
@@ -85,7 +85,7 @@ DockReaches known at opened before after = DockOpens known at opened (with_reach
 
 -- A new link has no faults and no idles, and where it tells, no call was made on it.
 abbrev pub IsFresh : {L : Type 0} → (L → Known Traffic) → (L → ℕ) → Opened L → Type 0
-IsFresh known idles (Link link) = ((known link).faults ≡ 0) × (idles link ≡ 0) × IfSome (known link).told IsUnused
+IsFresh known idles (Link link) = ((known link).faults ≡ 0) × (idles link ≡ 0) × IfSome (known link).contents IsUnused
 IsFresh known idles Failed = Unit {0}
 
 abbrev pub IsFailed : {L : Type 0} → Opened L → Type 0
@@ -94,11 +94,11 @@ IsFailed Failed = Unit {0}
 
 -- what it tells after a link was closed at this address over which this went
 abbrev pub after_close : Address → Over → DockContents → DockContents
-after_close at over told = record told {
-  answers = map.insert told.answers (address_key at) over.answers;
-  gone = map.insert told.gone (address_key at) over.gone;
-  rests = map.insert told.rests (address_key at) over.rests;
-  calls = told.calls + 1;
+after_close at over contents = record contents {
+  answers = map.insert contents.answers (address_key at) over.answers;
+  gone = map.insert contents.gone (address_key at) over.gone;
+  rests = map.insert contents.rests (address_key at) over.rests;
+  calls = contents.calls + 1;
 }
 
 -- A close of a link that still tells adds what went over it.
@@ -114,30 +114,30 @@ AreDifferent [] = Unit {0}
 AreDifferent (address ∷ others) = AllByRecursion (λ other. other ≢ address) others × AreDifferent others
 
 -- the k-th opening from here finds a link at this address that starts so
-pub record OpeningFinds (told : DockContents) (k : ℕ) (at : Address) (start : LinkStart) : Type 0 where
-  pub allowed : Contains told.failing (told.openings + k) → ⊥
-  pub stands : start_at told at ≡ Some start
+pub record OpeningFinds (contents : DockContents) (k : ℕ) (at : Address) (start : LinkStart) : Type 0 where
+  pub allowed : Contains contents.failing (contents.openings + k) → ⊥
+  pub stands : start_at contents at ≡ Some start
 
 -- it fails
 abbrev pub FindsNone : DockContents → ℕ → Address → Type 0
-FindsNone told k at = Contains told.failing (told.openings + k) ⊎ IsNone (start_at told at)
+FindsNone contents k at = Contains contents.failing (contents.openings + k) ⊎ IsNone (start_at contents at)
 
 -- where a dock tells at the end, it told before, and P holds of what it told then
-abbrev pub Docked : Known DockContents → Known DockContents → (DockContents → Type 0) → Type 0
-Docked before after P = KnownThrough before after (λ told _. P told)
+abbrev pub DockKnownThrough : Known DockContents → Known DockContents → (DockContents → Type 0) → Type 0
+DockKnownThrough before after P = KnownThrough before after (λ contents _. P contents)
 
 -- what a dock tells after links were opened at these addresses, one after another, to receive over them
 abbrev pub after_openings : List Address → DockContents → DockContents
-after_openings [] told = told
-after_openings (at ∷ addresses) told = after_openings addresses (after_opening at told)
+after_openings [] contents = contents
+after_openings (at ∷ addresses) contents = after_openings addresses (after_opening at contents)
 
 -- The openings at the first k addresses were made, and the next one failed.
 pub record FailsAfter (addresses : List Address) (before after : DockContents) : Type 0 where
   pub k : ℕ
   pub within : k < length addresses
   pub fails : (at : Address) → FindsNone before k (slice_index_or addresses k at)
-  pub told : after ≡ after_failure (after_openings (take k addresses) before)
+  pub contents : after ≡ after_failure (after_openings (take k addresses) before)
 
 -- the link of the k-th opening from here starts with what stood at its address
 abbrev pub HasLink : {L : Type 0} → (L → Known Traffic) → DockContents → ℕ → Address → L → Type 0
-HasLink known told k at link = (start : LinkStart) × OpeningFinds told k at start × ((known link).told ≡ Some (first_traffic start))
+HasLink known contents k at link = (start : LinkStart) × OpeningFinds contents k at start × ((known link).contents ≡ Some (first_traffic start))

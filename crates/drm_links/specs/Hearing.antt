@@ -1,6 +1,6 @@
 -- What comes over a link in several calls.
 use Rattle.std.specs.Prelude.{◌≡◌, ◌+◌, ◌<◌, ◌^◌, length, List, [], ◌∷◌, ◌++◌, drop, Option, None, Some}
-use Rattle.drm_links.specs.Told.{Known}
+use Rattle.drm_links.specs.Known.{Known}
 use Rattle.drm_links.specs.Link.{Answer, Traffic, next_answer}
 
 -- these answers come one after another: each is the first one ahead, or `Idle` where none is left
@@ -20,11 +20,11 @@ pub record TakesAnswers (answers : List Answer) (before after : Traffic) : Type 
 
 -- Where the link tells at the end, it told before, and these are the answers that it gave in between. A link that told
 -- before still tells, but after too many calls.
-abbrev pub HeardTold : List Answer → Option Traffic → Option Traffic → Type 0
-HeardTold answers None None = Unit {0}
-HeardTold answers (Some before) None = 2 ^ 62 < before.calls + length answers
-HeardTold answers None (Some after) = ⊥
-HeardTold answers (Some before) (Some after) = TakesAnswers answers before after
+abbrev pub HeardThroughout : List Answer → Option Traffic → Option Traffic → Type 0
+HeardThroughout answers None None = Unit {0}
+HeardThroughout answers (Some before) None = 2 ^ 62 < before.calls + length answers
+HeardThroughout answers None (Some after) = ⊥
+HeardThroughout answers (Some before) (Some after) = TakesAnswers answers before after
 
-abbrev pub Heard : Known Traffic → Known Traffic → List Answer → Type 0
-Heard before after answers = HeardTold answers before.told after.told
+abbrev pub LinkHeard : Known Traffic → Known Traffic → List Answer → Type 0
+LinkHeard before after answers = HeardThroughout answers before.contents after.contents

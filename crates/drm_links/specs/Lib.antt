@@ -1,4 +1,4 @@
-pub mod Told
+pub mod Known
 pub mod Source
 pub mod Sink
 pub mod Shelf

@@ -63,8 +63,8 @@ one_less None = None
 one_less (Some n) = Some (n - 1)
 
 -- What is told of sends is told of datagrams of at most this many bytes. No datagram of a server is longer.
-abbrev pub longest_told : ℕ
-longest_told = 32780
+abbrev pub longest_kept : ℕ
+longest_kept = 32780
 
 -- A send of such a datagram fails exactly where no send is taken any more; a longer one may also fail elsewhere. One
 -- that is taken is appended to those gone, with how long the link has rested since the last; a failed one isn't. How many
@@ -77,7 +77,7 @@ LinkSends send.Sent bytes before after =
     × (after.waiting ≡ 0)
     × (after.sends ≡ one_less before.sends)
 LinkSends send.Failed bytes before after =
-    (length bytes ≤ longest_told → before.sends ≡ Some 0)
+    (length bytes ≤ longest_kept → before.sends ≡ Some 0)
     × (after.gone ≡ before.gone)
     × (after.waits ≡ before.waits)
     × (after.waiting ≡ before.waiting)

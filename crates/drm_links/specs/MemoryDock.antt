@@ -5,10 +5,10 @@ use Rattle.std.specs.Ordering.{nat_cmp}
 use Rattle.std.specs.Cmp.Lexicographic.{slice_cmp}
 use Rattle.std.specs.FinMap as map
 use Rattle.std.specs.Coded.{Coded, code_by, coded×, coded_ℕ, coded_list}
-use Rattle.drm_links.specs.Told.{Known, one_more, told_for}
+use Rattle.drm_links.specs.Known.{Known, one_more, contents_for}
 use Rattle.drm_links.specs.Link.{Traffic, rests_of}
 use Rattle.drm_links.specs.Dock.{DockContents, LinkStart, address_key}
-use Rattle.drm_links.specs.MemoryLink.{LinkState, IsUntouched, traffic_of, link_known}
+use Rattle.drm_links.specs.MemoryLink.{LinkState, IsUntouchedLink, traffic_of, link_known}
 use Rattle.drm_links.specs.declared.dock.Address.{Address}
 use Rattle.drm_links.specs.declared.dock.Opened.{Opened}
 use Rattle.drm_links.specs.declared.dock.Opened.TheVariants.{Link, Failed}
@@ -87,14 +87,14 @@ abbrev pub starts_of : map.FinMap (slice_cmp nat_cmp) LinkState → map.FinMap (
 starts_of links = map.from_entries (list.map (λ entry. (entry.0, start_of entry.1)) (map.entries links))
 
 -- this of a link that was closed at this address, if it still told, beside what is kept of others
-abbrev pub with_told : {X : Type 0} → (Traffic → X) → Option Traffic → List ℕ → map.FinMap (slice_cmp nat_cmp) X → map.FinMap (slice_cmp nat_cmp) X
-with_told what None key kept = kept
-with_told what (Some traffic) key kept = map.insert kept key (what traffic)
+abbrev pub with_known : {X : Type 0} → (Traffic → X) → Option Traffic → List ℕ → map.FinMap (slice_cmp nat_cmp) X → map.FinMap (slice_cmp nat_cmp) X
+with_known what None key kept = kept
+with_known what (Some traffic) key kept = map.insert kept key (what traffic)
 
 -- this of the links that were closed and still told, the last one at an address
 abbrev pub kept_of : {X : Type 0} → (Traffic → X) → List (List ℕ × LinkState) → map.FinMap (slice_cmp nat_cmp) X
 kept_of what [] = map.empty
-kept_of what (entry ∷ closed) = with_told what (link_known entry.1).told entry.0 (kept_of what closed)
+kept_of what (entry ∷ closed) = with_known what (link_known entry.1).contents entry.0 (kept_of what closed)
 
 abbrev pub contents_of : DockState → DockContents
 contents_of dock =
@@ -110,7 +110,7 @@ contents_of dock =
     }
 
 abbrev pub dock_known : DockState → Known DockContents
-dock_known dock = record { faults = dock.faults; told = told_for dock.calls (contents_of dock) }
+dock_known dock = record { faults = dock.faults; contents = contents_for dock.calls (contents_of dock) }
 
 -- ---- its links
 
@@ -138,7 +138,7 @@ abbrev pub LeavesDock : Opened LinkState → Address → DockState → DockState
 LeavesDock (Link link) at before after =
     (Contains before.failing before.openings → ⊥)
     × (link_at before at ≡ Some link)
-    × IsUntouched link
+    × IsUntouchedLink link
     × (after ≡ record before { openings = one_more before.openings; links = map.remove before.links (address_key at); calls = one_more before.calls })
 LeavesDock Failed at before after =
     (Contains before.failing before.openings ⊎ IsNone (link_at before at))

@@ -2,8 +2,8 @@
 use Rattle.std.specs.Prelude.{ℕ, ◌≡◌, ◌+◌, ◌-◌, ◌*◌, ◌^◌, ◌<◌, ◌≤◌, ◌⊎◌, zero, suc, Bool, List, [], ◌∷◌, ◌++◌, length, map, take, drop, min, max, All, Contains, nat_eq, nat_le, Option, None, Some, if◌then◌else◌}
 use Rattle.std.specs.List.{list_any, filter_map}
 use Rattle.std.specs.Map.{lookup}
-use Rattle.drm_links.specs.Told.{Known, one_more, told_for}
-use Rattle.drm_links.specs.Link.{Answer, Datagram, Idle, Failed, Traffic, datagram_of, longest_told}
+use Rattle.drm_links.specs.Known.{Known, one_more, contents_for}
+use Rattle.drm_links.specs.Link.{Answer, Datagram, Idle, Failed, Traffic, datagram_of, longest_kept}
 use Rattle.drm_links.specs.declared.link.Came.{Came}
 use Rattle.drm_links.specs.declared.link.Came.TheVariants as recv
 use Rattle.drm_links.specs.declared.link.Sent.{Sent}
@@ -110,7 +110,7 @@ traffic_of link =
     }
 
 abbrev pub link_known : LinkState → Known Traffic
-link_known link = record { faults = link.faults; told = told_for link.calls (traffic_of link) }
+link_known link = record { faults = link.faults; contents = contents_for link.calls (traffic_of link) }
 
 -- ---- its calls
 
@@ -140,10 +140,10 @@ abbrev pub MemLinkSends : Sent → List ℕ → LinkState → LinkState → Type
 MemLinkSends send.Sent bytes before after =
     (Contains before.failing before.sends → ⊥)
     × (0 < before.room)
-    × (length bytes ≤ longest_told)
+    × (length bytes ≤ longest_kept)
     × (after ≡ record before { gone = before.gone ++ bytes ∷ []; waits = before.waits ++ before.waiting ∷ []; waiting = 0; room = before.room - 1; sends = one_more before.sends; calls = one_more before.calls })
 MemLinkSends send.Failed bytes before after =
-    (Contains before.failing before.sends ⊎ (before.room ≡ 0) ⊎ (longest_told < length bytes))
+    (Contains before.failing before.sends ⊎ (before.room ≡ 0) ⊎ (longest_kept < length bytes))
     × (after ≡ record before { sends = one_more before.sends; calls = one_more before.calls; faults = one_more before.faults })
 
 -- the longest wait that is counted, in milliseconds: 2 ^ 64 - 1 rests of 2 ^ 32 - 1
@@ -172,7 +172,7 @@ pub record IsCounted (link : LinkState) : Type 0 where
   pub waiting : link.waiting ≤ link.calls * 4294967295
 
 -- No call was made on the link.
-pub record IsUntouched (link : LinkState) : Type 0 where
+pub record IsUntouchedLink (link : LinkState) : Type 0 where
   pub came : link.came ≡ []
   pub gone : link.gone ≡ []
   pub waits : link.waits ≡ []

@@ -6,7 +6,7 @@ use Rattle.std.specs.Cmp.Lexicographic.{slice_cmp}
 use Rattle.std.specs.BTreeMap.{BTreeMap}
 use Rattle.std.specs.FinMap as map
 use Rattle.std.specs.Coded.{Coded, code_by, coded×, coded_ℕ, coded_list}
-use Rattle.drm_links.specs.Told.{Known, one_more, told_for}
+use Rattle.drm_links.specs.Known.{Known, one_more, contents_for}
 use Rattle.drm_links.specs.Shelf.{Files, names_after}
 use Rattle.drm_links.specs.declared.shelf.Loaded.{Loaded}
 use Rattle.drm_links.specs.declared.shelf.Loaded.TheVariants.{Bytes, TooLong, Failed, NoMemory}
@@ -39,11 +39,11 @@ abbrev pub contents_of : ShelfState → Files
 contents_of shelf = record { files = shelf.files; loads = shelf.loads; names = shelf.names; failing = shelf.failing }
 
 abbrev pub shelf_known : ShelfState → Known Files
-shelf_known shelf = record { faults = shelf.faults; told = told_for shelf.loads (contents_of shelf) }
+shelf_known shelf = record { faults = shelf.faults; contents = contents_for shelf.loads (contents_of shelf) }
 
 -- these files, and one of this name in place of any other
 abbrev pub with_file : List ℕ → List ℕ → Files → Files
-with_file name bytes told = record told { files = map.insert told.files name bytes }
+with_file name bytes contents = record contents { files = map.insert contents.files name bytes }
 
 -- the count of faults after a load with this answer: only a failed one is a fault
 abbrev pub faults_after : Loaded → ℕ → ℕ

@@ -1,6 +1,6 @@
 -- A sink in memory.
 use Rattle.std.specs.Prelude.{ℕ, ◌≡◌, ◌-◌, ◌<◌, ◌≤◌, ◌⊎◌, List, ◌++◌, length, take, min, Contains}
-use Rattle.drm_links.specs.Told.{Known, one_more, told_for}
+use Rattle.drm_links.specs.Known.{Known, one_more, contents_for}
 use Rattle.drm_links.specs.Sink.{Output}
 use Rattle.drm_links.specs.declared.sink.WriteOut.{WriteOut}
 use Rattle.drm_links.specs.declared.sink.WriteOut.TheVariants.{Wrote, Failed}
@@ -17,7 +17,7 @@ pub record SinkState : Type 0 where
 
 abbrev pub sink_known : SinkState → Known Output
 sink_known sink =
-    record { faults = sink.faults; told = told_for sink.calls (record { written = sink.written; calls = sink.calls }) }
+    record { faults = sink.faults; contents = contents_for sink.calls (record { written = sink.written; calls = sink.calls }) }
 
 -- A call fails exactly where its number is to fail or no room is left, and then writes nothing. Any other call takes
 -- as many bytes from the front as the piece and the room left allow.

@@ -1,6 +1,6 @@
 -- A source in memory.
 use Rattle.std.specs.Prelude.{ℕ, ◌≡◌, ◌<◌, List, [], ◌++◌, length, take, drop, min, Contains}
-use Rattle.drm_links.specs.Told.{Known, one_more, told_for}
+use Rattle.drm_links.specs.Known.{Known, one_more, contents_for}
 use Rattle.drm_links.specs.Source.{Input}
 use Rattle.drm_links.specs.declared.source.ReadOut.{ReadOut}
 use Rattle.drm_links.specs.declared.source.ReadOut.TheVariants.{Got, End, Failed}
@@ -16,7 +16,7 @@ pub record SourceState : Type 0 where
 
 abbrev pub source_known : SourceState → Known Input
 source_known source =
-    record { faults = source.faults; told = told_for source.calls (record { left = source.left; calls = source.calls }) }
+    record { faults = source.faults; contents = contents_for source.calls (record { left = source.left; calls = source.calls }) }
 
 -- A call fails exactly where its number is to fail, and then takes nothing. Any other call is the end exactly where
 -- no byte is left. Else it gives as many of the next bytes as the buffer, the piece and what is left allow, and the

@@ -1,6 +1,6 @@
 -- What a source tells.
 use Rattle.std.specs.Prelude.{ℕ, ◌≡◌, ◌<◌, ◌≤◌, ◌+◌, List, [], ◌++◌, length, take}
-use Rattle.drm_links.specs.Told.{Known, KnownThrough, last_count}
+use Rattle.drm_links.specs.Known.{Known, KnownThrough, last_count}
 use Rattle.drm_links.specs.declared.source.ReadOut.{ReadOut}
 use Rattle.drm_links.specs.declared.source.ReadOut.TheVariants.{Got, End, Failed}
 
@@ -35,5 +35,5 @@ pub record FewReads (faults faults' : ℕ) (before after : Input) : Type 0 where
 
 -- Where a source tells at the end, it told before, and P holds of the bytes that were left and that are left; it was called no more
 -- often than bytes were taken, but for failed calls and those at its end.
-abbrev pub Inputs : Known Input → Known Input → (List ℕ → List ℕ → Type 0) → Type 0
-Inputs before after P = KnownThrough before after (λ x y. LeftBy P x y × FewReads before.faults after.faults x y)
+abbrev pub InputsBytes : Known Input → Known Input → (List ℕ → List ℕ → Type 0) → Type 0
+InputsBytes before after P = KnownThrough before after (λ x y. LeftBy P x y × FewReads before.faults after.faults x y)

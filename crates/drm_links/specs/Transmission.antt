@@ -1,6 +1,6 @@
 -- What was sent over a link in several calls.
 use Rattle.std.specs.Prelude.{ℕ, ◌≡◌, ◌+◌, ◌-◌, ◌<◌, ◌≤◌, List, [], ◌∷◌, ◌++◌, length, Option, None, Some}
-use Rattle.drm_links.specs.Told.{Known, KnownThrough}
+use Rattle.drm_links.specs.Known.{Known, KnownThrough}
 use Rattle.drm_links.specs.Link.{Traffic, KeepsAnswers}
 
 -- how many sends are left after so many that were taken

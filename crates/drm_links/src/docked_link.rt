@@ -1,9 +1,9 @@
 //! The links of a dock in memory.
 
 ghost use Rattle.std.specs.Prelude.{◌≡◌, [], ◌∷◌, ◌≤◌, Some, length, IfOk, IfErr};
-ghost use Rattle.drm_links.specs.Told.{RisesWhere, HasCause, CountsCall, IfBothKnown};
+ghost use Rattle.drm_links.specs.Known.{RisesWhere, HasCause, CountsCall, IfBothKnown};
 ghost use Rattle.drm_links.specs.Link.{LinkReceives, LinkSends, LinkRests, KeepsAnswers, FitsBuffer};
-ghost use Rattle.drm_links.specs.MemoryLink.{MemLinkReceives, MemLinkSends, IsUntouched, after_rest, link_known};
+ghost use Rattle.drm_links.specs.MemoryLink.{MemLinkReceives, MemLinkSends, IsUntouchedLink, after_rest, link_known};
 
 use crate::{Address, Came, Link, MemLink, Sent};
 use std::alloc::Global;
@@ -12,7 +12,7 @@ use std::marker::Model;
 
 /// A link that was closed, and its address.
 #[derive(Drop)]
-pub struct Closed {
+pub struct ClosedLink {
     pub at: Address,
     pub link: MemLink,
 }
@@ -22,7 +22,7 @@ pub struct Closed {
 #[derive(Drop)]
 pub struct DockedLink {
     link: MemLink,
-    node: LinkedList<Option<Closed>>,
+    node: LinkedList<Option<ClosedLink>>,
 }
 
 impl Model for DockedLink {
@@ -58,14 +58,14 @@ impl DockedLink {
     }
 
     /// The node, which holds the link as one that was closed at this address.
-    pub fn into_closed(self, at: Address) -> LinkedList<Option<Closed>>
+    pub fn into_closed(self, at: Address) -> LinkedList<Option<ClosedLink>>
         ensures { result ≡ Some (record { at = at; link = self }) ∷ [] }
     {
         let DockedLink { link, mut node } = self;
         let Some(place) = node.front_mut() else {
             unreachable!()
         };
-        *place = Some(Closed { at, link });
+        *place = Some(ClosedLink { at, link });
         node
     }
 }
@@ -80,7 +80,7 @@ impl Link for DockedLink {
         ensures exact { MemLinkReceives result buf.old buf.new self.old self.new }
         ensures front { FitsBuffer result buf.new }
         ensures answer { IfBothKnown (link_known self.old) (link_known self.new) (LinkReceives result buf.new) }
-        ensures told { CountsCall (λ traffic. traffic.calls) (link_known self.old) (link_known self.new) }
+        ensures counts_call { CountsCall (λ traffic. traffic.calls) (link_known self.old) (link_known self.new) }
         ensures cause { HasCause (link_known self.old) (link_known self.new) (result ≡ Came.Failed) }
         ensures idle { RisesWhere self.old.idles self.new.idles (result ≡ Came.Idle) }
     {
@@ -91,7 +91,7 @@ impl Link for DockedLink {
         ensures exact { MemLinkSends result bytes.now self.old self.new }
         ensures gone { IfBothKnown (link_known self.old) (link_known self.new) (LinkSends result bytes.now) }
         ensures kept { IfBothKnown (link_known self.old) (link_known self.new) KeepsAnswers }
-        ensures told { CountsCall (λ traffic. traffic.calls) (link_known self.old) (link_known self.new) }
+        ensures counts_call { CountsCall (λ traffic. traffic.calls) (link_known self.old) (link_known self.new) }
         ensures cause { HasCause (link_known self.old) (link_known self.new) (result ≡ Sent.Failed) }
         ensures idle { self.new.idles ≡ self.old.idles }
     {
@@ -101,7 +101,7 @@ impl Link for DockedLink {
     fn rest(&mut self, millis: u32)
         ensures exact { self.new ≡ after_rest millis self.old }
         ensures rested { IfBothKnown (link_known self.old) (link_known self.new) (LinkRests millis) }
-        ensures told { CountsCall (λ traffic. traffic.calls) (link_known self.old) (link_known self.new) }
+        ensures counts_call { CountsCall (λ traffic. traffic.calls) (link_known self.old) (link_known self.new) }
         ensures cause { self.new.faults ≡ self.old.faults }
         ensures idle { self.new.idles ≡ self.old.idles }
     {
@@ -116,18 +116,18 @@ pub struct Standing {
 }
 
 impl Model for Standing {
-    ghost use Rattle.drm_links.specs.MemoryLink.{LinkState, IsUntouched};
+    ghost use Rattle.drm_links.specs.MemoryLink.{LinkState, IsUntouchedLink};
 
     ghost Value = { LinkState };
 
     ghost view = { λ standing. standing.link };
 
-    ghost invariant = { λ standing. IsUntouched standing.link };
+    ghost invariant = { λ standing. IsUntouchedLink standing.link };
 }
 
 impl Standing {
     pub fn make(link: DockedLink) -> Standing
-        requires { IsUntouched link }
+        requires { IsUntouchedLink link }
         ensures { result ≡ link }
     {
         Standing { link }
@@ -135,7 +135,7 @@ impl Standing {
 
     pub fn into_docked(self) -> DockedLink
         ensures same { result ≡ self }
-        ensures untouched { IsUntouched result }
+        ensures untouched { IsUntouchedLink result }
     {
         let Standing { link } = self;
         link

@@ -1,7 +1,7 @@
 //! A link that datagrams come from and go to.
 
 ghost use Rattle.std.specs.Prelude.{ℕ, ◌≡◌, ◌≤◌, Option, length};
-ghost use Rattle.drm_links.specs.Told.{Known, RisesWhere, HasCause, CountsCall, IfBothKnown};
+ghost use Rattle.drm_links.specs.Known.{Known, RisesWhere, HasCause, CountsCall, IfBothKnown};
 ghost use Rattle.drm_links.specs.Link.{Traffic, LinkReceives, LinkSends, LinkRests, KeepsAnswers, FitsBuffer};
 
 /// The most bytes of a datagram.
@@ -38,7 +38,7 @@ pub trait Link: Drop {
         requires { 65536 ≤ length buf.old }
         ensures front { FitsBuffer result buf.new }
         ensures answer { IfBothKnown (known self.old) (known self.new) (LinkReceives result buf.new) }
-        ensures told { CountsCall (λ traffic. traffic.calls) (known self.old) (known self.new) }
+        ensures counts_call { CountsCall (λ traffic. traffic.calls) (known self.old) (known self.new) }
         ensures cause { HasCause (known self.old) (known self.new) (result ≡ Came.Failed) }
         ensures idle { RisesWhere (idles self.old) (idles self.new) (result ≡ Came.Idle) };
 
@@ -46,14 +46,14 @@ pub trait Link: Drop {
     fn send(&mut self, bytes: &[u8]) -> Sent
         ensures gone { IfBothKnown (known self.old) (known self.new) (LinkSends result bytes.now) }
         ensures kept { IfBothKnown (known self.old) (known self.new) KeepsAnswers }
-        ensures told { CountsCall (λ traffic. traffic.calls) (known self.old) (known self.new) }
+        ensures counts_call { CountsCall (λ traffic. traffic.calls) (known self.old) (known self.new) }
         ensures cause { HasCause (known self.old) (known self.new) (result ≡ Sent.Failed) }
         ensures idle { idles self.new ≡ idles self.old };
 
     /// Waits for about this many milliseconds. What comes in that time may be lost.
     fn rest(&mut self, millis: u32)
         ensures rested { IfBothKnown (known self.old) (known self.new) (LinkRests millis) }
-        ensures told { CountsCall (λ traffic. traffic.calls) (known self.old) (known self.new) }
+        ensures counts_call { CountsCall (λ traffic. traffic.calls) (known self.old) (known self.new) }
         ensures cause { (known self.new).faults ≡ (known self.old).faults }
         ensures idle { idles self.new ≡ idles self.old };
 }

@@ -3,12 +3,12 @@
 ghost use Rattle.std.specs.Prelude.{◌≡◌, ◌+◌, ◌^◌, ◌<◌, ◌≤◌, [], ◌∷◌, Some, IsNone, is_some, length, IfOk, IfErr, OnOk, OnErr};
 ghost use Rattle.std.specs.Option.{option_map, option_copied};
 ghost use Rattle.std.specs.FinMap as map;
-ghost use Rattle.drm_links.specs.Told.{HasCause, CountsCall, IfBothKnown, one_more};
+ghost use Rattle.drm_links.specs.Known.{HasCause, CountsCall, IfBothKnown, one_more};
 ghost use Rattle.drm_links.specs.Dock.{DockBinds, DockReaches, DockCloses, IsFresh, IsFailed, address_key};
-ghost use Rattle.drm_links.specs.MemoryLink.{IsUntouched};
+ghost use Rattle.drm_links.specs.MemoryLink.{IsUntouchedLink};
 ghost use Rattle.drm_links.specs.MemoryDock.{LeavesDock, reached, after_close, link_at, closed_at, dock_known, start_of, with_start};
 
-use crate::docked_link::{Closed, DockedLink, Standing};
+use crate::docked_link::{ClosedLink, DockedLink, Standing};
 use crate::failing::is_listed;
 use crate::{Address, Dock, Link, MemLink, Opened};
 use drm_bits::NoMemory;
@@ -26,7 +26,7 @@ pub enum PutFault {
 #[derive(Drop)]
 pub struct MemDock {
     links: BTreeMap<[u16; 5], Standing>,
-    closed: LinkedList<Option<Closed>>,
+    closed: LinkedList<Option<ClosedLink>>,
     failing: Vec<u64>,
     openings: u64,
     reaches: u64,
@@ -90,7 +90,7 @@ impl MemDock {
           calls = 0;
           faults = 0;
         }) }
-        ensures tells { IfOk result (λ dock. (⟦<MemDock as Dock>⟧.known dock).told
+        ensures tells { IfOk result (λ dock. (⟦<MemDock as Dock>⟧.known dock).contents
             ≡ Some (record {
               openings = 0;
               reaches = 0;
@@ -116,12 +116,12 @@ impl MemDock {
 
     /// Puts a link, on which no call was made, at an address where none stands.
     pub fn put(&mut self, alloc: Global, at: Address, link: MemLink) -> Result<(), PutFault>
-        requires untouched { IsUntouched link }
+        requires untouched { IsUntouchedLink link }
         requires vacant { IsNone (link_at self.old at) }
         ensures put { OnOk result (self.new
             ≡ record self.old { links = map.insert self.old.links (address_key at) link }) }
-        ensures tells { OnOk result ((dock_known self.new).told
-            ≡ option_map (with_start at (start_of link)) (dock_known self.old).told) }
+        ensures tells { OnOk result ((dock_known self.new).contents
+            ≡ option_map (with_start at (start_of link)) (dock_known self.old).contents) }
         ensures returned { IfErr result (λ fault. fault ≡ PutFault.NoMemory link) }
         ensures unchanged { OnErr result (self.new ≡ self.old) }
     {
@@ -208,7 +208,7 @@ impl Dock for MemDock {
         ensures fresh { IsFresh ⟦<DockedLink as Link>⟧.known ⟦<DockedLink as Link>⟧.idles result }
         ensures opened { IfBothKnown (dock_known self.old) (dock_known self.new)
             (DockBinds ⟦<DockedLink as Link>⟧.known at result) }
-        ensures told { CountsCall (λ contents. contents.calls) (dock_known self.old) (dock_known self.new) }
+        ensures counts_call { CountsCall (λ contents. contents.calls) (dock_known self.old) (dock_known self.new) }
         ensures cause { HasCause (dock_known self.old) (dock_known self.new) (IsFailed result) }
     {
         self.counted();
@@ -220,7 +220,7 @@ impl Dock for MemDock {
         ensures fresh { IsFresh ⟦<DockedLink as Link>⟧.known ⟦<DockedLink as Link>⟧.idles result }
         ensures opened { IfBothKnown (dock_known self.old) (dock_known self.new)
             (DockReaches ⟦<DockedLink as Link>⟧.known at result) }
-        ensures told { CountsCall (λ contents. contents.calls) (dock_known self.old) (dock_known self.new) }
+        ensures counts_call { CountsCall (λ contents. contents.calls) (dock_known self.old) (dock_known self.new) }
         ensures cause { HasCause (dock_known self.old) (dock_known self.new) (IsFailed result) }
     {
         self.counted();
@@ -232,8 +232,8 @@ impl Dock for MemDock {
     fn close(&mut self, at: Address, link: DockedLink)
         ensures exact { length self.old.closed + 1 < 2 ^ 63 → self.new ≡ after_close at link self.old }
         ensures gone { IfBothKnown (dock_known self.old) (dock_known self.new)
-            (DockCloses (⟦<DockedLink as Link>⟧.known link).told at) }
-        ensures told { CountsCall (λ contents. contents.calls) (dock_known self.old) (dock_known self.new) }
+            (DockCloses (⟦<DockedLink as Link>⟧.known link).contents at) }
+        ensures counts_call { CountsCall (λ contents. contents.calls) (dock_known self.old) (dock_known self.new) }
         ensures cause { self.new.faults ≡ self.old.faults }
     {
         self.calls = self.calls.saturating_add(1);

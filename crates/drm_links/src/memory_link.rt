@@ -1,13 +1,13 @@
 //! A link in memory.
 
 ghost use Rattle.std.specs.Prelude.{◌≡◌, ◌<◌, ◌≤◌, ◌++◌, [], ◌∷◌, Some, length, slice_get, slice_index_or, vec_len, IfOk, OnOk, OnErr, MatchOption};
-ghost use Rattle.drm_links.specs.Told.{RisesWhere, HasCause, CountsCall, IfBothKnown};
+ghost use Rattle.drm_links.specs.Known.{RisesWhere, HasCause, CountsCall, IfBothKnown};
 ghost use Rattle.drm_links.specs.Link.{LinkReceives, LinkSends, LinkRests, KeepsAnswers, FitsBuffer};
 ghost use Rattle.drm_links.specs.MemoryLink.{LinkState, MemLinkReceives, MemLinkSends, BringsDatagram, IsCounted, longest_brought, answers_ahead, taken_from, after_rest, link_known};
 
 use crate::failing::is_listed;
 use crate::front::fill_front;
-use crate::room::{LONGEST_KEPT, Room};
+use crate::kept_datagram::{KeptDatagram, LONGEST_KEPT};
 use crate::{Came, Link, Sent};
 use drm_bits::{NoMemory, Octets};
 use std::alloc::Global;
@@ -16,7 +16,7 @@ use std::marker::Model;
 
 // A datagram that came, and the number of the recv at which it came.
 #[derive(Drop)]
-struct Heard {
+struct LinkHeard {
     recv: u64,
     bytes: Octets,
 }
@@ -28,14 +28,14 @@ const LONGEST_WAIT: u128 = 79_228_162_495_817_593_515_539_431_425;
 /// fails or is idle where told.
 #[derive(Drop)]
 pub struct MemLink {
-    came: Vec<Heard>,
+    came: Vec<LinkHeard>,
     coming: VecDeque<Octets>,
     failing: Vec<u64>,
     idling: Vec<u64>,
-    gone: Vec<Room>,
+    gone: Vec<KeptDatagram>,
     waits: Vec<u128>,
     waiting: u128,
-    rooms: Vec<Room>,
+    spare: Vec<KeptDatagram>,
     recvs: u64,
     sends: u64,
     calls: u64,
@@ -58,7 +58,7 @@ impl Model for MemLink {
       gone = link.gone.items;
       waits = link.waits.items;
       waiting = link.waiting;
-      room = vec_len link.rooms;
+      room = vec_len link.spare;
       recvs = link.recvs;
       sends = link.sends;
       calls = link.calls;
@@ -67,8 +67,8 @@ impl Model for MemLink {
     } };
 
     ghost invariant = { λ link. (vec_len link.came + deque_len link.coming ≤ vec_capacity link.came)
-        × (vec_len link.gone + vec_len link.rooms ≤ vec_capacity link.gone)
-        × (vec_len link.waits + vec_len link.rooms ≤ vec_capacity link.waits)
+        × (vec_len link.gone + vec_len link.spare ≤ vec_capacity link.gone)
+        × (vec_len link.waits + vec_len link.spare ≤ vec_capacity link.waits)
         × (link.waiting ≤ link.calls * 4294967295)
         × All (λ bytes. length bytes ≤ longest_brought) link.coming.items
         × (link.recvs ≤ link.calls)
@@ -101,7 +101,7 @@ impl MemLink {
           faults = 0;
           idles = 0;
         }) }
-        ensures tells { IfOk result (λ link. (⟦<MemLink as Link>⟧.known link).told ≡ Some (record {
+        ensures tells { IfOk result (λ link. (⟦<MemLink as Link>⟧.known link).contents ≡ Some (record {
           answers = [];
           ahead = answers_ahead fail.now idle.now 0 [];
           gone = [];
@@ -121,7 +121,7 @@ impl MemLink {
             gone: Vec::with_capacity(alloc, sends)?,
             waits: Vec::with_capacity(alloc, sends)?,
             waiting: 0,
-            rooms: make_rooms(alloc, sends)?,
+            spare: make_spare(alloc, sends)?,
             recvs: 0,
             sends: 0,
             calls: 0,
@@ -195,7 +195,7 @@ impl MemLink {
         };
         let length = bytes.as_slice().len();
         fill_front(buf, bytes.as_slice());
-        let Ok(()) = self.came.push(Heard { recv: call, bytes }) else {
+        let Ok(()) = self.came.push(LinkHeard { recv: call, bytes }) else {
             unreachable!()
         };
         Came::Datagram(length)
@@ -218,11 +218,11 @@ impl MemLink {
         let call = self.sends;
         self.sends = call.saturating_add(1);
         self.calls = self.calls.saturating_add(1);
-        if bytes.len() > LONGEST_KEPT || self.rooms.is_empty() || is_listed(&self.failing, call) {
+        if bytes.len() > LONGEST_KEPT || self.spare.is_empty() || is_listed(&self.failing, call) {
             self.faults = self.faults.saturating_add(1);
             return Sent::Failed;
         }
-        let Some(mut room) = self.rooms.pop() else {
+        let Some(mut room) = self.spare.pop() else {
             unreachable!()
         };
         room.fill(bytes);
@@ -238,17 +238,17 @@ impl MemLink {
 }
 
 // Room for so many datagrams.
-fn make_rooms(alloc: Global, count: usize) -> Result<Vec<Room>, NoMemory>
-    ensures { IfOk result (λ rooms. vec_len rooms ≡ count) }
+fn make_spare(alloc: Global, count: usize) -> Result<Vec<KeptDatagram>, NoMemory>
+    ensures { IfOk result (λ spare. vec_len spare ≡ count) }
 {
-    let mut rooms = Vec::with_capacity(alloc, count)?;
+    let mut spare = Vec::with_capacity(alloc, count)?;
     for _ in 0..count {
-        let room = Room::make(alloc)?;
-        let Ok(()) = rooms.push(room) else {
+        let room = KeptDatagram::make(alloc)?;
+        let Ok(()) = spare.push(room) else {
             return Err(NoMemory);
         };
     }
-    Ok(rooms)
+    Ok(spare)
 }
 
 impl Link for MemLink {
@@ -261,7 +261,7 @@ impl Link for MemLink {
         ensures exact { MemLinkReceives result buf.old buf.new self.old self.new }
         ensures front { FitsBuffer result buf.new }
         ensures answer { IfBothKnown (link_known self.old) (link_known self.new) (LinkReceives result buf.new) }
-        ensures told { CountsCall (λ traffic. traffic.calls) (link_known self.old) (link_known self.new) }
+        ensures counts_call { CountsCall (λ traffic. traffic.calls) (link_known self.old) (link_known self.new) }
         ensures cause { HasCause (link_known self.old) (link_known self.new) (result ≡ Came.Failed) }
         ensures idle { RisesWhere self.old.idles self.new.idles (result ≡ Came.Idle) }
     {
@@ -273,7 +273,7 @@ impl Link for MemLink {
         ensures exact { MemLinkSends result bytes.now self.old self.new }
         ensures gone { IfBothKnown (link_known self.old) (link_known self.new) (LinkSends result bytes.now) }
         ensures kept { IfBothKnown (link_known self.old) (link_known self.new) KeepsAnswers }
-        ensures told { CountsCall (λ traffic. traffic.calls) (link_known self.old) (link_known self.new) }
+        ensures counts_call { CountsCall (λ traffic. traffic.calls) (link_known self.old) (link_known self.new) }
         ensures cause { HasCause (link_known self.old) (link_known self.new) (result ≡ Sent.Failed) }
         ensures idle { self.new.idles ≡ self.old.idles }
     {
@@ -284,7 +284,7 @@ impl Link for MemLink {
     fn rest(&mut self, millis: u32)
         ensures exact { self.new ≡ after_rest millis self.old }
         ensures rested { IfBothKnown (link_known self.old) (link_known self.new) (LinkRests millis) }
-        ensures told { CountsCall (λ traffic. traffic.calls) (link_known self.old) (link_known self.new) }
+        ensures counts_call { CountsCall (λ traffic. traffic.calls) (link_known self.old) (link_known self.new) }
         ensures cause { self.new.faults ≡ self.old.faults }
         ensures idle { self.new.idles ≡ self.old.idles }
     {

@@ -3,8 +3,8 @@
 ghost use Rattle.std.specs.Prelude.{◌≡◌, ◌++◌, ◌∷◌, [], Some, IfOk, OnOk, OnErr};
 ghost use Rattle.std.specs.Option.{option_map, option_copied};
 ghost use Rattle.std.specs.FinMap as map;
-ghost use Rattle.drm_links.specs.Told.{HasCause, CountsCall, IfBothKnown};
-ghost use Rattle.drm_links.specs.Shelf.{LoadGives, ShelfLoads, KeepsFiles, IsWithin};
+ghost use Rattle.drm_links.specs.Known.{HasCause, CountsCall, IfBothKnown};
+ghost use Rattle.drm_links.specs.Shelf.{LoadGives, ShelfLoads, KeepsFiles, IsFileWithin};
 ghost use Rattle.drm_links.specs.MemoryShelf.{contents_of, shelf_known, with_file, shelf_after};
 
 use crate::failing::is_listed;
@@ -45,7 +45,7 @@ impl MemShelf {
     pub fn make(alloc: Global, fail: &[u64]) -> Result<MemShelf, NoMemory>
         ensures made { IfOk result (λ shelf. shelf
             ≡ record { files = map.empty; failing = fail.now; loads = 0; names = []; faults = 0 }) }
-        ensures tells { IfOk result (λ shelf. (⟦<MemShelf as Shelf>⟧.known shelf).told
+        ensures tells { IfOk result (λ shelf. (⟦<MemShelf as Shelf>⟧.known shelf).contents
             ≡ Some (record { files = map.empty; loads = 0; names = []; failing = fail.now })) }
         ensures faults { IfOk result (λ shelf. (⟦<MemShelf as Shelf>⟧.known shelf).faults ≡ 0) }
     {
@@ -62,8 +62,8 @@ impl MemShelf {
     pub fn add(&mut self, alloc: Global, name: &str, bytes: &[u8]) -> Result<(), NoMemory>
         ensures added { OnOk result (self.new
             ≡ record self.old { files = map.insert self.old.files name.now bytes.now }) }
-        ensures tells { OnOk result ((⟦<MemShelf as Shelf>⟧.known self.new).told
-            ≡ option_map (with_file name.now bytes.now) (⟦<MemShelf as Shelf>⟧.known self.old).told) }
+        ensures tells { OnOk result ((⟦<MemShelf as Shelf>⟧.known self.new).contents
+            ≡ option_map (with_file name.now bytes.now) (⟦<MemShelf as Shelf>⟧.known self.old).contents) }
         ensures unchanged { OnErr result (self.new ≡ self.old) }
     {
         let name = String::from_str(alloc, name)?;
@@ -111,11 +111,11 @@ impl Shelf for MemShelf {
     fn load(&mut self, alloc: Global, name: &str, limit: usize) -> Loaded
         ensures loads { ShelfLoads result name.now limit (contents_of self.old) }
         ensures exact { self.new ≡ shelf_after result name.now self.old }
-        ensures within { IsWithin result limit }
+        ensures within { IsFileWithin result limit }
         ensures file { IfBothKnown (shelf_known self.old) (shelf_known self.new)
             (λ before _. ShelfLoads result name.now limit before) }
         ensures kept { IfBothKnown (shelf_known self.old) (shelf_known self.new) (KeepsFiles result name.now) }
-        ensures told { CountsCall (λ files. files.loads) (shelf_known self.old) (shelf_known self.new) }
+        ensures counts_call { CountsCall (λ files. files.loads) (shelf_known self.old) (shelf_known self.new) }
         ensures cause { HasCause (shelf_known self.old) (shelf_known self.new) (result ≡ Loaded.Failed) }
     {
         let loaded = self.next_load(alloc, name, limit);

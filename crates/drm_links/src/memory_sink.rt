@@ -1,7 +1,7 @@
 //! A sink in memory.
 
 ghost use Rattle.std.specs.Prelude.{◌≡◌, ◌<◌, [], Some, length, IfOk};
-ghost use Rattle.drm_links.specs.Told.{HasCause, CountsCall, IfBothKnown};
+ghost use Rattle.drm_links.specs.Known.{HasCause, CountsCall, IfBothKnown};
 ghost use Rattle.drm_links.specs.Sink.{WritesSome, SinkAppends};
 ghost use Rattle.drm_links.specs.MemorySink.{sink_known, MemSinkWrites};
 
@@ -55,7 +55,7 @@ impl MemSink {
           calls = 0;
           faults = 0;
         }) }
-        ensures tells { IfOk result (λ sink. (⟦<MemSink as Sink>⟧.known sink).told
+        ensures tells { IfOk result (λ sink. (⟦<MemSink as Sink>⟧.known sink).contents
             ≡ Some (record { written = []; calls = 0 })) }
         ensures faults { IfOk result (λ sink. (⟦<MemSink as Sink>⟧.known sink).faults ≡ 0) }
     {
@@ -85,7 +85,7 @@ impl Sink for MemSink {
         ensures exact { MemSinkWrites result bytes.now self.old self.new }
         ensures moves_bytes { WritesSome result bytes.now }
         ensures appended { IfBothKnown (sink_known self.old) (sink_known self.new) (SinkAppends result bytes.now) }
-        ensures told { CountsCall (λ output. output.calls) (sink_known self.old) (sink_known self.new) }
+        ensures counts_call { CountsCall (λ output. output.calls) (sink_known self.old) (sink_known self.new) }
         ensures cause { HasCause (sink_known self.old) (sink_known self.new) (result ≡ WriteOut.Failed) }
     {
         let call = self.calls;

@@ -1,7 +1,7 @@
 //! A source in memory.
 
 ghost use Rattle.std.specs.Prelude.{◌≡◌, ◌<◌, Some, length, IfOk};
-ghost use Rattle.drm_links.specs.Told.{HasCause, CountsCall, IfBothKnown};
+ghost use Rattle.drm_links.specs.Known.{HasCause, CountsCall, IfBothKnown};
 ghost use Rattle.drm_links.specs.Source.{ReadsSome, SourceTakes};
 ghost use Rattle.drm_links.specs.MemorySource.{source_known, MemSourceReads};
 
@@ -56,7 +56,7 @@ impl MemSource {
           calls = 0;
           faults = 0;
         }) }
-        ensures tells { IfOk result (λ source. (⟦<MemSource as Source>⟧.known source).told
+        ensures tells { IfOk result (λ source. (⟦<MemSource as Source>⟧.known source).contents
             ≡ Some (record { left = bytes.now; calls = 0 })) }
         ensures faults { IfOk result (λ source. (⟦<MemSource as Source>⟧.known source).faults ≡ 0) }
     {
@@ -79,7 +79,7 @@ impl Source for MemSource {
         ensures exact { MemSourceReads result buf.old buf.new self.old self.new }
         ensures moves_bytes { ReadsSome result buf.old }
         ensures bytes { IfBothKnown (source_known self.old) (source_known self.new) (SourceTakes result buf.new) }
-        ensures told { CountsCall (λ input. input.calls) (source_known self.old) (source_known self.new) }
+        ensures counts_call { CountsCall (λ input. input.calls) (source_known self.old) (source_known self.new) }
         ensures cause { HasCause (source_known self.old) (source_known self.new) (result ≡ ReadOut.Failed) }
     {
         let call = self.calls;

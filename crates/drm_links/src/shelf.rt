@@ -1,8 +1,8 @@
 //! Named files.
 
 ghost use Rattle.std.specs.Prelude.{ℕ, ◌≡◌, Option};
-ghost use Rattle.drm_links.specs.Told.{Known, HasCause, CountsCall, IfBothKnown};
-ghost use Rattle.drm_links.specs.Shelf.{Files, ShelfLoads, KeepsFiles, IsWithin};
+ghost use Rattle.drm_links.specs.Known.{Known, HasCause, CountsCall, IfBothKnown};
+ghost use Rattle.drm_links.specs.Shelf.{Files, ShelfLoads, KeepsFiles, IsFileWithin};
 
 use drm_bits::Octets;
 use std::alloc::Global;
@@ -23,10 +23,10 @@ pub trait Shelf {
 
     /// The file of this name, if it has at most `limit` bytes.
     fn load(&mut self, alloc: Global, name: &str, limit: usize) -> Loaded
-        ensures within { IsWithin result limit }
+        ensures within { IsFileWithin result limit }
         ensures file { IfBothKnown (known self.old) (known self.new)
             (λ before _. ShelfLoads result name.now limit before) }
         ensures kept { IfBothKnown (known self.old) (known self.new) (KeepsFiles result name.now) }
-        ensures told { CountsCall (λ files. files.loads) (known self.old) (known self.new) }
+        ensures counts_call { CountsCall (λ files. files.loads) (known self.old) (known self.new) }
         ensures cause { HasCause (known self.old) (known self.new) (result ≡ Loaded.Failed) };
 }

@@ -1,7 +1,7 @@
 //! Where bytes are written to.
 
 ghost use Rattle.std.specs.Prelude.{ℕ, ◌≡◌, ◌<◌, Option, length};
-ghost use Rattle.drm_links.specs.Told.{Known, HasCause, CountsCall, IfBothKnown};
+ghost use Rattle.drm_links.specs.Known.{Known, HasCause, CountsCall, IfBothKnown};
 ghost use Rattle.drm_links.specs.Sink.{Output, WritesSome, SinkAppends};
 
 #[derive(Clone, Copy, Debug, PartialEq, Eq)]
@@ -25,6 +25,6 @@ pub trait Sink {
         requires { 0 < length bytes.now }
         ensures moves_bytes { WritesSome result bytes.now }
         ensures appended { IfBothKnown (known self.old) (known self.new) (SinkAppends result bytes.now) }
-        ensures told { CountsCall (λ output. output.calls) (known self.old) (known self.new) }
+        ensures counts_call { CountsCall (λ output. output.calls) (known self.old) (known self.new) }
         ensures cause { HasCause (known self.old) (known self.new) (result ≡ WriteOut.Failed) };
 }

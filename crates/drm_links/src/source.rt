@@ -1,7 +1,7 @@
 //! Where bytes are read from.
 
 ghost use Rattle.std.specs.Prelude.{ℕ, ◌≡◌, ◌<◌, Option, length};
-ghost use Rattle.drm_links.specs.Told.{Known, HasCause, CountsCall, IfBothKnown};
+ghost use Rattle.drm_links.specs.Known.{Known, HasCause, CountsCall, IfBothKnown};
 ghost use Rattle.drm_links.specs.Source.{Input, ReadsSome, SourceTakes};
 
 #[derive(Clone, Copy, Debug, PartialEq, Eq)]
@@ -23,6 +23,6 @@ pub trait Source {
         requires { 0 < length buf.old }
         ensures moves_bytes { ReadsSome result buf.old }
         ensures bytes { IfBothKnown (known self.old) (known self.new) (SourceTakes result buf.new) }
-        ensures told { CountsCall (λ input. input.calls) (known self.old) (known self.new) }
+        ensures counts_call { CountsCall (λ input. input.calls) (known self.old) (known self.new) }
         ensures cause { HasCause (known self.old) (known self.new) (result ≡ ReadOut.Failed) };
 }

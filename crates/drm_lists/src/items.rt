@@ -8,11 +8,11 @@ use std::marker::Model;
 
 /// A list of values.
 #[derive(Drop)]
-pub struct Items<T> {
+pub struct OwnedList<T> {
     items: Vec<T>,
 }
 
-impl<T> Model for Items<T> {
+impl<T> Model for OwnedList<T> {
     ghost use Rattle.std.specs.Prelude.{List};
 
     ghost Value = { List T };
@@ -20,16 +20,16 @@ impl<T> Model for Items<T> {
     ghost view = { λ s. s.items.items };
 }
 
-impl<T: Drop> Items<T> {
+impl<T: Drop> OwnedList<T> {
     ghost use Rattle.std.specs.Borrow.{sem};
-    ghost use Rattle.drm_lists.specs.Items.{lends_item};
+    ghost use Rattle.drm_lists.specs.OwnedList.{lends_item};
 
     /// No value.
-    pub fn new(alloc: Global) -> Items<T>
+    pub fn new(alloc: Global) -> OwnedList<T>
         ensures { result ≡ [] }
     {
         let items = Vec::new(alloc);
-        Items { items }
+        OwnedList { items }
     }
 
     /// Whether there is no value.

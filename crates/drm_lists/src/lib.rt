@@ -3,4 +3,4 @@
 
 mod items;
 
-pub use items::Items;
+pub use items::OwnedList;

@@ -1,7 +1,7 @@
 -- The value of an `sdci` item as a whole: how it is spelled, and that it has one description.
 use Rattle.std.proofs.Common.{◌≡◌, ℕ, ◌+◌, ◌*◌, Bool, List, length, drop, sym, ◌∙◌, ap, arith, length-append}
 use Rattle.drm_bits.specs.Bits.{digits, bits_of}
-use Rattle.drm_bits.specs.Fields.{Fit, spelled}
+use Rattle.drm_bits.specs.Fields.{AllFit, spelled}
 use Rattle.drm_bits.specs.Description.{IsDescription, FitsWidths, description_fields, description_from}
 use Rattle.drm_bits.specs.declared.description.MuxDesc.{MuxDesc}
 use Rattle.drm_bits.proofs.BitsLemmas.{length-digits, length-bits_of}
@@ -9,7 +9,7 @@ use Rattle.drm_bits.proofs.FieldLemmas.{spelled_fields}
 use Rattle.drm_bits.proofs.PartLemmas.{description_again, description_fit, length-description}
 use Rattle.drm_mux.specs.Sdci.{sdci_fields, IsSdci}
 
-pub sdci_fit : (d : MuxDesc) → IsDescription d → FitsWidths d → Fit (sdci_fields d)
+pub sdci_fit : (d : MuxDesc) → IsDescription d → FitsWidths d → AllFit (sdci_fields d)
 sdci_fit d is fits = (omega arith, description_fit d is fits)
 
 pub length-sdci : (d : MuxDesc) → IsDescription d → length (spelled (sdci_fields d)) ≡ 8 * (1 + 3 * d.count)

@@ -1,12 +1,12 @@
 -- The value of an `sdci` item (TS 102 820).
 use Rattle.std.specs.Prelude.{ℕ, ◌≡◌, ◌+◌, ◌*◌, ◌≤◌, List, ◌∷◌, take}
 use Rattle.drm_bits.specs.Bits.{value, bits_of}
-use Rattle.drm_bits.specs.Fields.{Field, field, AreFields}
+use Rattle.drm_bits.specs.Fields.{BitField, field, AreFields}
 use Rattle.drm_bits.specs.Description.{IsDescription, description_fields}
 use Rattle.drm_bits.specs.declared.description.MuxDesc.{MuxDesc}
 
 -- four zero bits, and the fields of the description
-abbrev pub sdci_fields : MuxDesc → List Field
+abbrev pub sdci_fields : MuxDesc → List BitField
 sdci_fields d = field 4 0 ∷ description_fields d
 
 -- The bytes are the value for this description.

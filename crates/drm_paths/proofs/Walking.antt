@@ -4,7 +4,7 @@ use Rattle.std.specs.List.{AllByRecursion}
 use Rattle.std.proofs.lemmas.List.{append-nil, take-append-le, take_all}
 use Rattle.std.proofs.lemmas.List.Elements.{filter_map-append}
 use Rattle.drm_links.specs.Link.{Answer, Datagram, Idle, Failed, datagram_of}
-use Rattle.recv_reading.specs.Ending.{datagrams, idles, IsSound}
+use Rattle.recv_reading.specs.Ending.{datagrams, idles, HasNotFailed}
 use Rattle.std.proofs.Math.Nat.{mul-le-mul_right}
 use Rattle.recv_reading.proofs.Going.{one_longer, one_turn}
 use Rattle.recv_reading.proofs.Going.{idles_more}
@@ -12,44 +12,44 @@ use Rattle.drm_paths.specs.declared.run.PathOptions.{PathOptions}
 use Rattle.drm_paths.specs.declared.run.PathEnded.{PathEnded}
 use Rattle.drm_paths.specs.declared.run.PathEnded.TheVariants as why
 use Rattle.drm_paths.specs.State.{bytes_in, most_bytes}
-use Rattle.drm_paths.specs.Reading.{most_answers, AreReasonable, PathEndHolds, IsOpen, GoesOn, ReadsPath}
+use Rattle.drm_paths.specs.Reading.{most_answers, AreReasonable, PathEndHolds, IsPathOpen, PathGoesOn, ReadsPath}
 
-goes_none : (options : PathOptions) → GoesOn options []
+goes_none : (options : PathOptions) → PathGoesOn options []
 goes_none options = record { sound = tt; shorter = λ k l. absurd (omega arith) }
 
-answers_more : (xs : List Answer) (x : Answer) → AllByRecursion IsSound xs → IsSound x → AllByRecursion IsSound (xs ++ x ∷ [])
+answers_more : (xs : List Answer) (x : Answer) → AllByRecursion HasNotFailed xs → HasNotFailed x → AllByRecursion HasNotFailed (xs ++ x ∷ [])
 answers_more [] x all one = (one, tt)
 answers_more (y ∷ xs) x all one = (all.0, answers_more xs x all.1 one)
 
 le_cases : (k n : ℕ) → k < n + 1 → (k < n) ⊎ (k ≡ n)
 le_cases k n l = grind arith
 
-shorter_more : (options : PathOptions) (xs : List Answer) (x : Answer) → ((k : ℕ) → k < length xs → IsOpen options (take k xs)) → IsOpen options xs → (k : ℕ) → (k < length xs) ⊎ (k ≡ length xs) → IsOpen options (take k (xs ++ x ∷ []))
+shorter_more : (options : PathOptions) (xs : List Answer) (x : Answer) → ((k : ℕ) → k < length xs → IsPathOpen options (take k xs)) → IsPathOpen options xs → (k : ℕ) → (k < length xs) ⊎ (k ≡ length xs) → IsPathOpen options (take k (xs ++ x ∷ []))
 shorter_more options xs x shorter now k (inl l) =
     let w : k ≤ length xs = omega arith in
-    subst (λ ys. IsOpen options ys) (sym (take-append-le k xs (x ∷ []) w)) (shorter k l)
+    subst (λ ys. IsPathOpen options ys) (sym (take-append-le k xs (x ∷ []) w)) (shorter k l)
 shorter_more options xs x shorter now k (inr e) =
     let w : k ≤ length xs = omega arith in
-    subst (λ ys. IsOpen options ys) (sym (take-append-le k xs (x ∷ []) w ∙ take_all k xs (omega arith))) now
+    subst (λ ys. IsPathOpen options ys) (sym (take-append-le k xs (x ∷ []) w ∙ take_all k xs (omega arith))) now
 
-goes_more : (options : PathOptions) (xs : List Answer) (x : Answer) → GoesOn options xs → IsOpen options xs → IsSound x → GoesOn options (xs ++ x ∷ [])
+goes_more : (options : PathOptions) (xs : List Answer) (x : Answer) → PathGoesOn options xs → IsPathOpen options xs → HasNotFailed x → PathGoesOn options (xs ++ x ∷ [])
 goes_more options xs x goes now one = record {
   sound = answers_more xs x goes.sound one;
   shorter = λ k l. shorter_more options xs x goes.shorter now k (le_cases k (length xs) (let n : length (xs ++ x ∷ []) ≡ length xs + 1 = simp length-append (omega arith) in omega (arith, n, l)));
 }
 
-pub came_more : (xs : List Answer) (bytes : List ℕ) → datagrams (xs ++ Datagram bytes ∷ []) ≡ datagrams xs ++ bytes ∷ []
-came_more xs bytes = filter_map-append datagram_of xs (Datagram bytes ∷ [])
+pub datagrams-push : (xs : List Answer) (bytes : List ℕ) → datagrams (xs ++ Datagram bytes ∷ []) ≡ datagrams xs ++ bytes ∷ []
+datagrams-push xs bytes = filter_map-append datagram_of xs (Datagram bytes ∷ [])
 
-came_idle : (xs : List Answer) → datagrams (xs ++ Idle ∷ []) ≡ datagrams xs
-came_idle xs = filter_map-append datagram_of xs (Idle ∷ []) ∙ append-nil (datagrams xs)
+datagrams-push_idle : (xs : List Answer) → datagrams (xs ++ Idle ∷ []) ≡ datagrams xs
+datagrams-push_idle xs = filter_map-append datagram_of xs (Idle ∷ []) ∙ append-nil (datagrams xs)
 
 -- ---- what the loop keeps: a path doesn't end yet
 
 pub record Reaches (options : PathOptions) (hears : List Answer → Type 0) (ds : List (List ℕ)) (taken idled : ℕ) : Type 0 where
   pub answers : List Answer
   pub heard : hears answers
-  pub goes_on : GoesOn options answers
+  pub goes_on : PathGoesOn options answers
   pub are : ds ≡ datagrams answers
   pub many : length ds ≡ taken
   pub more : taken < options.limit
@@ -108,7 +108,7 @@ module _ (options : PathOptions) (hears hears' : List Answer → Type 0) (ds : L
       let turns : (taken + 1) * options.idle ≤ options.limit * options.idle = mul-le-mul_right options.idle (omega (arith, more)) in
       omega (arith, turns, in_turns x)
 
-  is_open : IsOpen options r.answers
+  is_open : IsPathOpen options r.answers
   is_open = by_ended
 
   -- the link failed
@@ -130,11 +130,11 @@ module _ (options : PathOptions) (hears hears' : List Answer → Type 0) (ds : L
       ends = (r.answers, bytes, refl, r.goes_on, is_open, same ∙ r.are);
     }
 
-    next_on : GoesOn options (r.answers ++ Datagram bytes ∷ [])
+    next_on : PathGoesOn options (r.answers ++ Datagram bytes ∷ [])
     next_on = goes_more options r.answers (Datagram bytes) r.goes_on is_open tt
 
     next_are : (es : List (List ℕ)) → es ≡ ds ++ bytes ∷ [] → es ≡ datagrams (r.answers ++ Datagram bytes ∷ [])
-    next_are es same = same ∙ ap (λ l. l ++ bytes ∷ []) r.are ∙ sym (came_more r.answers bytes)
+    next_are es same = same ∙ ap (λ l. l ++ bytes ∷ []) r.are ∙ sym (datagrams-push r.answers bytes)
 
     next_many : (es : List (List ℕ)) → es ≡ ds ++ bytes ∷ [] → length es ≡ taken + 1
     next_many es same =
@@ -187,11 +187,11 @@ module _ (options : PathOptions) (hears hears' : List Answer → Type 0) (ds : L
         not_more n m l = grind arith
 
   module _ (more : (xs : List Answer) → hears xs → hears' (xs ++ Idle ∷ [])) where
-    idle_on : GoesOn options (r.answers ++ Idle ∷ [])
+    idle_on : PathGoesOn options (r.answers ++ Idle ∷ [])
     idle_on = goes_more options r.answers Idle r.goes_on is_open tt
 
     idle_are : ds ≡ datagrams (r.answers ++ Idle ∷ [])
-    idle_are = r.are ∙ sym (came_idle r.answers)
+    idle_are = r.are ∙ sym (datagrams-push_idle r.answers)
 
     idle_many : idles (r.answers ++ Idle ∷ []) ≡ idled + 1
     idle_many =
@@ -200,8 +200,8 @@ module _ (options : PathOptions) (hears hears' : List Answer → Type 0) (ds : L
         omega (arith, e, i)
 
     not_full : PathEndHolds options (r.answers ++ Idle ∷ []) why.Limit → ⊥
-    not_full (inl e) = by_ended why.Limit (inl (ap length (sym (came_idle r.answers)) ∙ e))
-    not_full (inr l) = by_ended why.Limit (inr (let b : bytes_in (datagrams (r.answers ++ Idle ∷ [])) ≡ bytes_in (datagrams r.answers) = ap bytes_in (came_idle r.answers) in omega (arith, b, l)))
+    not_full (inl e) = by_ended why.Limit (inl (ap length (sym (datagrams-push_idle r.answers)) ∙ e))
+    not_full (inr l) = by_ended why.Limit (inr (let b : bytes_in (datagrams (r.answers ++ Idle ∷ [])) ≡ bytes_in (datagrams r.answers) = ap bytes_in (datagrams-push_idle r.answers) in omega (arith, b, l)))
 
     -- it was the last one
     pub on_last_idle : idled + 1 ≡ options.idle → ReadsPath options hears' ds why.Idle

@@ -2,7 +2,7 @@
 use Rattle.std.specs.Prelude.{ℕ, ◌≡◌, ◌+◌, ◌*◌, ◌<◌, ◌≤◌, ◌⊎◌, List, [], ◌∷◌, ◌++◌, length, take}
 use Rattle.std.specs.List.{AllByRecursion}
 use Rattle.drm_links.specs.Link.{Answer, Datagram, Failed}
-use Rattle.recv_reading.specs.Ending.{datagrams, idles, IsSound}
+use Rattle.recv_reading.specs.Ending.{datagrams, idles, HasNotFailed}
 use Rattle.drm_paths.specs.declared.run.PathOptions.{PathOptions}
 use Rattle.drm_paths.specs.declared.run.PathEnded.{PathEnded}
 use Rattle.drm_paths.specs.declared.run.PathEnded.TheVariants.{Idle, Limit, LinkFailed, NoMemory}
@@ -21,24 +21,24 @@ PathEndHolds options answers Limit = (length (datagrams answers) ≡ options.lim
 PathEndHolds options answers LinkFailed = ⊥
 PathEndHolds options answers NoMemory = ⊥
 
-abbrev pub IsOpen : PathOptions → List Answer → Type 0
-IsOpen options answers = (why : PathEnded) → PathEndHolds options answers why → ⊥
+abbrev pub IsPathOpen : PathOptions → List Answer → Type 0
+IsPathOpen options answers = (why : PathEnded) → PathEndHolds options answers why → ⊥
 
 -- Nothing failed, and after nothing shorter than these answers a path ends.
-pub record GoesOn (options : PathOptions) (answers : List Answer) : Type 0 where
-  pub sound : AllByRecursion IsSound answers
-  pub shorter : (k : ℕ) → k < length answers → IsOpen options (take k answers)
+pub record PathGoesOn (options : PathOptions) (answers : List Answer) : Type 0 where
+  pub sound : AllByRecursion HasNotFailed answers
+  pub shorter : (k : ℕ) → k < length answers → IsPathOpen options (take k answers)
 
 -- After these answers, and after nothing shorter, a path ends so: it took all datagrams among them, but for want of memory the
 -- last one.
 abbrev pub PathEnds : PathOptions → List Answer → List (List ℕ) → PathEnded → Type 0
 PathEnds options answers taken Idle =
-    GoesOn options answers × PathEndHolds options answers Idle × (PathEndHolds options answers Limit → ⊥) × (taken ≡ datagrams answers)
-PathEnds options answers taken Limit = GoesOn options answers × PathEndHolds options answers Limit × (taken ≡ datagrams answers)
+    PathGoesOn options answers × PathEndHolds options answers Idle × (PathEndHolds options answers Limit → ⊥) × (taken ≡ datagrams answers)
+PathEnds options answers taken Limit = PathGoesOn options answers × PathEndHolds options answers Limit × (taken ≡ datagrams answers)
 PathEnds options answers taken LinkFailed =
-    (before : List Answer) × (answers ≡ before ++ Failed ∷ []) × GoesOn options before × IsOpen options before × (taken ≡ datagrams before)
+    (before : List Answer) × (answers ≡ before ++ Failed ∷ []) × PathGoesOn options before × IsPathOpen options before × (taken ≡ datagrams before)
 PathEnds options answers taken NoMemory =
-    (before : List Answer) × (last : List ℕ) × (answers ≡ before ++ Datagram last ∷ []) × GoesOn options before × IsOpen options before
+    (before : List Answer) × (last : List ℕ) × (answers ≡ before ++ Datagram last ∷ []) × PathGoesOn options before × IsPathOpen options before
     × (taken ≡ datagrams before)
 
 -- so many answers are read at the most

@@ -29,14 +29,14 @@ impl<G: Road> Model for Book<G> {
 
     ghost view = { λ b. book_state b.journal b.total.total };
 
-    ghost invariant = { λ b. (b.journal.settings ≡ settings_of G.window G.reach G.first G.frames)
+    ghost invariant = { λ b. (b.journal.options ≡ settings_of G.window G.reach G.first G.frames)
         × (length b.journal.entries ≡ b.total.total) × AreNumbered G.parts b.journal.entries };
 }
 
 impl<G: Road> Book<G> {
     // A book with a new journal.
     pub(crate) fn new(journal: Journal, total: Total<G>) -> Book<G>
-        requires settings { journal.settings ≡ settings_of G.window G.reach G.first G.frames }
+        requires options { journal.options ≡ settings_of G.window G.reach G.first G.frames }
         requires counted { length journal.entries ≡ total.total }
         requires numbered { AreNumbered G.parts journal.entries }
         ensures { result.journal ≡ journal }
@@ -78,7 +78,7 @@ impl<G: Road> Book<G> {
     /// what its type says; or a front of that, where it has stopped.
     pub fn keeps_its_report(&self)
         ensures kept { IsKept self.now.journal }
-        ensures settings { self.now.journal.settings ≡ settings_of G.window G.reach G.first G.frames }
+        ensures options { self.now.journal.options ≡ settings_of G.window G.reach G.first G.frames }
         ensures counted { length self.now.journal.entries ≡ self.now.total }
         ensures numbered { AreNumbered G.parts self.now.journal.entries }
     {

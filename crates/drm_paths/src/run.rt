@@ -1,8 +1,8 @@
 //! A path over its link.
 
 ghost use Rattle.std.specs.Prelude.{◌≡◌, ◌+◌, ◌<◌, ◌≤◌, ◌⊎◌, ◌↔◌, IsTrue, [], length};
-ghost use Rattle.drm_links.specs.Told.{HasCause};
-ghost use Rattle.drm_links.specs.Hearing.{Heard};
+ghost use Rattle.drm_links.specs.Known.{HasCause};
+ghost use Rattle.drm_links.specs.Hearing.{LinkHeard};
 ghost use Rattle.drm_paths.specs.State.{most_bytes};
 ghost use Rattle.drm_paths.specs.Reading.{AreReasonable, ReadsPath};
 
@@ -58,7 +58,7 @@ pub fn run_path<R: Wait, G: Road, L: Link>(
     requires new { path.old.taken ≡ [] }
     requires options { AreReasonable options.now }
     requires buffer { length buffer.old ≡ 65536 }
-    ensures read { ReadsPath options.now (Heard (L.known link.old) (L.known link.new)) path.new.taken result }
+    ensures read { ReadsPath options.now (LinkHeard (L.known link.old) (L.known link.new)) path.new.taken result }
     ensures number { path.new.number ≡ path.old.number }
     ensures parts { path.new.parts ≡ path.old.parts }
     ensures cause { HasCause (L.known link.old) (L.known link.new) (result ≡ PathEnded.LinkFailed) }

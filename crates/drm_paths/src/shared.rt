@@ -7,8 +7,8 @@ ghost use Rattle.drm_paths.specs.declared.shared.Given.{Given};
 
 use crate::{Book, Path, Road};
 use drm_bits::NoMemory;
-use drm_lists::Items;
-use report_journal::{Event, Journal, Settings};
+use drm_lists::OwnedList;
+use report_journal::{Event, Journal, JournalOptions};
 use std::alloc::Global;
 use std::sync::ledger::Blank;
 use std::sync::{Mutex, Wait};
@@ -56,24 +56,24 @@ impl<G: Road> Path<G> {
 }
 
 /// The paths of a run, in the order of their numbers.
-pub type Paths<G> = Items<Path<G>>;
+pub type Paths<G> = OwnedList<Path<G>>;
 
 /// Opens a book and its paths, numbered from 0.
 pub fn open_paths<G: Road>(
     alloc: Global,
     blank: Blank,
-    settings: Settings,
+    options: JournalOptions,
     paths: u8,
 ) -> Result<(Shared<G>, Paths<G>), NoMemory>
     requires blank { (blank.name ≡ G.name) × (blank.parts ≡ G.parts) × (G.parts ≡ paths) }
-    requires settings { settings ≡ settings_of G.window G.reach G.first G.frames }
-    requires range { AreInRange settings }
+    requires options { options ≡ settings_of G.window G.reach G.first G.frames }
+    requires range { AreInRange options }
     ensures same_count { IfOk result (λ r. length r.1 ≡ paths) }
     ensures new { IfOk result (λ r. (k : ℕ) (d : _) → k < paths → slice_index_or r.1 k d ≡ new_path k) }
 {
-    let journal = Journal::make(alloc, settings)?;
+    let journal = Journal::make(alloc, options)?;
     let (total, mut all) = blank.open::<G>();
-    let mut list = Items::new(alloc);
+    let mut list = OwnedList::new(alloc);
     for number in 0..paths {
         let share = all.split_off(1, 0);
         list.push(Path::new(alloc, number, share))?;

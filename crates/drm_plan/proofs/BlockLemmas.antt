@@ -9,16 +9,16 @@ use Rattle.plan_grammar.specs.declared.line.Line.{Line}
 use Rattle.plan_grammar.specs.declared.line.Line.TheVariants as lines
 use Rattle.plan_grammar.specs.declared.first_word.Keyword.TheVariants as keywords
 use Rattle.plan_grammar.specs.Said.{keyword_said, LineInLines}
-use Rattle.plan_rules.specs.declared.said.Said.{Said}
-use Rattle.plan_rules.specs.Said.{count}
+use Rattle.plan_rules.specs.declared.said.ParsedLine.{ParsedLine}
+use Rattle.plan_rules.specs.ParsedLine.{count}
 use Rattle.plan_rules.specs.Rules.{count_with}
 use Rattle.plan_rules.specs.InLines.{AllInLines, AreFew}
 use Rattle.plan_rules.proofs.KeywordLemmas.{entity_is_one, entity_is_no_block}
 use Rattle.drm_plan.specs.Projection.{entities_until, timed_in}
-use Rattle.drm_plan.specs.Parts.{into_last, before_first}
+use Rattle.drm_plan.specs.ConfigParts.{into_last, before_first}
 
 -- what stands before the first block line
-pub until_append : (said more : List Said) → entities_until (said ++ more) ≡ before_first (timed_in said) (entities_until said) (entities_until more)
+pub until_append : (said more : List ParsedLine) → entities_until (said ++ more) ≡ before_first (timed_in said) (entities_until said) (entities_until more)
 until_append [] more = refl
 until_append (s ∷ said) more = by s.line s.says (until_append said more)
   where
@@ -39,7 +39,7 @@ begun from [] entities later = refl
 begun from (b ∷ blocks) entities later = refl
 
 -- the blocks: what stands before the first of the later ones goes into the last of the earlier ones
-pub timed_append : (said more : List Said) → timed_in (said ++ more) ≡ into_last (entities_until more) (timed_in said) ++ timed_in more
+pub timed_append : (said more : List ParsedLine) → timed_in (said ++ more) ≡ into_last (entities_until more) (timed_in said) ++ timed_in more
 timed_append [] more = refl
 timed_append (s ∷ said) more = by s.line s.says (timed_append said more)
   where
@@ -69,7 +69,7 @@ none_before (b ∷ blocks) entities = refl
 -- ---- what lines can give
 
 -- behind each line stand at most 64 entities of one block
-pub few_until : (n : ℕ) (said : List Said) → AreFew n said → length (entities_until said) + n ≤ 64
+pub few_until : (n : ℕ) (said : List ParsedLine) → AreFew n said → length (entities_until said) + n ≤ 64
 few_until n [] few = omega (arith, few)
 few_until n (s ∷ said) few = by s.line s.says (λ (k : ℕ) (rest : AreFew k said). few_until k said rest) few.0 few.1
   where
@@ -80,7 +80,7 @@ few_until n (s ∷ said) few = by s.line s.says (λ (k : ℕ) (rest : AreFew k s
         omega (arith, again (n + 1) rest)
     by m _ again here more = again n more
 
-pub all_until : (said : List Said) → AllInLines said → All EntityInLines (entities_until said)
+pub all_until : (said : List ParsedLine) → AllInLines said → All EntityInLines (entities_until said)
 all_until [] fits = All-nil EntityInLines
 all_until (s ∷ said) fits = by s.line s.says (All-head (λ x. LineInLines x.says) s said fits) (all_until said (All-tail (λ x. LineInLines x.says) s said fits))
   where
@@ -89,7 +89,7 @@ all_until (s ∷ said) fits = by s.line s.says (All-head (λ x. LineInLines x.sa
     by m (lines.Entity e) here more = All-cons EntityInLines e (entities_until said) here more
     by m _ here more = more
 
-pub timed_fit : (n : ℕ) (said : List Said) → AllInLines said → AreFew n said → All TimedInLines (timed_in said)
+pub timed_fit : (n : ℕ) (said : List ParsedLine) → AllInLines said → AreFew n said → All TimedInLines (timed_in said)
 timed_fit n [] fits few = All-nil TimedInLines
 timed_fit n (s ∷ said) fits few =
     by s.line s.says (λ (k : ℕ) (few : AreFew k said). timed_fit k said (All-tail (λ x. LineInLines x.says) s said fits) few)
@@ -106,7 +106,7 @@ timed_fit n (s ∷ said) fits few =
     by m (lines.Entity e) again here more = again (count_with n (keyword_said (lines.Entity e))) more
     by m _ again here more = again n more
 
-pub timed_counted : (said : List Said) → length (timed_in said) ≡ count keywords.Block said
+pub timed_counted : (said : List ParsedLine) → length (timed_in said) ≡ count keywords.Block said
 timed_counted [] = refl
 timed_counted (s ∷ said) = by s.line s.says (timed_counted said)
   where

@@ -8,7 +8,7 @@ use Rattle.drm_schedule.specs.declared.stream.Content.TheVariants.{Fill, File}
 use Rattle.drm_schedule.specs.declared.stream.Stream.{Stream}
 use Rattle.drm_schedule.specs.declared.plan.Plan.{Plan}
 use Rattle.drm_schedule.specs.Ranges.{ContentInLines, StreamInLines, ConfigInLines, InLines}
-use Rattle.drm_plan.specs.declared.files.Filed.{Filed}
+use Rattle.drm_plan.specs.declared.files.FileRef.{FileRef}
 use Rattle.drm_plan.specs.Files.{filled, filled_stream, filled_config, with_file}
 use Rattle.drm_plan.specs.Lookup.{changed}
 
@@ -56,7 +56,7 @@ config_fits j bytes c fits =
     with_streams c (filled_config j bytes c).streams (changed_length (filled_stream bytes) j c.streams)
     (changed_all StreamInLines (filled_stream bytes) (stream_fits bytes) j c.streams fits.each_stream) fits
 
-pub with_file_fits : (file : Filed) (bytes : List ℕ) (plan : Plan) → InLines plan → InLines (with_file file bytes plan)
+pub with_file_fits : (file : FileRef) (bytes : List ℕ) (plan : Plan) → InLines plan → InLines (with_file file bytes plan)
 with_file_fits file bytes plan fits =
     let same = changed_length (filled_config file.stream bytes) file.config plan.configs in
     record {

@@ -5,12 +5,12 @@ use Rattle.std.proofs.lemmas.List.Elements.{filter_map-append}
 use Rattle.drm_schedule.specs.declared.config.Config.{Config}
 use Rattle.plan_grammar.specs.declared.line.Line.{Line}
 use Rattle.plan_grammar.specs.declared.line.Line.TheVariants as lines
-use Rattle.plan_rules.specs.declared.said.Said.{Said}
-use Rattle.plan_rules.specs.declared.said.Block.{Block}
-use Rattle.drm_plan.specs.declared.configs.Parts.{Parts}
+use Rattle.plan_rules.specs.declared.said.ParsedLine.{ParsedLine}
+use Rattle.plan_rules.specs.declared.said.ConfigLines.{ConfigLines}
+use Rattle.drm_plan.specs.declared.configs.ConfigParts.{ConfigParts}
 use Rattle.drm_plan.specs.Files.{stream_files, config_files}
-use Rattle.drm_plan.specs.Parts.{no_parts, parts_of, into_last, before_first, more, more_by}
-use Rattle.drm_plan.specs.Lists.{lists_of, with_block}
+use Rattle.drm_plan.specs.ConfigParts.{no_parts, parts_of, into_last, before_first, more, more_by}
+use Rattle.drm_plan.specs.ConfigTable.{lists_of, with_block}
 use Rattle.drm_plan.specs.Projection.{service_said, stream_said, stream_line, block_line, config_of, places_of}
 use Rattle.drm_plan.proofs.BlockLemmas.{until_append, timed_append, none_into, none_before}
 
@@ -19,7 +19,7 @@ append_nil [] = refl
 append_nil (x ∷ xs) = ap (λ l. x ∷ l) (append_nil xs)
 
 -- the lists of lines, and then of one more
-abbrev both_parts : Parts → Parts → Parts
+abbrev both_parts : ConfigParts → ConfigParts → ConfigParts
 both_parts parts one = record {
   services = parts.services ++ one.services;
   streams = parts.streams ++ one.streams;
@@ -29,11 +29,11 @@ both_parts parts one = record {
   block_lines = parts.block_lines ++ one.block_lines;
 }
 
-appended : (said : List Said) (s : Said) → parts_of (said ++ s ∷ []) ≡ both_parts (parts_of said) (parts_of (s ∷ []))
+appended : (said : List ParsedLine) (s : ParsedLine) → parts_of (said ++ s ∷ []) ≡ both_parts (parts_of said) (parts_of (s ∷ []))
 appended said s =
     rw (
-      filter_map-append (λ (x : Said). service_said x.says) said (s ∷ []),
-      filter_map-append (λ (x : Said). stream_said x.says) said (s ∷ []),
+      filter_map-append (λ (x : ParsedLine). service_said x.says) said (s ∷ []),
+      filter_map-append (λ (x : ParsedLine). stream_said x.says) said (s ∷ []),
       filter_map-append stream_line said (s ∷ []),
       filter_map-append block_line said (s ∷ []),
       until_append said (s ∷ []),
@@ -41,7 +41,7 @@ appended said s =
     ) refl
 
 -- of none of these there is one more
-none_more : (parts : Parts) → both_parts parts no_parts ≡ parts
+none_more : (parts : ConfigParts) → both_parts parts no_parts ≡ parts
 none_more parts =
     rw (
       append_nil parts.services,
@@ -53,7 +53,7 @@ none_more parts =
       append_nil parts.blocks,
     ) refl
 
-by_kind : (parts : Parts) (n : ℕ) (l : Line) → both_parts parts (parts_of (record { line = n; says = l } ∷ [])) ≡ more_by parts n l
+by_kind : (parts : ConfigParts) (n : ℕ) (l : Line) → both_parts parts (parts_of (record { line = n; says = l } ∷ [])) ≡ more_by parts n l
 by_kind parts n (lines.Service service) =
     rw (append_nil parts.streams, append_nil parts.stream_lines, append_nil parts.block_lines, none_before parts.blocks parts.entities, none_into parts.blocks, append_nil parts.blocks) refl
 by_kind parts n (lines.Stream stream) =
@@ -70,7 +70,7 @@ by_kind parts n (lines.Entity entity) =
     ) refl
 by_kind parts n _ = none_more parts
 
-pub one_more : (said : List Said) (s : Said) → parts_of (said ++ s ∷ []) ≡ more (parts_of said) s
+pub one_more : (said : List ParsedLine) (s : ParsedLine) → parts_of (said ++ s ∷ []) ≡ more (parts_of said) s
 one_more said s = appended said s ∙ by_kind (parts_of said) s.line s.says
 
 files_more : (i : ℕ) (configs : List Config) (config : Config) → config_files i (configs ++ config ∷ []) ≡ config_files i configs ++ stream_files (i + length configs) 0 config.streams
@@ -82,7 +82,7 @@ files_more i (c ∷ configs) config =
     ap (λ l. stream_files i 0 c.streams ++ l) (files_more (i + 1) configs config ∙ ap (λ k. config_files (i + 1) configs ++ stream_files k 0 config.streams) step)
     ∙ sym (append_assoc (stream_files i 0 c.streams) (config_files (i + 1) configs) (stream_files (i + suc (length configs)) 0 config.streams))
 
-pub one_config_more : (blocks : List Block) (b : Block) → lists_of (blocks ++ b ∷ []) ≡ with_block (lists_of blocks) b
+pub one_config_more : (blocks : List ConfigLines) (b : ConfigLines) → lists_of (blocks ++ b ∷ []) ≡ with_block (lists_of blocks) b
 one_config_more blocks b =
     let from_zero : 0 + length (map config_of blocks) ≡ length (map config_of blocks) = omega arith in
     rw (map_push config_of blocks b, map_push places_of blocks b, files_more 0 (map config_of blocks) (config_of b), from_zero) refl

@@ -16,10 +16,10 @@ use Rattle.plan_grammar.specs.declared.first_word.Keyword.{Keyword}
 use Rattle.plan_grammar.specs.declared.first_word.Keyword.TheVariants as keywords
 use Rattle.plan_grammar.specs.Said.{keyword_of_body, keyword_said, LineInLines}
 use Rattle.plan_grammar.specs.Same.{same}
-use Rattle.plan_rules.specs.declared.said.Said.{Said}
-use Rattle.plan_rules.specs.declared.said.Block.{Block}
-use Rattle.plan_rules.specs.declared.said.Read.{Read}
-use Rattle.plan_rules.specs.Said.{count}
+use Rattle.plan_rules.specs.declared.said.ParsedLine.{ParsedLine}
+use Rattle.plan_rules.specs.declared.said.ConfigLines.{ConfigLines}
+use Rattle.plan_rules.specs.declared.said.ParsedText.{ParsedText}
+use Rattle.plan_rules.specs.ParsedLine.{count}
 use Rattle.plan_rules.specs.Rules.{lacks_a_line}
 use Rattle.drm_plan.specs.Projection.{first_said, content, first_line, occupancy_in, msc_in, prot_a_in, prot_b_in, room_in, clock_in, carry_in, seq_in, dlfc_in, length_in, service_said, stream_said, services_in, streams_in, entities_until, timed_in, or_one, blocks_in, config_of, blocks_of, plan_of}
 use Rattle.plan_rules.proofs.KeywordLemmas.{one, entity_is_no_stream}
@@ -27,7 +27,7 @@ use Rattle.plan_rules.specs.InLines.{AllInLines, AreFew, BlockInLines, EndedInLi
 use Rattle.drm_plan.proofs.BlockLemmas.{few_until, all_until, timed_fit, timed_counted}
 
 -- what the first line of a keyword says is one that a text can have
-first_fits : (k : Keyword) (said : List Said) → AllInLines said → IfSome (first_line k said) LineInLines
+first_fits : (k : Keyword) (said : List ParsedLine) → AllInLines said → IfSome (first_line k said) LineInLines
 first_fits k [] fits = tt
 first_fits k (s ∷ said) fits = by (same (keyword_said s.says) k) (All-head (λ x. LineInLines x.says) s said fits) (first_fits k said (All-tail (λ x. LineInLines x.says) s said fits))
   where
@@ -77,7 +77,7 @@ length_fits (Some (lines.Length x)) fits = fits
 length_fits _ fits = (omega arith, omega arith)
 
 -- what lines list, each by what its line says
-listed : {X : Type 0} (h : Line → Option X) (P : X → Type 0) → ((l : Line) → LineInLines l → IfSome (h l) P) → (said : List Said) → AllInLines said → All P (filter_map (λ s. h s.says) said)
+listed : {X : Type 0} (h : Line → Option X) (P : X → Type 0) → ((l : Line) → LineInLines l → IfSome (h l) P) → (said : List ParsedLine) → AllInLines said → All P (filter_map (λ s. h s.says) said)
 listed {X = X} h P each [] fits = All-nil P
 listed {X = X} h P each (s ∷ said) fits = by (h s.says) (each s.says (All-head (λ x. LineInLines x.says) s said fits)) (listed h P each said (All-tail (λ x. LineInLines x.says) s said fits))
   where
@@ -93,7 +93,7 @@ stream_listed : (l : Line) → LineInLines l → IfSome (stream_said l) StreamIn
 stream_listed (lines.Stream stream) fits = fits
 stream_listed _ fits = tt
 
-counted : {X : Type 0} (h : Line → Option X) (test : Line → Bool) → ((l : Line) → length (option_to_list (h l)) ≡ one (test l)) → (said : List Said) → length (filter_map (λ s. h s.says) said) ≡ length (filter (λ s. test s.says) said)
+counted : {X : Type 0} (h : Line → Option X) (test : Line → Bool) → ((l : Line) → length (option_to_list (h l)) ≡ one (test l)) → (said : List ParsedLine) → length (filter_map (λ s. h s.says) said) ≡ length (filter (λ s. test s.says) said)
 counted {X = X} h test each [] = refl
 counted {X = X} h test each (s ∷ said) = by (h s.says) (test s.says) (each s.says) (counted h test each said)
   where
@@ -118,10 +118,10 @@ stream_one (lines.Stream stream) = refl
 stream_one (lines.Entity entity) = sym (ap one (entity_is_no_stream entity.body))
 stream_one _ = refl
 
-services_counted : (said : List Said) → length (services_in said) ≡ count keywords.Service said
+services_counted : (said : List ParsedLine) → length (services_in said) ≡ count keywords.Service said
 services_counted said = counted service_said (λ l. same (keyword_said l) keywords.Service) service_one said
 
-streams_counted : (said : List Said) → length (streams_in said) ≡ count keywords.Stream said
+streams_counted : (said : List ParsedLine) → length (streams_in said) ≡ count keywords.Stream said
 streams_counted said = counted stream_said (λ l. same (keyword_said l) keywords.Stream) stream_one said
 
 -- the last two of nine
@@ -137,18 +137,18 @@ last_two false false true d e f g h i none = absurd cc
 last_two false true c d e f g h i none = absurd cc
 last_two true b c d e f g h i none = absurd cc
 
-some_of : (keyword : Keyword) (said : List Said) → eqb (count keyword said) 0 ≡ false → 1 ≤ count keyword said
+some_of : (keyword : Keyword) (said : List ParsedLine) → eqb (count keyword said) 0 ≡ false → 1 ≤ count keyword said
 some_of keyword said e = by (count keyword said) e
   where
     by : (n : ℕ) → eqb n 0 ≡ false → 1 ≤ n
     by zero e = absurd cc
     by (suc n) e = omega arith
 
-record HasBoth (said : List Said) : Type 0 where
+record HasBoth (said : List ParsedLine) : Type 0 where
   service : 1 ≤ count keywords.Service said
   stream : 1 ≤ count keywords.Stream said
 
-has_both : (said : List Said) → lacks_a_line said ≡ false → HasBoth said
+has_both : (said : List ParsedLine) → lacks_a_line said ≡ false → HasBoth said
 unfolding lacks_a_line
 has_both said e =
     let lacks = λ (k : Keyword). count k said == 0 in
@@ -161,7 +161,7 @@ record BlocksFit (blocks : List Timed) : Type 0 where
   few : length blocks ≤ 64
   each : All TimedInLines blocks
 
-blocks_fit : (said : List Said) → AllInLines said → AreFew 0 said → count keywords.Block said ≤ 64 → BlocksFit (blocks_in said)
+blocks_fit : (said : List ParsedLine) → AllInLines said → AreFew 0 said → count keywords.Block said ≤ 64 → BlocksFit (blocks_in said)
 blocks_fit said fits few count_few = by (timed_in said) (timed_fit 0 said fits few) (timed_counted said)
   where
     by : (blocks : List Timed) → All TimedInLines blocks → length blocks ≡ count keywords.Block said → BlocksFit (or_one (entities_until said) blocks)
@@ -173,7 +173,7 @@ blocks_fit said fits few count_few = by (timed_in said) (timed_fit 0 said fits f
     }
     by (b ∷ blocks) each is = record { some = omega arith; few = omega (arith, is, count_few); each = each }
 
-config_fits : (b : Block) → BlockInLines b → lacks_a_line b.lines ≡ false → ConfigInLines (config_of b)
+config_fits : (b : ConfigLines) → BlockInLines b → lacks_a_line b.lines ≡ false → ConfigInLines (config_of b)
 config_fits b fits whole =
     let both = has_both b.lines whole in
     let found = λ (k : Keyword). first_fits k b.lines fits.each_line in
@@ -197,21 +197,21 @@ config_fits b fits whole =
       each_block = blocks.each;
     }
 
-configs_fit : (blocks : List Block) → All EndedInLines blocks → All ConfigInLines (map config_of blocks)
+configs_fit : (blocks : List ConfigLines) → All EndedInLines blocks → All ConfigInLines (map config_of blocks)
 configs_fit [] fit = All-nil ConfigInLines
 configs_fit (b ∷ blocks) fit =
     let here = All-head EndedInLines b blocks fit in
     All-cons ConfigInLines (config_of b) (map config_of blocks) (config_fits b here.in_lines here.complete) (configs_fit blocks (All-tail EndedInLines b blocks fit))
 
 -- with the last configuration complete
-pub plan_fits : (read : Read) (b : Block) → ReadInLines read → read.current ≡ Some b → lacks_a_line b.lines ≡ false → InLines (plan_of read)
+pub plan_fits : (read : ParsedText) (b : ConfigLines) → ReadInLines read → read.current ≡ Some b → lacks_a_line b.lines ≡ false → InLines (plan_of read)
 plan_fits read b fits current whole =
     let found = λ (k : Keyword). first_fits k read.front fits.front in
-    let last : BlockInLines b = subst (λ (o : Option Block). IfSome o BlockInLines) current fits.current in
-    let blocks : blocks_of read ≡ read.closed ++ b ∷ [] = ap (λ (o : Option Block). read.closed ++ option_to_list o) current in
+    let last : BlockInLines b = subst (λ (o : Option ConfigLines). IfSome o BlockInLines) current fits.current in
+    let blocks : blocks_of read ≡ read.closed ++ b ∷ [] = ap (λ (o : Option ConfigLines). read.closed ++ option_to_list o) current in
     let ended : EndedInLines b = record { in_lines = last; complete = whole } in
     let all : All EndedInLines (blocks_of read) = rw blocks (All-append EndedInLines read.closed (b ∷ []) fits.closed (All-cons EndedInLines b [] ended (All-nil EndedInLines))) in
-    let count : length (map config_of (blocks_of read)) ≡ length read.closed + 1 = length-map (blocks_of read) config_of ∙ ap (λ (l : List Block). length l) blocks ∙ length-append read.closed (b ∷ []) in
+    let count : length (map config_of (blocks_of read)) ≡ length read.closed + 1 = length-map (blocks_of read) config_of ∙ ap (λ (l : List ConfigLines). length l) blocks ∙ length-append read.closed (b ∷ []) in
     let length_is = length_fits (first_line keywords.Length read.front) (found keywords.Length) in
     record {
       carry_fits = carry_fits (first_line keywords.Carry read.front) (found keywords.Carry);

@@ -11,7 +11,7 @@ use Rattle.text_lines.specs.Texts.{longest_text, IsNoText}
 use Rattle.drm_schedule.specs.declared.invalid.Reason.TheVariants.{TooLong, Utf8}
 use Rattle.plan_rules.specs.declared.fault.PlanFault.{PlanFault}
 use Rattle.plan_rules.specs.declared.fault.PlanFault.TheVariants as plan
-use Rattle.plan_rules.specs.declared.said.Read.{Read}
+use Rattle.plan_rules.specs.declared.said.ParsedText.{ParsedText}
 use Rattle.plan_rules.specs.Rules.{said}
 use Rattle.plan_rules.specs.Steps.{FailsAs}
 use Rattle.drm_plan.specs.Projection.{drafted}
@@ -23,7 +23,7 @@ unfolding lines_give
 text_fails plan.NoMemory lines e = tt
 text_fails (plan.Line l r) lines e = rw e refl
 
-pub text_gives : (lines : List (List ℕ)) (read : Read) → said lines ≡ Ok read → lines_give lines ≡ Ok (drafted read)
+pub text_gives : (lines : List (List ℕ)) (read : ParsedText) → said lines ≡ Ok read → lines_give lines ≡ Ok (drafted read)
 unfolding lines_give
 text_gives lines read e = rw e refl
 

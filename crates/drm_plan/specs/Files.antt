@@ -5,24 +5,24 @@ use Rattle.drm_schedule.specs.declared.stream.Content.{Content}
 use Rattle.drm_schedule.specs.declared.stream.Content.TheVariants.{Fill, File}
 use Rattle.drm_schedule.specs.declared.stream.Stream.{Stream}
 use Rattle.drm_schedule.specs.declared.plan.Plan.{Plan}
-use Rattle.drm_plan.specs.declared.files.Filed.{Filed}
+use Rattle.drm_plan.specs.declared.files.FileRef.{FileRef}
 use Rattle.drm_plan.specs.Lookup.{at, changed}
 
 -- this stream, where it takes its bytes from a file
-abbrev pub file_here : ℕ → ℕ → Stream → List Filed
+abbrev pub file_here : ℕ → ℕ → Stream → List FileRef
 file_here i j stream = of stream.content
   where
-    of : Content → List Filed
+    of : Content → List FileRef
     of (Fill byte) = []
     of (File name bytes) = record { config = i; stream = j } ∷ []
 
 -- the files of a configuration's streams, the first of which has number j
-abbrev pub stream_files : ℕ → ℕ → List Stream → List Filed
+abbrev pub stream_files : ℕ → ℕ → List Stream → List FileRef
 stream_files i j [] = []
 stream_files i j (stream ∷ streams) = file_here i j stream ++ stream_files i (j + 1) streams
 
 -- the files of configurations, the first of which has number i
-abbrev pub config_files : ℕ → List Config → List Filed
+abbrev pub config_files : ℕ → List Config → List FileRef
 config_files i [] = []
 config_files i (config ∷ configs) = stream_files i 0 config.streams ++ config_files (i + 1) configs
 
@@ -38,7 +38,7 @@ abbrev pub filled_config : ℕ → List ℕ → Config → Config
 filled_config j bytes config = record config { streams = changed (filled_stream bytes) j config.streams }
 
 -- the plan with the bytes of this file
-abbrev pub with_file : Filed → List ℕ → Plan → Plan
+abbrev pub with_file : FileRef → List ℕ → Plan → Plan
 with_file file bytes plan = record plan { configs = changed (filled_config file.stream bytes) file.config plan.configs }
 
 abbrev pub name_in : Content → List ℕ
@@ -54,7 +54,7 @@ name_of_config j None = []
 name_of_config j (Some config) = name_of_stream (at j config.streams)
 
 -- the name that a stream gives
-abbrev pub name_of : Filed → Plan → List ℕ
+abbrev pub name_of : FileRef → Plan → List ℕ
 name_of file plan = name_of_config file.stream (at file.config plan.configs)
 
 abbrev pub emptied : Content → Content

@@ -1,8 +1,8 @@
 pub mod Projection
 pub mod Settings
-pub mod Parts
+pub mod ConfigParts
 pub mod Files
 pub mod Lookup
 pub mod Draft
-pub mod Lists
+pub mod ConfigTable
 pub mod Text

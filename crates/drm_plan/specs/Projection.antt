@@ -19,32 +19,32 @@ use Rattle.plan_grammar.specs.declared.first_word.Keyword.{Keyword}
 use Rattle.plan_grammar.specs.declared.first_word.Keyword.TheVariants as keywords
 use Rattle.plan_grammar.specs.Same.{same}
 use Rattle.plan_grammar.specs.Said.{keyword_said}
-use Rattle.plan_rules.specs.declared.said.Said.{Said}
-use Rattle.plan_rules.specs.declared.said.Block.{Block}
-use Rattle.plan_rules.specs.declared.said.Read.{Read}
-use Rattle.drm_plan.specs.declared.places.Places.{Places}
-use Rattle.drm_plan.specs.declared.files.Filed.{Filed}
+use Rattle.plan_rules.specs.declared.said.ParsedLine.{ParsedLine}
+use Rattle.plan_rules.specs.declared.said.ConfigLines.{ConfigLines}
+use Rattle.plan_rules.specs.declared.said.ParsedText.{ParsedText}
+use Rattle.drm_plan.specs.declared.places.LineNumbers.{LineNumbers}
+use Rattle.drm_plan.specs.declared.files.FileRef.{FileRef}
 use Rattle.drm_plan.specs.Files.{config_files}
 
 -- the first line of this keyword
-abbrev pub first_said : Keyword → List Said → Option Said
+abbrev pub first_said : Keyword → List ParsedLine → Option ParsedLine
 first_said keyword [] = None
 first_said keyword (s ∷ said) = if same (keyword_said s.says) keyword then Some s else first_said keyword said
 
 -- the number of the first line of this keyword, 0 where there is none
-abbrev pub line_of : Keyword → List Said → ℕ
+abbrev pub line_of : Keyword → List ParsedLine → ℕ
 line_of keyword said = of (first_said keyword said)
   where
-    of : Option Said → ℕ
+    of : Option ParsedLine → ℕ
     of None = 0
     of (Some s) = s.line
 
 -- what it says
-abbrev pub content : Option Said → Option Line
+abbrev pub content : Option ParsedLine → Option Line
 content None = None
 content (Some s) = Some s.says
 
-abbrev pub first_line : Keyword → List Said → Option Line
+abbrev pub first_line : Keyword → List ParsedLine → Option Line
 first_line keyword said = content (first_said keyword said)
 
 -- What the line of a setting says. Where there is none, which a configuration that lacks nothing never shows, it is the
@@ -95,14 +95,14 @@ abbrev pub stream_said : Line → Option Stream
 stream_said (lines.Stream stream) = Some stream
 stream_said _ = None
 
-abbrev pub services_in : List Said → List Service
+abbrev pub services_in : List ParsedLine → List Service
 services_in said = filter_map (λ s. service_said s.says) said
 
-abbrev pub streams_in : List Said → List Stream
+abbrev pub streams_in : List ParsedLine → List Stream
 streams_in said = filter_map (λ s. stream_said s.says) said
 
 -- the entities of the lines up to the next block line
-abbrev pub entities_until : List Said → List Entity
+abbrev pub entities_until : List ParsedLine → List Entity
 entities_until [] = []
 entities_until (s ∷ said) = of s.says (entities_until said)
   where
@@ -112,7 +112,7 @@ entities_until (s ∷ said) = of s.says (entities_until said)
     of _ entities = entities
 
 -- each block line with the entities of the lines behind it
-abbrev pub timed_in : List Said → List Timed
+abbrev pub timed_in : List ParsedLine → List Timed
 timed_in [] = []
 timed_in (s ∷ said) = of s.says (entities_until said) (timed_in said)
   where
@@ -125,29 +125,29 @@ abbrev pub or_one : List Entity → List Timed → List Timed
 or_one entities [] = record { from = 0; entities = entities } ∷ []
 or_one entities (block ∷ blocks) = block ∷ blocks
 
-abbrev pub blocks_in : List Said → List Timed
+abbrev pub blocks_in : List ParsedLine → List Timed
 blocks_in said = or_one (entities_until said) (timed_in said)
 
 -- the numbers of the stream lines
-abbrev pub stream_line : Said → Option ℕ
+abbrev pub stream_line : ParsedLine → Option ℕ
 stream_line s = of s.says
   where
     of : Line → Option ℕ
     of (lines.Stream stream) = Some s.line
     of _ = None
 
-abbrev pub stream_lines_in : List Said → List ℕ
+abbrev pub stream_lines_in : List ParsedLine → List ℕ
 stream_lines_in said = filter_map stream_line said
 
 -- the numbers of the block lines
-abbrev pub block_line : Said → Option ℕ
+abbrev pub block_line : ParsedLine → Option ℕ
 block_line s = of s.says
   where
     of : Line → Option ℕ
     of (lines.Block from) = Some s.line
     of _ = None
 
-abbrev pub block_lines_in : List Said → List ℕ
+abbrev pub block_lines_in : List ParsedLine → List ℕ
 block_lines_in said = filter_map block_line said
 
 -- the config line stands for a block line where there is none
@@ -155,7 +155,7 @@ abbrev pub or_line : ℕ → List ℕ → List ℕ
 or_line n [] = n ∷ []
 or_line n (line ∷ lines) = line ∷ lines
 
-abbrev pub config_of : Block → Config
+abbrev pub config_of : ConfigLines → Config
 config_of block = record {
   start = block.start;
   countdown = block.countdown;
@@ -174,7 +174,7 @@ config_of block = record {
 }
 
 -- the lines of a configuration that a fault can name
-abbrev pub places_of : Block → Places
+abbrev pub places_of : ConfigLines → LineNumbers
 places_of block = record {
   config = block.line;
   occupancy = line_of keywords.Occupancy block.lines;
@@ -184,7 +184,7 @@ places_of block = record {
 }
 
 -- all configurations, in the order of their lines
-abbrev pub blocks_of : Read → List Block
+abbrev pub blocks_of : ParsedText → List ConfigLines
 blocks_of read = read.closed ++ option_to_list read.current
 
 abbrev pub carry_in : Option Line → Carry
@@ -204,7 +204,7 @@ length_in (Some (lines.Length n)) = n
 length_in _ = 1
 
 -- the plan that lines give, its files without their bytes
-abbrev pub plan_of : Read → Plan
+abbrev pub plan_of : ParsedText → Plan
 plan_of read = record {
   carry = carry_in (first_line keywords.Carry read.front);
   seq = seq_in (first_line keywords.First read.front);
@@ -214,10 +214,10 @@ plan_of read = record {
 }
 
 -- a plan, the lines of each of its configurations that a fault can name, and its files in the order of their lines
-pub record Drafted : Type 0 where
+pub record DraftContents : Type 0 where
   pub plan : Plan
-  pub places : List Places
-  pub files : List Filed
+  pub places : List LineNumbers
+  pub files : List FileRef
 
-abbrev pub drafted : Read → Drafted
+abbrev pub drafted : ParsedText → DraftContents
 drafted read = record { plan = plan_of read; places = map places_of (blocks_of read); files = config_files 0 (map config_of (blocks_of read)) }

@@ -2,9 +2,9 @@
 use Rattle.std.specs.Prelude.{Option, Some, None}
 use Rattle.std.specs.Borrow.{Bor}
 use Rattle.plan_grammar.specs.declared.line.Line.{Line}
-use Rattle.plan_rules.specs.declared.said.Said.{Said}
+use Rattle.plan_rules.specs.declared.said.ParsedLine.{ParsedLine}
 
-abbrev pub said_by : Option (Bor Said) → Option Said
+abbrev pub said_by : Option (Bor ParsedLine) → Option ParsedLine
 said_by None = None
 said_by (Some said) = Some said.now
 

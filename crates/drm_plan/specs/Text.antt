@@ -6,16 +6,16 @@ use Rattle.text_lines.specs.Lines.{lines_of, bad_line_of}
 use Rattle.text_lines.specs.Texts.{longest_text}
 use Rattle.drm_schedule.specs.declared.invalid.Reason.TheVariants.{TooLong, Utf8}
 use Rattle.drm_schedule.specs.declared.plan.Plan.{Plan}
-use Rattle.plan_rules.specs.Rules.{Fault, said}
+use Rattle.plan_rules.specs.Rules.{ScheduleTextFault, said}
 use Rattle.drm_plan.specs.Files.{without_files}
-use Rattle.drm_plan.specs.Projection.{Drafted, drafted}
+use Rattle.drm_plan.specs.Projection.{DraftContents, drafted}
 
 -- the draft that the lines of a text give, or their first fault
-unfoldable pub lines_give : List (List ℕ) → Result Drafted Fault
+unfoldable pub lines_give : List (List ℕ) → Result DraftContents ScheduleTextFault
 lines_give lines = said lines >>= λ read. Ok (drafted read)
 
 -- the draft that a text gives, or its first fault: that it is too long, then that it is no UTF-8, then that of its lines
-unfoldable pub draft_of : List ℕ → Result Drafted Fault
+unfoldable pub draft_of : List ℕ → Result DraftContents ScheduleTextFault
 draft_of text =
     if nat_lt longest_text (length text) then Err (fault 0 TooLong)
     else if is_utf8 text then lines_give (lines_of text)
@@ -23,6 +23,6 @@ draft_of text =
 
 -- the text gives the schedule, but for the bytes of its files
 pub record IsText (schedule : Plan) (text : List ℕ) : Type 0 where
-  pub draft : Drafted
+  pub draft : DraftContents
   pub gives : draft_of text ≡ Ok draft
   pub same : without_files draft.plan ≡ without_files schedule

@@ -2,39 +2,39 @@
 
 ghost use Rattle.std.specs.Prelude.{◌≡◌, ◌++◌, IfOk, OnOk};
 ghost use Rattle.drm_plan.specs.Projection.{or_one, or_line, config_of, places_of};
-ghost use Rattle.drm_plan.specs.Parts.{parts_of, more, more_by, no_parts, Made};
+ghost use Rattle.drm_plan.specs.ConfigParts.{parts_of, more, more_by, no_parts, ConfigMadeOf};
 
-use crate::places::Places;
+use crate::places::LineNumbers;
 use crate::settings;
 use drm_bits::NoMemory;
-use drm_schedule::{Blocks, Config, Entities, Entity, Items, Services, Streams, Timed};
+use drm_schedule::{Blocks, Config, Entities, Entity, OwnedList, Services, Streams, Timed};
 use plan_lines::{Keyword, Line};
-use plan_rules::{Block, Said};
+use plan_rules::{ConfigLines, ParsedLine};
 use std::alloc::Global;
 
 /// What the lines of a configuration list: its services, streams and blocks.
 #[derive(Drop)]
-pub struct Parts {
+pub struct ConfigParts {
     pub services: Services,
     pub streams: Streams,
-    pub stream_lines: Items<u32>,
+    pub stream_lines: OwnedList<u32>,
     /// Those before the first block line: all, where there is no block line.
     pub entities: Entities,
     pub blocks: Blocks,
-    pub block_lines: Items<u32>,
+    pub block_lines: OwnedList<u32>,
 }
 
-impl Parts {
-    fn new(alloc: Global) -> Parts
+impl ConfigParts {
+    fn new(alloc: Global) -> ConfigParts
         ensures { result ≡ no_parts }
     {
-        Parts {
-            services: Items::new(alloc),
-            streams: Items::new(alloc),
-            stream_lines: Items::new(alloc),
+        ConfigParts {
+            services: OwnedList::new(alloc),
+            streams: OwnedList::new(alloc),
+            stream_lines: OwnedList::new(alloc),
             entities: Entities::new(alloc),
-            blocks: Items::new(alloc),
-            block_lines: Items::new(alloc),
+            blocks: OwnedList::new(alloc),
+            block_lines: OwnedList::new(alloc),
         }
     }
 
@@ -48,10 +48,10 @@ impl Parts {
         }
     }
 
-    fn put(&mut self, alloc: Global, said: Said) -> Result<(), NoMemory>
+    fn put(&mut self, alloc: Global, said: ParsedLine) -> Result<(), NoMemory>
         ensures { OnOk result (self.new ≡ more self.old said) }
     {
-        let Said { line, says } = said;
+        let ParsedLine { line, says } = said;
         match says {
             Line::Service(service) => self.services.push(service)?,
             Line::Stream(stream) => {
@@ -70,10 +70,10 @@ impl Parts {
     }
 }
 
-fn gathered(alloc: Global, lines: Items<Said>) -> Result<Parts, NoMemory>
+fn gathered(alloc: Global, lines: OwnedList<ParsedLine>) -> Result<ConfigParts, NoMemory>
     ensures { IfOk result (λ parts. parts ≡ parts_of lines) }
 {
-    let mut parts = Parts::new(alloc);
+    let mut parts = ConfigParts::new(alloc);
     for said in lines.into_vec() {
         parts.put(alloc, said)?;
     }
@@ -92,7 +92,7 @@ fn or_one(entities: Entities, blocks: Blocks) -> Result<Blocks, NoMemory>
 }
 
 // The lines of the blocks: where no line begins one, the config line.
-fn or_line(config_line: u32, block_lines: Items<u32>) -> Result<Items<u32>, NoMemory>
+fn or_line(config_line: u32, block_lines: OwnedList<u32>) -> Result<OwnedList<u32>, NoMemory>
     ensures { IfOk result (λ all. all ≡ or_line config_line block_lines) }
 {
     let mut all = block_lines;
@@ -103,8 +103,8 @@ fn or_line(config_line: u32, block_lines: Items<u32>) -> Result<Items<u32>, NoMe
 }
 
 /// A configuration, and the lines that a fault of it can name.
-pub fn make_config(alloc: Global, block: Block) -> Result<(Config, Places), NoMemory>
-    ensures { IfOk result (λ made. Made made.0 made.1 block) }
+pub fn make_config(alloc: Global, block: ConfigLines) -> Result<(Config, LineNumbers), NoMemory>
+    ensures { IfOk result (λ made. ConfigMadeOf made.0 made.1 block) }
 {
     let lines = block.lines.as_slice();
     let config_line = block.line;
@@ -138,7 +138,7 @@ pub fn make_config(alloc: Global, block: Block) -> Result<(Config, Places), NoMe
         clock,
         blocks,
     };
-    let places = Places {
+    let places = LineNumbers {
         config: config_line,
         occupancy: occupancy_line,
         msc: msc_line,

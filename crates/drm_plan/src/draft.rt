@@ -5,25 +5,25 @@ ghost use Rattle.drm_schedule.specs.Ranges.{InLines};
 ghost use Rattle.drm_plan.specs.Draft.{name_at, line_at, attached, valid_of};
 ghost use Rattle.drm_plan.specs.Lookup.{at};
 
-use crate::files::{Filed, put_bytes};
-use crate::places::{Places, place_line};
-use drm_schedule::{Items, Octets, Place, Plan, Schedule};
-use plan_rules::{PlanFault, at};
+use crate::files::{FileRef, put_bytes};
+use crate::places::{LineNumbers, place_line};
+use drm_schedule::{Octets, OwnedList, Place, Plan, Schedule};
+use plan_rules::{PlanFault, fault_at_line};
 use std::marker::Model;
 
 /// What the lines of a text give, while the files that it names come.
 #[derive(Drop)]
 pub struct Draft {
     plan: Plan,
-    places: Items<Places>,
-    files: Items<Filed>,
+    places: OwnedList<LineNumbers>,
+    files: OwnedList<FileRef>,
 }
 
 impl Model for Draft {
     ghost use Rattle.drm_schedule.specs.Ranges.{InLines};
-    ghost use Rattle.drm_plan.specs.Projection.{Drafted};
+    ghost use Rattle.drm_plan.specs.Projection.{DraftContents};
 
-    ghost Value = { Drafted };
+    ghost Value = { DraftContents };
 
     ghost view = { λ d. record { plan = d.plan; places = d.places; files = d.files } };
 
@@ -31,10 +31,14 @@ impl Model for Draft {
 }
 
 impl Draft {
-    ghost use Rattle.drm_plan.specs.Projection.{Drafted};
+    ghost use Rattle.drm_plan.specs.Projection.{DraftContents};
 
     /// What lines that a text can have give.
-    pub(crate) fn new(plan: Plan, places: Items<Places>, files: Items<Filed>) -> Draft
+    pub(crate) fn new(
+        plan: Plan,
+        places: OwnedList<LineNumbers>,
+        files: OwnedList<FileRef>,
+    ) -> Draft
         requires { InLines plan }
         ensures plan { result.plan ≡ plan }
         ensures places { result.places ≡ places }
@@ -92,7 +96,7 @@ impl Draft {
         let Draft { plan, places, .. } = self;
         match Schedule::checked(plan) {
             Ok(schedule) => Ok(schedule),
-            Err(fault) => Err(at(
+            Err(fault) => Err(fault_at_line(
                 place_line(places.as_slice(), fault.config, fault.place),
                 fault.reason,
             )),

@@ -6,16 +6,16 @@ ghost use Rattle.drm_plan.specs.Files.{stream_files, file_here, name_of, name_of
 ghost use Rattle.drm_plan.specs.Lookup.{at};
 
 use drm_bits::NoMemory;
-use drm_schedule::{Config, Content, Items, Octets, Plan, Stream};
+use drm_schedule::{Config, Content, Octets, OwnedList, Plan, Stream};
 
 /// A stream that takes its bytes from a file: the numbers of its configuration and of the stream there, from 0.
 #[derive(Clone, Copy)]
-pub struct Filed {
+pub struct FileRef {
     pub config: usize,
     pub stream: usize,
 }
 
-fn put_file(files: &mut Items<Filed>, file: Filed, stream: &Stream) -> Result<(), NoMemory>
+fn put_file(files: &mut OwnedList<FileRef>, file: FileRef, stream: &Stream) -> Result<(), NoMemory>
     ensures { OnOk result (files.new ≡ files.old ++ file_here file.config file.stream stream.now) }
 {
     if let Content::File { .. } = &stream.content {
@@ -26,19 +26,19 @@ fn put_file(files: &mut Items<Filed>, file: Filed, stream: &Stream) -> Result<()
 
 /// Puts the files of a configuration's streams behind the others.
 pub fn put_files(
-    files: &mut Items<Filed>,
+    files: &mut OwnedList<FileRef>,
     config: usize,
     streams: &[Stream],
 ) -> Result<(), NoMemory>
     ensures { OnOk result (files.new ≡ files.old ++ stream_files config 0 streams.now) }
 {
     for (stream, of) in streams.iter().enumerate() {
-        put_file(files, Filed { config, stream }, of)?;
+        put_file(files, FileRef { config, stream }, of)?;
     }
     Ok(())
 }
 
-impl Filed {
+impl FileRef {
     /// The name of the file.
     pub fn name(self, plan: &Plan) -> &str
         requires { InLines plan.now }
@@ -88,7 +88,7 @@ fn fill_config(config: &mut Config, stream: usize, bytes: Octets)
 }
 
 /// Gives a file its bytes, in place of those that it may have.
-pub fn put_bytes(plan: &mut Plan, file: Filed, bytes: Octets)
+pub fn put_bytes(plan: &mut Plan, file: FileRef, bytes: Octets)
     ensures { plan.new ≡ with_file file bytes plan.old }
 {
     if file.config < plan.configs.len() {

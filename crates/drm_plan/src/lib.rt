@@ -12,8 +12,8 @@ mod settings;
 
 pub use draft::Draft;
 pub use drm_schedule::{
-    Carry, Clock, Config, Configs, Content, Invalid, Items, Mode, Place, Plan, Reason, Schedule,
-    Services, Stream, Streams,
+    Carry, Clock, Config, Configs, Content, Invalid, Mode, OwnedList, Place, Plan, Reason,
+    Schedule, Services, Stream, Streams,
 };
 pub use plan_rules::PlanFault;
 pub use plan_writer::write_plan;

@@ -1,36 +1,36 @@
 //! The configurations of a text, one after another.
 
 ghost use Rattle.std.specs.Prelude.{◌≡◌, ◌++◌, IfOk, OnOk};
-ghost use Rattle.drm_plan.specs.Lists.{no_lists, with_block, lists_of};
+ghost use Rattle.drm_plan.specs.ConfigTable.{no_lists, with_block, lists_of};
 
 use crate::configs::make_config;
-use crate::files::{Filed, put_files};
-use crate::places::Places;
+use crate::files::{FileRef, put_files};
+use crate::places::LineNumbers;
 use drm_bits::NoMemory;
-use drm_schedule::{Configs, Items};
-use plan_rules::Block;
+use drm_schedule::{Configs, OwnedList};
+use plan_rules::ConfigLines;
 use std::alloc::Global;
 
 /// Configurations, the lines of each that a fault can name, and their files.
 #[derive(Drop)]
-pub struct Lists {
+pub struct ConfigTable {
     pub configs: Configs,
-    pub places: Items<Places>,
-    pub files: Items<Filed>,
+    pub places: OwnedList<LineNumbers>,
+    pub files: OwnedList<FileRef>,
 }
 
-impl Lists {
-    fn new(alloc: Global) -> Lists
+impl ConfigTable {
+    fn new(alloc: Global) -> ConfigTable
         ensures { result ≡ no_lists }
     {
-        Lists {
-            configs: Items::new(alloc),
-            places: Items::new(alloc),
-            files: Items::new(alloc),
+        ConfigTable {
+            configs: OwnedList::new(alloc),
+            places: OwnedList::new(alloc),
+            files: OwnedList::new(alloc),
         }
     }
 
-    fn put(&mut self, alloc: Global, block: Block) -> Result<(), NoMemory>
+    fn put(&mut self, alloc: Global, block: ConfigLines) -> Result<(), NoMemory>
         ensures { OnOk result (self.new ≡ with_block self.old block) }
     {
         let number = self.configs.len();
@@ -42,10 +42,10 @@ impl Lists {
 }
 
 /// What these configurations give.
-pub fn make_lists(alloc: Global, blocks: Items<Block>) -> Result<Lists, NoMemory>
+pub fn make_lists(alloc: Global, blocks: OwnedList<ConfigLines>) -> Result<ConfigTable, NoMemory>
     ensures { IfOk result (λ lists. lists ≡ lists_of blocks) }
 {
-    let mut lists = Lists::new(alloc);
+    let mut lists = ConfigTable::new(alloc);
     for block in blocks.into_vec() {
         lists.put(alloc, block)?;
     }

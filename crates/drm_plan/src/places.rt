@@ -4,21 +4,21 @@ ghost use Rattle.std.specs.Prelude.{◌≡◌};
 ghost use Rattle.drm_plan.specs.Draft.{line_in, line_of_place, or_zero};
 ghost use Rattle.drm_plan.specs.Lookup.{at};
 
-use drm_schedule::{Items, Place};
+use drm_schedule::{OwnedList, Place};
 
 /// The lines of a configuration that a fault can name, from 1.
 #[derive(Drop)]
-pub struct Places {
+pub struct LineNumbers {
     pub config: u32,
     pub occupancy: u32,
     pub msc: u32,
     /// Those of its blocks, in their order: the config line, where no line begins one.
-    pub blocks: Items<u32>,
+    pub blocks: OwnedList<u32>,
     /// Those of its streams, in their order.
-    pub streams: Items<u32>,
+    pub streams: OwnedList<u32>,
 }
 
-fn line_in(lines: &Places, place: Place) -> u32
+fn line_in(lines: &LineNumbers, place: Place) -> u32
     ensures { result ≡ line_in lines.now place }
 {
     match place {
@@ -40,7 +40,7 @@ fn line_at(lines: &[u32], number: usize) -> u32
 }
 
 /// The line of this place of the configuration with this number, from 0.
-pub fn place_line(all: &[Places], config: usize, place: Place) -> u32
+pub fn place_line(all: &[LineNumbers], config: usize, place: Place) -> u32
     ensures { result ≡ line_of_place all.now config place }
 {
     match all.get(config) {

@@ -9,11 +9,14 @@ use crate::draft::Draft;
 use crate::lists::make_lists;
 use crate::settings;
 use drm_bits::NoMemory;
-use drm_schedule::{Items, Plan};
-use plan_rules::{Block, Read};
+use drm_schedule::{OwnedList, Plan};
+use plan_rules::{ConfigLines, ParsedText};
 use std::alloc::Global;
 
-fn all_blocks(closed: Items<Block>, current: Option<Block>) -> Result<Items<Block>, NoMemory>
+fn all_blocks(
+    closed: OwnedList<ConfigLines>,
+    current: Option<ConfigLines>,
+) -> Result<OwnedList<ConfigLines>, NoMemory>
     ensures { IfOk result (λ blocks. blocks ≡ closed ++ option_to_list current) }
 {
     let mut blocks = closed;
@@ -24,7 +27,7 @@ fn all_blocks(closed: Items<Block>, current: Option<Block>) -> Result<Items<Bloc
 }
 
 /// The draft that lines give.
-pub fn make_draft(alloc: Global, read: Read) -> Result<Draft, NoMemory>
+pub fn make_draft(alloc: Global, read: ParsedText) -> Result<Draft, NoMemory>
     requires in_lines { ReadInLines read }
     requires whole { EndsComplete read }
     ensures { IfOk result (λ draft. draft ≡ drafted read) }

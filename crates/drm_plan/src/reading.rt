@@ -9,7 +9,7 @@ ghost use Rattle.drm_plan.specs.Text.{lines_give, draft_of};
 use crate::draft::Draft;
 use crate::projection::make_draft;
 use drm_schedule::Reason;
-use plan_rules::{PlanFault, at, read_lines};
+use plan_rules::{PlanFault, fault_at_line, read_lines};
 use std::alloc::Global;
 use text_lines::{NoText, lines, readable};
 
@@ -34,7 +34,7 @@ pub fn read_plan(alloc: Global, text: &[u8]) -> Result<Draft, PlanFault>
 {
     match readable(text) {
         Ok(text) => read_text(alloc, text),
-        Err(NoText::TooLong) => Err(at(0, Reason::TooLong)),
-        Err(NoText::Utf8 { line }) => Err(at(line, Reason::Utf8)),
+        Err(NoText::TooLong) => Err(fault_at_line(0, Reason::TooLong)),
+        Err(NoText::Utf8 { line }) => Err(fault_at_line(line, Reason::Utf8)),
     }
 }

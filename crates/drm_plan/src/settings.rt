@@ -7,10 +7,10 @@ ghost use Rattle.drm_plan.specs.Settings.{said_by, line_by};
 
 use drm_schedule::{Carry, Clock, Mode};
 use plan_lines::{Keyword, Line};
-use plan_rules::Said;
+use plan_rules::ParsedLine;
 
 /// The first line of this keyword.
-fn find(keyword: Keyword, lines: &[Said]) -> Option<&Said>
+fn find(keyword: Keyword, lines: &[ParsedLine]) -> Option<&ParsedLine>
     ensures { said_by result ≡ first_said keyword lines.now }
 {
     let mut left = lines;
@@ -24,14 +24,14 @@ fn find(keyword: Keyword, lines: &[Said]) -> Option<&Said>
 }
 
 /// What it says.
-fn says(keyword: Keyword, lines: &[Said]) -> Option<&Line>
+fn says(keyword: Keyword, lines: &[ParsedLine]) -> Option<&Line>
     ensures { line_by result ≡ first_line keyword lines.now }
 {
     Some(&find(keyword, lines)?.says)
 }
 
 /// The number of the first line of this keyword, 0 where there is none.
-pub fn line_of(keyword: Keyword, lines: &[Said]) -> u32
+pub fn line_of(keyword: Keyword, lines: &[ParsedLine]) -> u32
     ensures { result ≡ line_of keyword lines.now }
 {
     match find(keyword, lines) {
@@ -40,7 +40,7 @@ pub fn line_of(keyword: Keyword, lines: &[Said]) -> u32
     }
 }
 
-pub fn mode(lines: &[Said]) -> Mode
+pub fn mode(lines: &[ParsedLine]) -> Mode
     ensures { result ≡ mode_in (first_line keywords.Mode lines.now) }
 {
     match says(Keyword::Mode, lines) {
@@ -49,7 +49,7 @@ pub fn mode(lines: &[Said]) -> Mode
     }
 }
 
-pub fn occupancy(lines: &[Said]) -> u8
+pub fn occupancy(lines: &[ParsedLine]) -> u8
     ensures { result ≡ occupancy_in (first_line keywords.Occupancy lines.now) }
 {
     match says(Keyword::Occupancy, lines) {
@@ -58,7 +58,7 @@ pub fn occupancy(lines: &[Said]) -> u8
     }
 }
 
-pub fn short_depth(lines: &[Said]) -> bool
+pub fn short_depth(lines: &[ParsedLine]) -> bool
     ensures { result ≡ short_depth_in (first_line keywords.Depth lines.now) }
 {
     match says(Keyword::Depth, lines) {
@@ -67,7 +67,7 @@ pub fn short_depth(lines: &[Said]) -> bool
     }
 }
 
-pub fn msc(lines: &[Said]) -> u8
+pub fn msc(lines: &[ParsedLine]) -> u8
     ensures { result ≡ msc_in (first_line keywords.Msc lines.now) }
 {
     match says(Keyword::Msc, lines) {
@@ -76,7 +76,7 @@ pub fn msc(lines: &[Said]) -> u8
     }
 }
 
-pub fn qam4(lines: &[Said]) -> bool
+pub fn qam4(lines: &[ParsedLine]) -> bool
     ensures { result ≡ qam4_in (first_line keywords.Sdc lines.now) }
 {
     match says(Keyword::Sdc, lines) {
@@ -85,7 +85,7 @@ pub fn qam4(lines: &[Said]) -> bool
     }
 }
 
-pub fn prot_a(lines: &[Said]) -> u8
+pub fn prot_a(lines: &[ParsedLine]) -> u8
     ensures { result ≡ prot_a_in (first_line keywords.Protection lines.now) }
 {
     match says(Keyword::Protection, lines) {
@@ -94,7 +94,7 @@ pub fn prot_a(lines: &[Said]) -> u8
     }
 }
 
-pub fn prot_b(lines: &[Said]) -> u8
+pub fn prot_b(lines: &[ParsedLine]) -> u8
     ensures { result ≡ prot_b_in (first_line keywords.Protection lines.now) }
 {
     match says(Keyword::Protection, lines) {
@@ -103,7 +103,7 @@ pub fn prot_b(lines: &[Said]) -> u8
     }
 }
 
-pub fn room(lines: &[Said]) -> u16
+pub fn room(lines: &[ParsedLine]) -> u16
     ensures { result ≡ room_in (first_line keywords.Room lines.now) }
 {
     match says(Keyword::Room, lines) {
@@ -112,7 +112,7 @@ pub fn room(lines: &[Said]) -> u16
     }
 }
 
-pub fn clock(lines: &[Said]) -> Option<Clock>
+pub fn clock(lines: &[ParsedLine]) -> Option<Clock>
     ensures { result ≡ clock_in (first_line keywords.Clock lines.now) }
 {
     match says(Keyword::Clock, lines) {
@@ -121,7 +121,7 @@ pub fn clock(lines: &[Said]) -> Option<Clock>
     }
 }
 
-pub fn carry(lines: &[Said]) -> Carry
+pub fn carry(lines: &[ParsedLine]) -> Carry
     ensures { result ≡ carry_in (first_line keywords.Carry lines.now) }
 {
     match says(Keyword::Carry, lines) {
@@ -130,7 +130,7 @@ pub fn carry(lines: &[Said]) -> Carry
     }
 }
 
-pub fn seq(lines: &[Said]) -> u16
+pub fn seq(lines: &[ParsedLine]) -> u16
     ensures { result ≡ seq_in (first_line keywords.First lines.now) }
 {
     match says(Keyword::First, lines) {
@@ -139,7 +139,7 @@ pub fn seq(lines: &[Said]) -> u16
     }
 }
 
-pub fn dlfc(lines: &[Said]) -> u32
+pub fn dlfc(lines: &[ParsedLine]) -> u32
     ensures { result ≡ dlfc_in (first_line keywords.First lines.now) }
 {
     match says(Keyword::First, lines) {
@@ -148,7 +148,7 @@ pub fn dlfc(lines: &[Said]) -> u32
     }
 }
 
-pub fn length(lines: &[Said]) -> u32
+pub fn length(lines: &[ParsedLine]) -> u32
     ensures { result ≡ length_in (first_line keywords.Length lines.now) }
 {
     match says(Keyword::Length, lines) {

@@ -17,8 +17,8 @@ abbrev pub is_same : Signature → Signature → Bool
 is_same = ghosts.eq
 
 -- one of the three places of a super frame, and an index of three bits
-abbrev pub IsInRange : Seen → Type 0
-IsInRange seen = (seen.position < 3) × (seen.index < 8)
+abbrev pub IsSeenInRange : Seen → Type 0
+IsSeenInRange seen = (seen.position < 3) × (seen.index < 8)
 
 -- the frame that a frame with this number names: with an index above 0, the first one of the super frame so many ahead
 abbrev pub named_by : ℕ → Seen → Option ℕ

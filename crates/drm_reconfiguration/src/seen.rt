@@ -1,7 +1,7 @@
 //! What a receiver sees of a logical frame.
 
 ghost use Rattle.std.specs.Prelude.{◌≡◌, ◌+◌, ◌*◌, ◌<◌, ◌^◌};
-ghost use Rattle.drm_reconfiguration.specs.Seen.{signature_of, named_by, IsInRange};
+ghost use Rattle.drm_reconfiguration.specs.Seen.{signature_of, named_by, IsSeenInRange};
 
 use drm_bits::MuxDesc;
 use drm_fac::{Channel, Mode};
@@ -44,7 +44,7 @@ impl Seen {
     /// The frame that this one names, if its own number is `frame`: the first one of the super frame that its
     /// reconfiguration index counts down to.
     pub(crate) fn names(self, frame: u64) -> Option<u64>
-        requires range { IsInRange self }
+        requires range { IsSeenInRange self }
         requires in_range { frame < 2 ^ 62 }
         ensures { result ≡ named_by frame self }
     {

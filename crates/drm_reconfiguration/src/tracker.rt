@@ -2,7 +2,7 @@
 
 ghost use Rattle.std.specs.Prelude.{◌≡◌, ◌<◌, ◌^◌};
 ghost use Rattle.std.specs.Option.{ForSome};
-ghost use Rattle.drm_reconfiguration.specs.Seen.{IsInRange};
+ghost use Rattle.drm_reconfiguration.specs.Seen.{IsSeenInRange};
 ghost use Rattle.drm_reconfiguration.specs.Tracker.{new_tracker, answered, stepped, is_named, TellsTheSwitches};
 
 use crate::{Seen, Signature};
@@ -53,7 +53,7 @@ impl Tracker {
 
     /// Takes the next item, `None` where its frame is missing, and answers what stands before it.
     pub fn step(&mut self, seen: Option<Seen>) -> Option<Before>
-        requires range { ForSome seen IsInRange }
+        requires range { ForSome seen IsSeenInRange }
         requires calls { self.old.calls < 2 ^ 62 }
         ensures answer { result ≡ answered self.old seen }
         ensures after { self.new ≡ stepped self.old seen }
@@ -87,7 +87,7 @@ impl Tracker {
 
     /// The tracker behind the next item.
     fn after(&self, seen: Option<Seen>) -> Tracker
-        requires range { ForSome seen IsInRange }
+        requires range { ForSome seen IsSeenInRange }
         requires calls { self.now.calls < 2 ^ 62 }
         ensures { result ≡ stepped self.now seen }
     {

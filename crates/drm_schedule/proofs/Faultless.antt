@@ -48,8 +48,8 @@ one plan k before c more none =
     let start = next_start plan.length more in
     let (placed, behind) = none_of_both (place_rows plan k before c) _ none in
     let (begun, own) = none_of_both (beginning_rows k 0 c start None c.blocks) _ behind in
-    let (channel, told) = none_of_both (channel_rows k c) _ own in
-    let (agree, fitting) = none_of_both (block_rows k 0 (block_disagrees c) reason.Services c.blocks) _ told in
+    let (channel, later) = none_of_both (channel_rows k c) _ own in
+    let (agree, fitting) = none_of_both (block_rows k 0 (block_disagrees c) reason.Services c.blocks) _ later in
     let (room, carried) = none_of_both (block_rows k 0 (has_no_room c) reason.Fit c.blocks) _ fitting in
     record {
       order = placed.0;

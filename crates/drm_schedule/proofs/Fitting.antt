@@ -3,7 +3,7 @@ use Rattle.std.proofs.Common.{◌≡◌, ℕ, suc, ◌*◌, ◌<◌, ◌≤◌, 
 use Rattle.std.proofs.lemmas.Bool.{or_cases, eqb-true}
 use Rattle.std.specs.Int.{from_bool}
 use Rattle.drm_bits.specs.Bits.{IsBytes}
-use Rattle.drm_bits.specs.Fields.{Fit}
+use Rattle.drm_bits.specs.Fields.{AllFit}
 use Rattle.drm_sdc.specs.declared.channels.Channel15.{Channel15}
 use Rattle.drm_sdc.specs.declared.body.AppMode.{AppMode}
 use Rattle.drm_sdc.specs.declared.body.AppMode.TheVariants.{Sync, Packet}
@@ -20,11 +20,11 @@ flag_fits : (b : Bool) → from_bool b < 2 ^ 1
 flag_fits true = omega arith
 flag_fits false = omega arith
 
-octets_fit : (bytes : List ℕ) → IsBytes bytes → Fit (octets bytes)
+octets_fit : (bytes : List ℕ) → IsBytes bytes → AllFit (octets bytes)
 octets_fit [] small = tt
 octets_fit (b ∷ bytes) small = (small 0, octets_fit bytes (λ i. small (suc i)))
 
-optional_fits : (byte : Option ℕ) → IfSome byte (λ b. b < 2 ^ 8) → Fit (optional byte)
+optional_fits : (byte : Option ℕ) → IfSome byte (λ b. b < 2 ^ 8) → AllFit (optional byte)
 optional_fits None small = tt
 optional_fits (Some b) small = (small, tt)
 
@@ -32,7 +32,7 @@ one_at_most : (byte : Option ℕ) → count byte ≤ 1
 one_at_most None = omega arith
 one_at_most (Some b) = omega arith
 
-channels_fit : (cs : List Channel15) → All (λ (c : Channel15). c.number < 2 ^ 15) cs → Fit (channel_fields cs)
+channels_fit : (cs : List Channel15) → All (λ (c : Channel15). c.number < 2 ^ 15) cs → AllFit (channel_fields cs)
 channels_fit [] each = tt
 channels_fit (c ∷ cs) each = (flag_fits c.first, (each 0 c (omega arith), channels_fit cs (λ k d within. each (suc k) d (omega arith))))
 

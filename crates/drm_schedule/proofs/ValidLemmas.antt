@@ -88,11 +88,11 @@ module _ (plan : Plan) (k : ℕ) (before : Option Config) (c : Config) (more : L
       in_fourth so = behind_channel e (found_in (block_rows k 0 (block_disagrees c) reason.Services c.blocks) fitting e se disagreeing te so)
 
       module _ (ne : se ≡ false) (f : Option Invalid) (room : f ≡ first_fault (block_rows k 0 (has_no_room c) reason.Fit c.blocks)) (sf : Bool) (tf : sf ≡ is_some f) where
-        behind_told : (found : Option Invalid) → found ≡ first_fault fitting → found ≡ first_fault (rows plan k before c more)
-        behind_told found is = behind_channel found (found_behind (block_rows k 0 (block_disagrees c) reason.Services c.blocks) fitting e found se disagreeing te ne is)
+        behind_blocks : (found : Option Invalid) → found ≡ first_fault fitting → found ≡ first_fault (rows plan k before c more)
+        behind_blocks found is = behind_channel found (found_behind (block_rows k 0 (block_disagrees c) reason.Services c.blocks) fitting e found se disagreeing te ne is)
 
         pub in_fifth : sf ≡ true → f ≡ first_fault (rows plan k before c more)
-        in_fifth so = behind_told f (found_in (block_rows k 0 (has_no_room c) reason.Fit c.blocks) (carried_rows plan k before c more) f sf room tf so)
+        in_fifth so = behind_blocks f (found_in (block_rows k 0 (has_no_room c) reason.Fit c.blocks) (carried_rows plan k before c more) f sf room tf so)
 
         pub in_last : (found : Option Invalid) → sf ≡ false → found ≡ first_fault (carried_rows plan k before c more) → found ≡ first_fault (rows plan k before c more)
-        in_last found nf is = behind_told found (found_behind (block_rows k 0 (has_no_room c) reason.Fit c.blocks) (carried_rows plan k before c more) f found sf room tf nf is)
+        in_last found nf is = behind_blocks found (found_behind (block_rows k 0 (has_no_room c) reason.Fit c.blocks) (carried_rows plan k before c more) f found sf room tf nf is)

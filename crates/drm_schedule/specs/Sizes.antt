@@ -15,16 +15,16 @@ abbrev pub clock_size : ℕ
 clock_size = 5
 
 -- what is told of the streams and with these entities
-abbrev pub told_with : Config → List Entity → ℕ
-told_with c entities = description_size (length c.streams) + total_size entities
+abbrev pub size_with : Config → List Entity → ℕ
+size_with c entities = description_size (length c.streams) + total_size entities
 
 -- what is told in a super frame beside the clock: the streams, and the entities in force
-abbrev pub told_size : Config → ℕ → ℕ
-told_size c frame = told_with c (entities_in_force c frame)
+abbrev pub size_in_force : Config → ℕ → ℕ
+size_in_force c frame = size_with c (entities_in_force c frame)
 
 -- the clock is told where there is one
 abbrev pub size_if : Bool → ℕ
-size_if is_told = if is_told then clock_size else 0
+size_if has_clock = if has_clock then clock_size else 0
 
 -- the first block of a configuration tells the clock, and then each fiftieth
 abbrev pub tells_clock : Config → ℕ → Bool
@@ -32,11 +32,11 @@ tells_clock c frame = is_some c.clock && (frame - c.start) % 50 == 0
 
 -- the bytes that the block of a super frame has left for an announcement
 abbrev pub free_bytes : Config → ℕ → ℕ
-free_bytes c frame = c.room - (told_size c frame + size_if (tells_clock c frame))
+free_bytes c frame = c.room - (size_in_force c frame + size_if (tells_clock c frame))
 
 -- the streams, these entities and a clock, where there is one, don't fit
 abbrev pub has_no_room : Config → Timed → Bool
-has_no_room c block = nat_lt c.room (told_with c block.entities + size_if (is_some c.clock))
+has_no_room c block = nat_lt c.room (size_with c block.entities + size_if (is_some c.clock))
 
 -- each block has room
 abbrev pub HasRoom : Config → Type 0

@@ -5,17 +5,17 @@ ghost use Rattle.drm_schedule.specs.InForce.{entities_in_force, first_entities};
 
 use crate::{Blocks, Stream};
 use drm_fac::{Mode, Service};
-use drm_lists::Items;
+use drm_lists::OwnedList;
 use drm_sdc::Entity;
 
 /// The services of a configuration, in the order of their lines.
-pub type Services = Items<Service>;
+pub type Services = OwnedList<Service>;
 
 /// The streams of a configuration, in the order of their lines.
-pub type Streams = Items<Stream>;
+pub type Streams = OwnedList<Stream>;
 
 /// The configurations of a schedule, in the order of their lines.
-pub type Configs = Items<Config>;
+pub type Configs = OwnedList<Config>;
 
 /// What the clock shows in the first super frame of a configuration.
 #[derive(Clone, Copy, Debug, PartialEq, Eq)]

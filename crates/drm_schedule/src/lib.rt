@@ -19,7 +19,7 @@ pub use announcement::{Repeated, free_in_countdown};
 pub use config::{Clock, Config, Configs, Services, Streams};
 pub use dcp_pft::Carry;
 pub use drm_fac::{Mode, Service};
-pub use drm_lists::Items;
+pub use drm_lists::OwnedList;
 pub use drm_sdc::{AppMode, Body, Channel15, Channels, Entities, Entity, MuxDesc, Octets, Part};
 pub use invalid::{Invalid, Place, Reason};
 pub use laws::{entities_can_be_written, one_is_in_force};

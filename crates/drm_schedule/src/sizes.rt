@@ -4,7 +4,7 @@ ghost use Rattle.std.specs.Prelude.{◌≡◌, ◌≤◌, ◌<◌, ◌^◌, ◌+
 ghost use Rattle.drm_sdc.specs.Entity.{entity_size};
 ghost use Rattle.drm_schedule.specs.Ranges.{EntityInLines, TimedInLines, StreamInLines, ConfigInLines};
 ghost use Rattle.drm_schedule.specs.Sizes as sizes;
-ghost use Rattle.drm_schedule.specs.Sizes.{told_with, size_if, free_bytes, has_no_room, stream_size};
+ghost use Rattle.drm_schedule.specs.Sizes.{size_with, size_if, free_bytes, has_no_room, stream_size};
 
 use crate::{Config, Stream, Timed};
 use drm_sdc::{Entity, total_size};
@@ -18,22 +18,22 @@ pub fn entity_len(entity: &Entity) -> u16
 }
 
 // The bytes of what is told of the streams and with these entities.
-fn told_len(config: &Config, entities: &[Entity]) -> usize
+fn len_with(config: &Config, entities: &[Entity]) -> usize
     requires config { ConfigInLines config.now }
     requires within_limit { length entities.now ≤ 64 }
     requires each { All EntityInLines entities.now }
-    ensures size { result ≡ told_with config.now entities.now }
+    ensures size { result ≡ size_with config.now entities.now }
     ensures in_range { result < 2 ^ 14 }
 {
     2 + 3 * config.streams.len() + total_size(entities)
 }
 
 // The bytes of a clock, where it is told.
-fn clock_len(is_told: bool) -> usize
-    ensures size { result ≡ size_if is_told }
+fn clock_len(has_clock: bool) -> usize
+    ensures size { result ≡ size_if has_clock }
     ensures in_range { result ≤ 5 }
 {
-    if is_told { 5 } else { 0 }
+    if has_clock { 5 } else { 0 }
 }
 
 /// Whether there is no room for what is told with the entities of a block.
@@ -42,8 +42,8 @@ pub fn is_too_small(config: &Config, block: &Timed) -> bool
     requires block { TimedInLines block.now }
     ensures { result ≡ has_no_room config.now block.now }
 {
-    let told = told_len(config, block.entities.as_slice());
-    usize::from(config.room) < told + clock_len(config.clock.is_some())
+    let len = len_with(config, block.entities.as_slice());
+    usize::from(config.room) < len + clock_len(config.clock.is_some())
 }
 
 /// The bytes that the block of a super frame has left for an announcement.
@@ -51,9 +51,9 @@ pub fn free_len(config: &Config, frame: u32) -> u16
     requires { ConfigInLines config.now }
     ensures { result ≡ free_bytes config.now frame }
 {
-    let is_told = config.clock.is_some() && frame.saturating_sub(config.start) % 50 == 0;
-    let told = told_len(config, config.entities_in_force(frame)) + clock_len(is_told);
-    usize::from(config.room).saturating_sub(told) as u16
+    let has_clock = config.clock.is_some() && frame.saturating_sub(config.start) % 50 == 0;
+    let len = len_with(config, config.entities_in_force(frame)) + clock_len(has_clock);
+    usize::from(config.room).saturating_sub(len) as u16
 }
 
 /// The bytes of a stream in each frame.

@@ -1,10 +1,10 @@
 //! What a configuration tells from one of its super frames on.
 
-use drm_lists::Items;
+use drm_lists::OwnedList;
 use drm_sdc::Entities;
 
 /// The blocks of lines of a configuration, in their order.
-pub type Blocks = Items<Timed>;
+pub type Blocks = OwnedList<Timed>;
 
 /// Entities that hold from a super frame on, up to the next block of lines or the end of the configuration.
 #[derive(Drop)]

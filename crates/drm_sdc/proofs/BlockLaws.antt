@@ -14,7 +14,7 @@ use Rattle.drm_sdc.specs.declared.fault.SdcFault.{SdcFault}
 use Rattle.drm_sdc.specs.declared.fault.SdcFault.TheVariants.{BlockLength, Front, Crc, EntityCut, BodyLength, LabelText, NoMemory}
 use Rattle.drm_sdc.specs.Entity.{entity_size}
 use Rattle.drm_sdc.specs.Field.{IsField, IsFieldFault, IsFirstFault}
-use Rattle.drm_sdc.specs.Block.{first_form, IsFramed, IsChecked, IsBlock, info_of, IsBlockLength, IsCrcFault, IsFaultInField, IsBlockFault}
+use Rattle.drm_sdc.specs.Block.{first_form, IsFramed, IsBlockChecked, IsBlock, info_of, IsBlockLength, IsCrcFault, IsFaultInField, IsBlockFault}
 use Rattle.drm_sdc.proofs.Determined.{one_field, field_or_fault, one_fault}
 
 pub length-form : (afs : ℕ) (field : List ℕ) (check : List Bool) → length (first_form afs field check) ≡ 4 + (8 * length field + length check)
@@ -70,9 +70,9 @@ one_check bits c d size_c size_d is_c is_d =
     sixteen c size_c ∙ (ap (digits 16) n ∙ sym (sixteen d size_d))
 
 -- the same frame has one check
-frame_check : (a b : ℕ) (f g : List ℕ) (c d : List Bool) → a ≡ b → f ≡ g → length c ≡ 16 → length d ≡ 16 → IsChecked a f c → IsChecked b g d → c ≡ d
+frame_check : (a b : ℕ) (f g : List ℕ) (c d : List Bool) → a ≡ b → f ≡ g → length c ≡ 16 → length d ≡ 16 → IsBlockChecked a f c → IsBlockChecked b g d → c ≡ d
 frame_check a b f g c d same_a same_f size_c size_d x y =
-    one_check (bits_of (a ∷ f)) c d size_c size_d x (subst (λ k. IsChecked k f d) (sym same_a) (subst (λ (l : List ℕ). IsChecked b l d) (sym same_f) y))
+    one_check (bits_of (a ∷ f)) c d size_c size_d x (subst (λ k. IsBlockChecked k f d) (sym same_a) (subst (λ (l : List ℕ). IsBlockChecked b l d) (sym same_f) y))
 
 pub one_block : (b k : Block) (bits : List Bool) → IsBlock b bits → IsBlock k bits → b ≡ k
 one_block b k bits x y =
@@ -89,7 +89,7 @@ bad_front afs field check bits b framed second is other =
       | inr e ↦ other (is ∙ ap (λ l. value (take 4 l)) e)
     ]
 
-wrong_check : (stands computed : ℕ) (afs : ℕ) (field : List ℕ) (check bits : List Bool) → IsCrcFault stands computed bits → IsFramed afs field check bits → IsChecked afs field check → ⊥
+wrong_check : (stands computed : ℕ) (afs : ℕ) (field : List ℕ) (check bits : List Bool) → IsCrcFault stands computed bits → IsFramed afs field check bits → IsBlockChecked afs field check → ⊥
 wrong_check stands computed afs field check bits fault framed checked =
     let frame = one_frame fault.afs afs fault.field field (digits 16 stands) check bits fault.framed framed in
     let same : digits 16 computed ≡ check = frame_check fault.afs afs fault.field field (digits 16 computed) check frame.0 frame.1 (length-digits 16 computed) framed.width fault.checked checked in
@@ -186,8 +186,8 @@ only_fault (Ok k) bits read fault f is = absurd (block_or_fault k f bits read is
 only_fault (Err g) bits read (inl none) f is = inr (ap Err none)
 only_fault (Err g) bits read (inr wrong) f is = inl (ap Err (one_block_fault g f bits wrong is))
 
-abbrev IsTold : List Bool → BlockInfo → Type 0
-IsTold bits i = (block : Block) × (is : IsBlock block bits) × (i ≡ info_of block bits is)
+abbrev IsBlockInfo : List Bool → BlockInfo → Type 0
+IsBlockInfo bits i = (block : Block) × (is : IsBlock block bits) × (i ≡ info_of block bits is)
 
 -- a block has one length of its field
 one_room : (bits : List Bool) (afs : ℕ) (field : List ℕ) (check : List Bool) → IsFramed afs field check bits → length field ≡ (length bits - 20) / 8
@@ -195,20 +195,20 @@ one_room bits afs field check framed =
     elim (framed_length afs field check bits framed) [ inl e ↦ omega (arith, e) | inr e ↦ omega (arith, e) ]
 
 -- one thing is told of a block
-pub one_told : (a b : Block) (bits others : List Bool) → bits ≡ others → (x : IsBlock a bits) (y : IsBlock b others) → info_of a bits x ≡ info_of b others y
-one_told a b bits others same x y =
+pub one_info : (a b : Block) (bits others : List Bool) → bits ≡ others → (x : IsBlock a bits) (y : IsBlock b others) → info_of a bits x ≡ info_of b others y
+one_info a b bits others same x y =
     let blocks : a ≡ b = one_block a b others (subst (IsBlock a) same x) y in
     let rooms : length x.field ≡ length y.field =
     one_room bits a.afs x.field x.check x.framed ∙ (ap (λ (l : List Bool). (length l - 20) / 8) same ∙ sym (one_room others b.afs y.field y.check y.framed)) in
     ap (λ (k : Block). record { afs = k.afs; room = length x.field }) blocks ∙ ap (λ n. record { afs = b.afs; room = n }) rooms
 
-pub only_told : (r : Result BlockInfo SdcFault) (bits : List Bool) → IfOk r (IsTold bits) → IfErr r (IsBlockFault bits) → (b : Block) (is : IsBlock b bits) → r ≡ Ok (info_of b bits is)
-only_told (Ok i) bits told fault b is = ap Ok (told.2 ∙ one_told told.0 b bits bits refl told.1 is)
-only_told (Err f) bits told wrong b is = absurd (block_or_fault b f bits is wrong)
+pub only_info : (r : Result BlockInfo SdcFault) (bits : List Bool) → IfOk r (IsBlockInfo bits) → IfErr r (IsBlockFault bits) → (b : Block) (is : IsBlock b bits) → r ≡ Ok (info_of b bits is)
+only_info (Ok i) bits is_info fault b is = ap Ok (is_info.2 ∙ one_info is_info.0 b bits bits refl is_info.1 is)
+only_info (Err f) bits is_info wrong b is = absurd (block_or_fault b f bits is wrong)
 
-pub only_told_fault : (r : Result BlockInfo SdcFault) (bits : List Bool) → IfOk r (IsTold bits) → IfErr r (IsBlockFault bits) → (f : SdcFault) → IsBlockFault bits f → r ≡ Err f
-only_told_fault (Ok i) bits told fault f is = absurd (block_or_fault told.0 f bits told.1 is)
-only_told_fault (Err g) bits told wrong f is = ap Err (one_block_fault g f bits wrong is)
+pub only_info_fault : (r : Result BlockInfo SdcFault) (bits : List Bool) → IfOk r (IsBlockInfo bits) → IfErr r (IsBlockFault bits) → (f : SdcFault) → IsBlockFault bits f → r ≡ Err f
+only_info_fault (Ok i) bits is_info fault f is = absurd (block_or_fault is_info.0 f bits is_info.1 is)
+only_info_fault (Err g) bits is_info wrong f is = ap Err (one_block_fault g f bits wrong is)
 
 -- a fault of a field is none of those before it
 not_before : (at : ℕ) (es : List Entity) (bytes : List ℕ) (f : SdcFault) → IsFieldFault at es bytes f → (bits : List Bool) → (IsFaultInField f bits → IsBlockFault bits f)
@@ -221,6 +221,6 @@ not_before at [] bytes (Crc stands computed) is bits = absurd is.1
 not_before at [] bytes NoMemory is bits = absurd is.1
 not_before at (e ∷ es) bytes f is bits = not_before (at + entity_size e) es (drop (entity_size e) bytes) f is.1 bits
 
-pub field_fault : (f : SdcFault) (afs : ℕ) (field : List ℕ) (check bits : List Bool) → IsFramed afs field check bits → IsChecked afs field check → IsFirstFault field f → IsBlockFault bits f
+pub field_fault : (f : SdcFault) (afs : ℕ) (field : List ℕ) (check bits : List Bool) → IsFramed afs field check bits → IsBlockChecked afs field check → IsFirstFault field f → IsBlockFault bits f
 field_fault f afs field check bits framed checked first =
     not_before 0 first.0 field f first.1 bits (record { afs = afs; field = field; check = check; framed = framed; checked = checked; first = first })

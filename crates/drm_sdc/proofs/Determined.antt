@@ -6,8 +6,8 @@ use Rattle.drm_sdc.specs.declared.entity.Entity.{Entity}
 use Rattle.drm_sdc.specs.declared.fault.SdcFault.{SdcFault}
 use Rattle.drm_sdc.specs.declared.fault.SdcFault.TheVariants.{BlockLength, Front, Crc, EntityCut, BodyLength, LabelText, NoMemory}
 use Rattle.drm_sdc.specs.Entity.{entity_size, IsEntity}
-use Rattle.drm_sdc.specs.Reading.{described_length, described_kind, body_bits, has_body_length, IsSound}
-use Rattle.drm_sdc.specs.Field.{IsTail, IsField, IsCut, first_entity, IsEntityFault, IsFieldFault}
+use Rattle.drm_sdc.specs.Reading.{described_length, described_kind, body_bits, has_body_length, IsWellFormedEntity}
+use Rattle.drm_sdc.specs.Field.{IsTail, IsField, IsEntityCut, first_entity, IsEntityFault, IsFieldFault}
 use Rattle.drm_sdc.proofs.FieldLaws.{AreBytes}
 use Rattle.drm_sdc.proofs.EntityLaws.{entity_sound, one_entity, no_tail, size_described, size_within, first_is, described-take, small_front, small_rest}
 
@@ -15,14 +15,14 @@ use Rattle.drm_sdc.proofs.EntityLaws.{entity_sound, one_entity, no_tail, size_de
 pub no_fault : (e : Entity) (at : ℕ) (bytes : List ℕ) (f : SdcFault) → AreBytes bytes → IsEntity e (take (entity_size e) bytes) → IsEntityFault at bytes f → ⊥
 no_fault e at bytes (EntityCut a) small is fault = omega (arith, fault.1, size_described e bytes is, size_within e bytes is)
 no_fault e at bytes (BodyLength a kind len) small is fault =
-    let sound : IsSound (first_entity bytes) = subst IsSound (first_is e bytes is) (entity_sound e (take (entity_size e) bytes) (small_front bytes (entity_size e) small) is) in
+    let sound : IsWellFormedEntity (first_entity bytes) = subst IsWellFormedEntity (first_is e bytes is) (entity_sound e (take (entity_size e) bytes) (small_front bytes (entity_size e) small) is) in
     let header : described_length (first_entity bytes) ≡ described_length bytes = described-take (2 + described_length bytes) bytes (omega arith) in
     let right : has_body_length kind (body_bits (first_entity bytes)) len ≡ true =
     ap (λ k. has_body_length k (body_bits (first_entity bytes)) len) fault.2
     ∙ (ap (has_body_length (described_kind (first_entity bytes)) (body_bits (first_entity bytes))) (fault.3 ∙ sym header) ∙ sound.body) in
     cc (right, fault.4)
 no_fault e at bytes (LabelText a) small is fault =
-    let sound : IsSound (first_entity bytes) = subst IsSound (first_is e bytes is) (entity_sound e (take (entity_size e) bytes) (small_front bytes (entity_size e) small) is) in
+    let sound : IsWellFormedEntity (first_entity bytes) = subst IsWellFormedEntity (first_is e bytes is) (entity_sound e (take (entity_size e) bytes) (small_front bytes (entity_size e) small) is) in
     fault.3 (sound.label fault.2)
 no_fault e at bytes (BlockLength bits) small is fault = fault
 no_fault e at bytes (Front bits) small is fault = fault
@@ -35,7 +35,7 @@ fault_of at bytes =
     cond (nat_lt (length bytes) (2 + described_length bytes)) (EntityCut at) (
     cond (has_body_length (described_kind (first_entity bytes)) (body_bits (first_entity bytes)) (described_length bytes)) (LabelText at) (BodyLength at (described_kind (first_entity bytes)) (described_length bytes)))
 
-not_cut : (at : ℕ) (bytes : List ℕ) (b : Bool) → ¬ IsCut bytes → has_body_length (described_kind (first_entity bytes)) (body_bits (first_entity bytes)) (described_length bytes) ≡ b
+not_cut : (at : ℕ) (bytes : List ℕ) (b : Bool) → ¬ IsEntityCut bytes → has_body_length (described_kind (first_entity bytes)) (body_bits (first_entity bytes)) (described_length bytes) ≡ b
     → fault_of at bytes ≡ cond b (LabelText at) (BodyLength at (described_kind (first_entity bytes)) (described_length bytes))
 not_cut at bytes b whole is =
     let le : 2 + described_length bytes ≤ length bytes = omega (arith, whole) in

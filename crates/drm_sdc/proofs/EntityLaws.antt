@@ -21,7 +21,7 @@ use Rattle.drm_sdc.specs.declared.body.Body.TheVariants.{Mux, Label, Freq, When,
 use Rattle.drm_sdc.specs.Bodies.{octets, optional, channel_fields, mode_fields, mode_length, body_fields, kind_of, count, mode_size, body_length, is_typed, IsBody}
 use Rattle.drm_sdc.specs.Entity.{entity_fields, entity_size, empty_entity, IsEntity}
 use Rattle.drm_bits.specs.Bits.{front, bit}
-use Rattle.drm_sdc.specs.Reading.{has_restriction, has_region, optional_count, in_packets, body_from, has_body_length, described_length, described_kind, body_bits, entity_from, IsSound}
+use Rattle.drm_sdc.specs.Reading.{has_restriction, has_region, optional_count, in_packets, body_from, has_body_length, described_length, described_kind, body_bits, entity_from, IsWellFormedEntity}
 use Rattle.drm_sdc.specs.Field.{IsTail, first_entity}
 use Rattle.drm_sdc.proofs.FieldLaws.{AreBytes, widths, length-fields, widths-append, widths-octets, flag_again, front-bit, fields_fit}
 use Rattle.drm_sdc.proofs.Again.{AreBehind, body_again}
@@ -106,7 +106,7 @@ unfolding digits
 empty_from = refl
 
 -- Sound bytes that don't begin with two zeros are an entity.
-pub entity_made : (bytes : List ℕ) → AreBytes bytes → IsSound bytes → bytes ≢ 0 ∷ 0 ∷ [] → IsEntity (entity_from bytes) bytes
+pub entity_made : (bytes : List ℕ) → AreBytes bytes → IsWellFormedEntity bytes → bytes ≢ 0 ∷ 0 ∷ [] → IsEntity (entity_from bytes) bytes
 entity_made bytes small sound not_zero =
     let e : Entity = entity_from bytes in
     let size : length (drop 2 bytes) ≡ described_length bytes = omega (arith, length-drop 2 bytes, sound.whole) in
@@ -192,7 +192,7 @@ right_length (Language short spare language country) bits is below are = refl
 right_length (Raw kind nibble bytes) bits is below are = raw_length kind bits (length bytes) below is
 
 -- an entity's bytes are sound
-pub entity_sound : (e : Entity) (bytes : List ℕ) → AreBytes bytes → IsEntity e bytes → IsSound bytes
+pub entity_sound : (e : Entity) (bytes : List ℕ) → AreBytes bytes → IsEntity e bytes → IsWellFormedEntity bytes
 entity_sound e bytes small is =
     let kind : described_kind bytes ≡ kind_of e.body = is.fields.2.2.1 in
     let len : described_length bytes ≡ body_length e.body = is.fields.1 in

@@ -3,7 +3,7 @@ use Rattle.std.proofs.Common.{◌≡◌, ℕ, zero, suc, ◌+◌, ◌*◌, ◌<�
 use Rattle.std.proofs.lemmas.List.{take_at, drop_at, length-take-le}
 use Rattle.std.specs.Int.{from_bool}
 use Rattle.drm_bits.specs.Bits.{value, digits, bits_of}
-use Rattle.drm_bits.specs.Fields.{Field, field, flag, AreFields, Fit, spelled}
+use Rattle.drm_bits.specs.Fields.{BitField, field, flag, AreFields, AllFit, spelled}
 use Rattle.drm_bits.proofs.BitsLemmas.{length-digits, length-bits_of, value-below}
 use Rattle.drm_bits.proofs.DigitsLemmas.{value-digits}
 use Rattle.drm_sdc.specs.Bodies.{octets}
@@ -13,7 +13,7 @@ abbrev pub AreBytes : List ℕ → Type 0
 AreBytes bytes = (i : ℕ) → get_or bytes i 0 < 2 ^ 8
 
 -- what bits have, fits
-pub fields_fit : (fields : List Field) (bits : List Bool) → AreFields fields bits → Fit fields
+pub fields_fit : (fields : List BitField) (bits : List Bool) → AreFields fields bits → AllFit fields
 fields_fit [] bits are = tt
 fields_fit (f ∷ fields) bits are =
     let size : length (take f.width bits) ≡ f.width = length-take-le f.width bits are.0 in
@@ -21,22 +21,22 @@ fields_fit (f ∷ fields) bits are =
     (rw (are.1, size) at below, fields_fit fields (drop f.width bits) are.2)
 
 -- how many bits fields have
-abbrev pub widths : List Field → ℕ
+abbrev pub widths : List BitField → ℕ
 widths [] = 0
 widths (f ∷ fields) = f.width + widths fields
 
-pub length-fields : (fields : List Field) (bits : List Bool) → AreFields fields bits → length bits ≡ widths fields
+pub length-fields : (fields : List BitField) (bits : List Bool) → AreFields fields bits → length bits ≡ widths fields
 length-fields [] bits are = ap length are
 length-fields (f ∷ fields) bits are =
     let rest : length (drop f.width bits) ≡ widths fields = length-fields fields (drop f.width bits) are.2 in
     omega (arith, are.0, rest, length-drop f.width bits)
 
-pub length-spelled : (fields : List Field) → length (spelled fields) ≡ widths fields
+pub length-spelled : (fields : List BitField) → length (spelled fields) ≡ widths fields
 length-spelled [] = refl
 length-spelled (f ∷ fields) =
     omega (arith, length-append (digits f.width f.number) (spelled fields), length-digits f.width f.number, length-spelled fields)
 
-pub widths-append : (fields others : List Field) → widths (fields ++ others) ≡ widths fields + widths others
+pub widths-append : (fields others : List BitField) → widths (fields ++ others) ≡ widths fields + widths others
 widths-append [] others = omega arith
 widths-append (f ∷ fields) others = omega (arith, widths-append fields others)
 
@@ -45,7 +45,7 @@ widths-octets [] = refl
 widths-octets (b ∷ bytes) = omega (arith, widths-octets bytes)
 
 -- one field, and those behind it
-pub have_number : (w : ℕ) (fields : List Field) (bits : List Bool) → w ≤ length bits → AreFields fields (drop w bits) → AreFields (field w (front w bits) ∷ fields) bits
+pub have_number : (w : ℕ) (fields : List BitField) (bits : List Bool) → w ≤ length bits → AreFields fields (drop w bits) → AreFields (field w (front w bits) ∷ fields) bits
 have_number w fields bits within are = (within, refl, are)
 
 bit_again : (n : ℕ) → n < 2 → n ≡ from_bool (nat_eq n 1)
@@ -60,7 +60,7 @@ front-bit bits within =
     let small : value (take 1 bits) < 2 = rw size at below in
     bit_again (value (take 1 bits)) small
 
-pub have_flag : (fields : List Field) (bits : List Bool) → 1 ≤ length bits → AreFields fields (drop 1 bits) → AreFields (flag (bit bits) ∷ fields) bits
+pub have_flag : (fields : List BitField) (bits : List Bool) → 1 ≤ length bits → AreFields fields (drop 1 bits) → AreFields (flag (bit bits) ∷ fields) bits
 have_flag fields bits within are = (within, front-bit bits within, are)
 
 flag_of : (b : Bool) → nat_eq (from_bool b) 1 ≡ b

@@ -9,7 +9,7 @@ use Rattle.drm_bits.proofs.BitsLemmas.{length-digits, length-bits_of}
 use Rattle.drm_bits.proofs.DigitsLemmas.{digits-value}
 use Rattle.drm_bits.proofs.Checks.{bits_of-push}
 use Rattle.drm_bits.specs.Bits.{front}
-use Rattle.drm_sdc.specs.Block.{first_form, IsFramed, IsOpen}
+use Rattle.drm_sdc.specs.Block.{first_form, IsFramed, IsBlockOpen}
 use Rattle.drm_sdc.proofs.EntityLaws.{front-below}
 
 pub digits-front : (w : ℕ) (bits : List Bool) → w ≤ length bits → digits w (front w bits) ≡ take w bits
@@ -30,7 +30,7 @@ rest_is rest b1 b2 d afs stands field size_rest size is_afs is_b1 parts is_stand
     ∙ (ap (λ l. l ++ drop 4 rest) index
     ∙ (ap (λ l. digits 4 afs ++ l) (sym is_b1 ∙ parts) ∙ ap (λ l. digits 4 afs ++ (bits_of field ++ l)) (sym check)))
 
-pub framed : (all rest b1 b2 : List Bool) (n d afs stands : ℕ) (field : List ℕ) → n ≡ length all → IsOpen d all → (n % 8 ≡ 0 → rest ≡ drop 4 all) → (¬ (n % 8 ≡ 0) → rest ≡ all) → length field ≡ d → ((i : ℕ) → get_or field i 0 < 2 ^ 8)
+pub framed : (all rest b1 b2 : List Bool) (n d afs stands : ℕ) (field : List ℕ) → n ≡ length all → IsBlockOpen d all → (n % 8 ≡ 0 → rest ≡ drop 4 all) → (¬ (n % 8 ≡ 0) → rest ≡ all) → length field ≡ d → ((i : ℕ) → get_or field i 0 < 2 ^ 8)
     → afs ≡ front 4 rest → b1 ≡ drop 4 rest → b1 ≡ bits_of field ++ b2 → stands ≡ front 16 b2 → IsFramed afs field (digits 16 stands) all
 framed all rest b1 b2 n d afs stands field is_n is_open second first size small is_afs is_b1 parts is_stands =
     let in_first : length all ≡ 8 * d + 20 → all ≡ first_form afs field (digits 16 stands) = λ len.
@@ -54,7 +54,7 @@ framed all rest b1 b2 n d afs stands field is_n is_open second first size small 
       form = elim is_open.form [ inl len ↦ inl (in_first len) | inr two ↦ inr (in_second two.0 two.1) ];
     }
 
-pub open_length : (all rest : List Bool) (n d : ℕ) → n ≡ length all → IsOpen d all → (n % 8 ≡ 0 → rest ≡ drop 4 all) → (¬ (n % 8 ≡ 0) → rest ≡ all) → length rest ≡ 8 * d + 20
+pub open_length : (all rest : List Bool) (n d : ℕ) → n ≡ length all → IsBlockOpen d all → (n % 8 ≡ 0 → rest ≡ drop 4 all) → (¬ (n % 8 ≡ 0) → rest ≡ all) → length rest ≡ 8 * d + 20
 open_length all rest n d is_n is_open second first =
     elim is_open.form [
       | inl len ↦ omega (arith, ap length (first (λ whole. absurd (omega (arith, is_n, len, whole)))), len)

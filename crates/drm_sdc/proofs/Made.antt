@@ -5,7 +5,7 @@ use Rattle.std.proofs.lemmas.Bool.{and_parts, or_cases, eqb-true, leb-true, cond
 use Rattle.std.specs.Int.{from_bool}
 use Rattle.std.specs.Str.{IsUtf8}
 use Rattle.drm_bits.specs.Bits.{bits_of, front}
-use Rattle.drm_bits.specs.Fields.{Field, AreFields}
+use Rattle.drm_bits.specs.Fields.{BitField, AreFields}
 use Rattle.drm_sdc.specs.declared.body.Body.{Body}
 use Rattle.drm_sdc.specs.declared.body.Body.TheVariants.{Time}
 use Rattle.drm_sdc.specs.Bodies.{octets, optional, channel_fields, body_fields, kind_of, count, body_length, is_typed, IsBody}
@@ -73,7 +73,7 @@ length-behind true bits = length-drop 8 bits
 length-behind false bits = omega arith
 
 -- a byte that may be absent, and the fields behind it
-optional_made : (b : Bool) (fields : List Field) (bits : List Bool) → 8 * from_bool b ≤ length bits → AreFields fields (behind b bits) → AreFields (optional (optional_from b bits) ++ fields) bits
+optional_made : (b : Bool) (fields : List BitField) (bits : List Bool) → 8 * from_bool b ≤ length bits → AreFields fields (behind b bits) → AreFields (optional (optional_from b bits) ++ fields) bits
 optional_made true fields bits within are = (within, refl, are)
 optional_made false fields bits within are = are
 

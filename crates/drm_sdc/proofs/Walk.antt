@@ -6,7 +6,7 @@ use Rattle.drm_sdc.specs.declared.fault.SdcFault.{SdcFault}
 use Rattle.drm_sdc.specs.declared.fault.SdcFault.TheVariants.{NoMemory}
 use Rattle.drm_sdc.specs.Entity.{entity_size, IsEntity}
 use Rattle.drm_sdc.specs.Reading.{entity_from}
-use Rattle.drm_sdc.specs.Field.{IsTail, IsField, IsEntityFault, IsFieldFault, IsFirstFault, IsNext}
+use Rattle.drm_sdc.specs.Field.{IsTail, IsField, IsEntityFault, IsFieldFault, IsFirstFault, IsNextEntity}
 use Rattle.drm_sdc.proofs.FieldLaws.{AreBytes}
 use Rattle.drm_sdc.proofs.EntityLaws.{entity_made, length-entity, small_front, small_rest}
 use Rattle.drm_sdc.proofs.Determined.{one_field, field_or_fault, one_fault}
@@ -30,10 +30,10 @@ two_zeros : (n : ℕ) (bytes : List ℕ) → take n bytes ≡ 0 ∷ 0 ∷ [] →
 two_zeros n bytes is =
     inr (front_is n bytes is)
 
-pub next_is : (n : ℕ) (bytes : List ℕ) → AreBytes bytes → IsNext n bytes → IsEntity (entity_from (take n bytes)) (take n bytes)
+pub next_is : (n : ℕ) (bytes : List ℕ) → AreBytes bytes → IsNextEntity n bytes → IsEntity (entity_from (take n bytes)) (take n bytes)
 next_is n bytes small next = entity_made (take n bytes) (small_front bytes n small) next.sound (λ zeros. next.no_tail (two_zeros n bytes zeros))
 
-pub one_more : (entities : List Entity) (e : Entity) (at n : ℕ) (field : List ℕ) → IsBefore entities at field → IsNext n (drop at field) → IsEntity e (take n (drop at field)) → IsBefore (entities ++ e ∷ []) (at + n) field
+pub one_more : (entities : List Entity) (e : Entity) (at n : ℕ) (field : List ℕ) → IsBefore entities at field → IsNextEntity n (drop at field) → IsEntity e (take n (drop at field)) → IsBefore (entities ++ e ∷ []) (at + n) field
 one_more entities e at n field before next is =
     let size : n ≡ entity_size e = sym (length-take-le n (drop at field) next.within) ∙ length-entity e (take n (drop at field)) is in
     let here : IsEntity e (take (entity_size e) (drop at field)) = subst (λ m. IsEntity e (take m (drop at field))) size is in
@@ -76,7 +76,7 @@ none_here None P other holds = holds
 none_here (Some n) P other holds = absurd (other n refl)
 
 -- the entity that was read of the bytes there
-pub entity_here : (e : Entity) (at n : ℕ) (field : List ℕ) → AreBytes field → IsNext n (drop at field) → e ≡ entity_from (take (at + n - at) (drop at field)) → IsEntity e (take n (drop at field))
+pub entity_here : (e : Entity) (at n : ℕ) (field : List ℕ) → AreBytes field → IsNextEntity n (drop at field) → e ≡ entity_from (take (at + n - at) (drop at field)) → IsEntity e (take n (drop at field))
 entity_here e at n field small next is =
     let len : at + n - at ≡ n = omega arith in
     subst (λ (x : Entity). IsEntity x (take n (drop at field))) (sym (is ∙ ap (λ m. entity_from (take m (drop at field))) len)) (next_is n (drop at field) (small_rest field at small) next)

@@ -4,7 +4,7 @@ use Rattle.std.proofs.lemmas.List.{append-nil}
 use Rattle.drm_bits.specs.Bits.{digits, bits_of}
 use Rattle.std.specs.Int.{from_bool}
 use Rattle.drm_bits.specs.Fields.{spelled}
-use Rattle.drm_bits.specs.Sink.{Wrote}
+use Rattle.drm_bits.specs.Sink.{WroteBits}
 use Rattle.drm_bits.specs.declared.bit_sink.BitSink.{BitSink}
 use Rattle.drm_bits.proofs.WroteLemmas.{each}
 use Rattle.drm_sdc.specs.declared.channels.Channel15.{Channel15}
@@ -14,8 +14,8 @@ pub octets_bits : (bytes : List ℕ) → bits_of bytes ≡ spelled (octets bytes
 octets_bits [] = refl
 octets_bits (b ∷ bytes) = ap (λ l. digits 8 b ++ l) (octets_bits bytes)
 
-pub wrote_octets : {s t : BitSink} (bytes : List ℕ) → Wrote (bits_of bytes) s t → Wrote (spelled (octets bytes)) s t
-wrote_octets {s} {t} bytes x = subst (λ (l : List Bool). Wrote l s t) (octets_bits bytes) x
+pub wrote_octets : {s t : BitSink} (bytes : List ℕ) → WroteBits (bits_of bytes) s t → WroteBits (spelled (octets bytes)) s t
+wrote_octets {s} {t} bytes x = subst (λ (l : List Bool). WroteBits l s t) (octets_bits bytes) x
 
 pub bytes_each : (bytes : List ℕ) → each (digits 8) bytes ≡ bits_of bytes
 bytes_each [] = refl

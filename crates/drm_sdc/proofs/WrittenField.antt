@@ -6,7 +6,7 @@ use Rattle.drm_bits.specs.Bits.{digits, bits_of}
 use Rattle.drm_bits.specs.Fields.{AreFields, spelled}
 use Rattle.drm_bits.specs.Crc.{zeros}
 use Rattle.drm_bits.proofs.BitsLemmas.{length-bits_of, length-digits}
-use Rattle.drm_sdc.specs.Block.{first_form, IsChecked, IsBlock}
+use Rattle.drm_sdc.specs.Block.{first_form, IsBlockChecked, IsBlock}
 use Rattle.drm_bits.proofs.Checks.{bits_of-append}
 use Rattle.drm_sdc.proofs.BlockLaws.{length-form}
 use Rattle.drm_bits.proofs.ByteBits.{bits_of-take, bits_of-drop, same_bytes}
@@ -101,7 +101,7 @@ frame_front afs room field front rest check long width is =
     let size : length form ≡ 8 * room + 20 = omega (arith, length-form afs field check, long, width) in
     (ap (take (8 * room + 20)) whole ∙ take_at form behind (8 * room + 20) size, ap (take 4) (ap (drop (8 * room + 20)) whole ∙ drop_at form behind (8 * room + 20) size))
 
-pub block_is : (afs room : ℕ) (es : List Entity) (tail field : List ℕ) (check bits : List Bool) → afs < 2 ^ 4 → room ≤ 1023 → length field ≡ room → AreBytes field → length check ≡ 16 → bits ≡ first_form afs field check → IsChecked afs field check → IsField es tail field
+pub block_is : (afs room : ℕ) (es : List Entity) (tail field : List ℕ) (check bits : List Bool) → afs < 2 ^ 4 → room ≤ 1023 → length field ≡ room → AreBytes field → length check ≡ 16 → bits ≡ first_form afs field check → IsBlockChecked afs field check → IsField es tail field
     → IsBlock (record { afs = afs; entities = es; tail = tail }) bits
 block_is afs room es tail field check bits index small long octets width form checked is =
     record {

@@ -21,15 +21,15 @@ pub record IsFramed (afs : ℕ) (field : List ℕ) (check bits : List Bool) : Ty
   pub form : (bits ≡ first_form afs field check) ⊎ (bits ≡ zeros 4 ++ first_form afs field check)
 
 -- the check value is that of the index, as a byte, and of the field
-abbrev pub IsChecked : ℕ → List ℕ → List Bool → Type 0
-IsChecked afs field check = IsCheck crc16_polynomial (bits_of (afs ∷ field)) check
+abbrev pub IsBlockChecked : ℕ → List ℕ → List Bool → Type 0
+IsBlockChecked afs field check = IsCheck crc16_polynomial (bits_of (afs ∷ field)) check
 
 -- The bits are the block.
 pub record IsBlock (block : Block) (bits : List Bool) : Type 0 where
   pub field : List ℕ
   pub check : List Bool
   pub framed : IsFramed block.afs field check bits
-  pub checked : IsChecked block.afs field check
+  pub checked : IsBlockChecked block.afs field check
   pub entities : IsField block.entities block.tail field
 
 -- what is told of a block: its index, and how many bytes its data field has
@@ -47,7 +47,7 @@ pub record IsCrcFault (stands computed : ℕ) (bits : List Bool) : Type 0 where
   pub framed : IsFramed afs field (digits 16 stands) bits
   pub stands_fits : stands < 2 ^ 16
   pub computed_fits : computed < 2 ^ 16
-  pub checked : IsChecked afs field (digits 16 computed)
+  pub checked : IsBlockChecked afs field (digits 16 computed)
   pub differ : stands ≢ computed
 
 -- A framed field has its check value, and this is its first fault.
@@ -56,7 +56,7 @@ pub record IsFaultInField (fault : SdcFault) (bits : List Bool) : Type 0 where
   pub field : List ℕ
   pub check : List Bool
   pub framed : IsFramed afs field check bits
-  pub checked : IsChecked afs field check
+  pub checked : IsBlockChecked afs field check
   pub first : IsFirstFault field fault
 
 -- Why bits are no block, in the order of the faults.
@@ -70,6 +70,6 @@ IsBlockFault bits (LabelText at) = IsFaultInField (LabelText at) bits
 IsBlockFault bits NoMemory = ⊥
 
 -- The bits have the length of a block with d bytes, and zeros in front where they have a front.
-pub record IsOpen (d : ℕ) (bits : List Bool) : Type 0 where
+pub record IsBlockOpen (d : ℕ) (bits : List Bool) : Type 0 where
   pub few : d ≤ 1023
   pub form : (length bits ≡ 8 * d + 20) ⊎ ((length bits ≡ 8 * d + 24) × (value (take 4 bits) ≡ 0))

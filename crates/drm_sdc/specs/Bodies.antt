@@ -1,6 +1,6 @@
 -- The bodies of SDC entities, by their tables (ES 201 980, "Service Description Channel"): four bits, and then bytes.
 use Rattle.std.specs.Prelude.{ℕ, ◌≡◌, ◌+◌, ◌*◌, ◌==◌, ◌||◌, Bool, true, false, List, [], ◌∷◌, ◌++◌, length, Option, None, Some, is_some, IsUtf8}
-use Rattle.drm_bits.specs.Fields.{Field, field, flag}
+use Rattle.drm_bits.specs.Fields.{BitField, field, flag}
 use Rattle.drm_bits.specs.Description.{IsDescription, description_fields}
 use Rattle.drm_sdc.specs.declared.channels.Channel15.{Channel15}
 use Rattle.drm_sdc.specs.declared.body.AppMode.{AppMode}
@@ -9,30 +9,30 @@ use Rattle.drm_sdc.specs.declared.body.Body.{Body}
 use Rattle.drm_sdc.specs.declared.body.Body.TheVariants.{Mux, Label, Freq, When, App, Time, Audio, Next, Language, Raw}
 
 -- bytes, each in 8 bits
-abbrev pub octets : List ℕ → List Field
+abbrev pub octets : List ℕ → List BitField
 octets [] = []
 octets (b ∷ bytes) = field 8 b ∷ octets bytes
 
 -- a byte that may be absent
-abbrev pub optional : Option ℕ → List Field
+abbrev pub optional : Option ℕ → List BitField
 optional None = []
 optional (Some n) = field 8 n ∷ []
 
 -- a first bit and a number of each frequency
-abbrev pub channel_fields : List Channel15 → List Field
+abbrev pub channel_fields : List Channel15 → List BitField
 channel_fields [] = []
 channel_fields (c ∷ channels) = flag c.first ∷ field 15 c.number ∷ channel_fields channels
 
 -- what an application says of its mode: a flag and three bits, and later a length in packet mode
-abbrev pub mode_fields : AppMode → List Field
+abbrev pub mode_fields : AppMode → List BitField
 mode_fields (Sync spare) = flag false ∷ field 3 spare ∷ []
 mode_fields (Packet unit pid length) = flag true ∷ flag unit ∷ field 2 pid ∷ []
 
-abbrev pub mode_length : AppMode → List Field
+abbrev pub mode_length : AppMode → List BitField
 mode_length (Sync spare) = []
 mode_length (Packet unit pid length) = field 8 length ∷ []
 
-abbrev pub body_fields : Body → List Field
+abbrev pub body_fields : Body → List BitField
 body_fields (Mux desc) = description_fields desc
 body_fields (Label short spare text) = field 2 short ∷ field 2 spare ∷ octets text
 body_fields (Freq sync layer restriction region list) =

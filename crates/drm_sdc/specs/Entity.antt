@@ -1,13 +1,13 @@
 -- SDC entities (ES 201 980): a header of body length, version and type, and the body.
 use Rattle.std.specs.Prelude.{ℕ, ◌≢◌, ◌+◌, false, List, ◌∷◌, replicate}
 use Rattle.drm_bits.specs.Bits.{bits_of}
-use Rattle.drm_bits.specs.Fields.{Field, field, flag, AreFields, Fit}
+use Rattle.drm_bits.specs.Fields.{BitField, field, flag, AreFields, AllFit}
 use Rattle.drm_sdc.specs.declared.entity.Entity.{Entity}
 use Rattle.drm_sdc.specs.declared.body.Body.{Body}
 use Rattle.drm_sdc.specs.declared.body.Body.TheVariants.{Mux}
 use Rattle.drm_sdc.specs.Bodies.{body_fields, body_length, kind_of, IsBody}
 
-abbrev pub entity_fields : Entity → List Field
+abbrev pub entity_fields : Entity → List BitField
 entity_fields e = field 7 (body_length e.body) ∷ flag e.version ∷ field 4 (kind_of e.body) ∷ body_fields e.body
 
 -- the bytes of an entity
@@ -21,7 +21,7 @@ empty_entity =
 
 -- The entities that can be written: each number fits its field, the body length among them.
 pub record EntityFits (e : Entity) : Type 0 where
-  pub fields : Fit (entity_fields e)
+  pub fields : AllFit (entity_fields e)
   pub body : IsBody e.body
   pub not_empty : e ≢ empty_entity
 
@@ -32,5 +32,5 @@ pub record IsEntity (e : Entity) (bytes : List ℕ) : Type 0 where
 
 -- Each number of the body fits its field, the length and the type among them, and the body is what its type asks for.
 pub record BodyFits (b : Body) : Type 0 where
-  pub fields : Fit (field 7 (body_length b) ∷ field 4 (kind_of b) ∷ body_fields b)
+  pub fields : AllFit (field 7 (body_length b) ∷ field 4 (kind_of b) ∷ body_fields b)
   pub body : IsBody b

@@ -134,7 +134,7 @@ entity_from bytes =
     record { version = bit (drop 7 (bits_of bytes)); body = body_from (described_kind bytes) (body_bits bytes) (drop 2 bytes) }
 
 -- The bytes are as long as their header says, their body has a length of its type, and a label is UTF-8.
-pub record IsSound (bytes : List ℕ) : Type 0 where
+pub record IsWellFormedEntity (bytes : List ℕ) : Type 0 where
   pub whole : length bytes ≡ 2 + described_length bytes
   pub body : has_body_length (described_kind bytes) (body_bits bytes) (described_length bytes) ≡ true
   pub label : described_kind bytes ≡ 1 → IsUtf8 (drop 2 bytes)

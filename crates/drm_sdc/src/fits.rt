@@ -1,7 +1,7 @@
 //! Which bodies can be written.
 
 ghost use Rattle.std.specs.Prelude.{◌≡◌, ◌↔◌, ◌+◌, ◌*◌, ◌<◌, ◌^◌, IsTrue, length};
-ghost use Rattle.drm_bits.specs.Fields.{Fit};
+ghost use Rattle.drm_bits.specs.Fields.{AllFit};
 ghost use Rattle.drm_sdc.specs.Bodies.{body_length, channel_fields, is_typed, octets, optional, count, mode_size, mode_fields, mode_length};
 ghost use Rattle.drm_sdc.specs.Entity.{BodyFits};
 ghost use Rattle.drm_sdc.specs.declared.body.AppMode.TheVariants.{Sync, Packet};
@@ -86,7 +86,7 @@ pub fn body_fits(body: &Body) -> bool
 fn octets_fit(bytes: &Octets, before: usize) -> bool
     requires { before < 3 }
     ensures length { IsTrue result ↔ (before + length bytes.now < 2 ^ 7) }
-    ensures octets { Fit (octets bytes.now) }
+    ensures octets { AllFit (octets bytes.now) }
 {
     length_fits(bytes.as_slice(), before)
 }
@@ -94,7 +94,7 @@ fn octets_fit(bytes: &Octets, before: usize) -> bool
 fn length_fits(bytes: &[u8], before: usize) -> bool
     requires { before < 3 }
     ensures length { IsTrue result ↔ (before + length bytes.now < 2 ^ 7) }
-    ensures octets { Fit (octets bytes.now) }
+    ensures octets { AllFit (octets bytes.now) }
 {
     before + bytes.len() < 128
 }
@@ -120,9 +120,9 @@ fn label_fits(short: u8, spare: u8, text: &Octets) -> bool
 }
 
 fn mode_fits(mode: AppMode, bytes: &Octets) -> bool
-    ensures right { IsTrue result ↔ ((mode_size mode + length bytes.now < 2 ^ 7) × Fit (mode_fields mode)) }
-    ensures length { Fit (mode_length mode) }
-    ensures octets { Fit (octets bytes.now) }
+    ensures right { IsTrue result ↔ ((mode_size mode + length bytes.now < 2 ^ 7) × AllFit (mode_fields mode)) }
+    ensures length { AllFit (mode_length mode) }
+    ensures octets { AllFit (octets bytes.now) }
 {
     match mode {
         AppMode::Sync { spare } => octets_fit(bytes, 1) && spare < 8,
@@ -137,8 +137,8 @@ fn has_own_body(kind: u8) -> bool
 }
 
 fn frequencies_fit(restriction: Option<u8>, region: Option<u8>, list: &Channels) -> bool
-    ensures fit { Fit (optional restriction) × Fit (optional region) }
-    ensures right { IsTrue result ↔ ((count restriction + count region + 2 * length list.now < 2 ^ 7) × Fit (channel_fields list.now)) }
+    ensures fit { AllFit (optional restriction) × AllFit (optional region) }
+    ensures right { IsTrue result ↔ ((count restriction + count region + 2 * length list.now < 2 ^ 7) × AllFit (channel_fields list.now)) }
 {
     let before = usize::from(restriction.is_some()) + usize::from(region.is_some());
     let channels = list.as_slice();
@@ -146,7 +146,7 @@ fn frequencies_fit(restriction: Option<u8>, region: Option<u8>, list: &Channels)
 }
 
 fn channels_fit(channels: &[Channel15]) -> bool
-    ensures { IsTrue result ↔ Fit (channel_fields channels.now) }
+    ensures { IsTrue result ↔ AllFit (channel_fields channels.now) }
 {
     for channel in channels {
         if channel.number >= 1 << 15 {

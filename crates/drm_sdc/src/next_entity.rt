@@ -1,8 +1,8 @@
 //! Where the entities of a field begin and end, and what is wrong with them.
 
 ghost use Rattle.std.specs.Prelude.{◌≡◌, ◌≤◌, ◌<◌, ◌+◌, ◌*◌, ◌↔◌, IsTrue, true, false, IsUtf8, length, drop, IfOk, IfErr, IfSome, IfNone, OnOk};
-ghost use Rattle.drm_sdc.specs.Reading.{described_length, has_body_length, optional_count, in_packets, IsSound};
-ghost use Rattle.drm_sdc.specs.Field.{IsTail, IsCut, IsEntityFault, first_entity, IsNext};
+ghost use Rattle.drm_sdc.specs.Reading.{described_length, has_body_length, optional_count, in_packets, IsWellFormedEntity};
+ghost use Rattle.drm_sdc.specs.Field.{IsTail, IsEntityCut, IsEntityFault, first_entity, IsNextEntity};
 
 use crate::SdcFault;
 use drm_bits::Bits;
@@ -10,7 +10,7 @@ use drm_bits::Bits;
 /// The bytes of the entity that begins at `at`, or `None` where the tail does.
 pub fn next_entity(field: &[u8], at: usize) -> Result<Option<usize>, SdcFault>
     requires { at ≤ length field.now }
-    ensures entity { IfOk result (λ o. IfSome o (λ n. IsNext n (drop at field.now))) }
+    ensures entity { IfOk result (λ o. IfSome o (λ n. IsNextEntity n (drop at field.now))) }
     ensures tail { IfOk result (λ o. IfNone o (IsTail (drop at field.now))) }
     ensures fault { IfErr result (λ f. (¬ IsTail (drop at field.now)) × IsEntityFault at (drop at field.now) f) }
 {
@@ -48,7 +48,7 @@ fn check_entity(bytes: &[u8], len: usize, at: usize) -> Result<(), SdcFault>
     requires length { len ≡ described_length bytes.now }
     requires fits { len < 128 }
     requires whole { 2 + len ≤ length bytes.now }
-    ensures sound { OnOk result (IsSound (first_entity bytes.now)) }
+    ensures sound { OnOk result (IsWellFormedEntity (first_entity bytes.now)) }
     ensures fault { IfErr result (IsEntityFault at bytes.now) }
 {
     let entity = &bytes[..2 + len];

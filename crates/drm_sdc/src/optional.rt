@@ -3,7 +3,7 @@
 ghost use Rattle.std.specs.Prelude.{◌≡◌, true, ◌+◌, ◌*◌, ◌≤◌, length};
 ghost use Rattle.std.specs.Int.{from_bool};
 ghost use Rattle.drm_bits.specs.Fields.{spelled};
-ghost use Rattle.drm_bits.specs.Sink.{Wrote, unwritten};
+ghost use Rattle.drm_bits.specs.Sink.{WroteBits, unwritten};
 ghost use Rattle.drm_sdc.specs.Bodies.{optional as optional_fields, count};
 ghost use Rattle.drm_sdc.specs.Reading.{optional_from, behind};
 
@@ -22,7 +22,7 @@ pub fn take_optional(bits: &mut Bits<'_>, there: bool) -> Option<u8>
 /// Puts a byte, where it is there.
 pub fn put_optional(sink: &mut BitSink<'_>, byte: Option<u8>)
     requires { 8 * count byte ≤ length (unwritten sink.old) }
-    ensures wrote { Wrote (spelled (optional_fields byte)) sink.old sink.new }
+    ensures wrote { WroteBits (spelled (optional_fields byte)) sink.old sink.new }
     ensures remaining { length (unwritten sink.new) + 8 * count byte ≡ length (unwritten sink.old) }
 {
     if let Some(byte) = byte {

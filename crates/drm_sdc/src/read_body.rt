@@ -1,7 +1,7 @@
 //! One entity, read from its bytes.
 
 ghost use Rattle.std.specs.Prelude.{◌≡◌, ◌≤◌, ◌+◌, ◌*◌, true, length, IfOk};
-ghost use Rattle.drm_sdc.specs.Reading.{body_from, entity_from, has_body_length, raw_from, IsSound};
+ghost use Rattle.drm_sdc.specs.Reading.{body_from, entity_from, has_body_length, raw_from, IsWellFormedEntity};
 
 use crate::application::read_application;
 use crate::audio::read_audio;
@@ -15,7 +15,7 @@ use std::alloc::Global;
 
 /// The entity that these bytes are.
 pub fn read_entity(alloc: Global, bytes: &[u8]) -> Result<Entity, NoMemory>
-    requires sound { IsSound bytes.now }
+    requires sound { IsWellFormedEntity bytes.now }
     requires short { length bytes.now ≤ 129 }
     ensures { IfOk result (λ e. e ≡ entity_from bytes.now) }
 {

@@ -3,7 +3,7 @@
 ghost use Rattle.std.specs.Prelude.{◌≡◌, ◌+◌, ◌*◌, ◌/◌, ◌%◌, ◌<◌, ◌≤◌, ◌^◌, ◌∷◌, ◌++◌, ◌⊎◌, ℕ, List, Bool, length, take, drop, slice_index, IfOk, IfErr, IfSome, IfNone};
 ghost use Rattle.drm_bits.specs.Bits.{bits_of, digits};
 ghost use Rattle.drm_bits.specs.Crc.{IsCheck, crc16_polynomial};
-ghost use Rattle.drm_sdc.specs.Block.{IsFramed, IsChecked, IsOpen, IsBlockLength, IsBlockFault};
+ghost use Rattle.drm_sdc.specs.Block.{IsFramed, IsBlockChecked, IsBlockOpen, IsBlockLength, IsBlockFault};
 
 use crate::SdcFault;
 use drm_bits::{Bits, CrcRun};
@@ -11,7 +11,7 @@ use drm_bits::{Bits, CrcRun};
 /// How many bytes the data field has.
 pub fn block_room(value: &[u8], bits: u32) -> Result<usize, SdcFault>
     requires { length value.now ≡ (bits + 7) / 8 }
-    ensures open { IfOk result (λ d. IsOpen d (take bits (bits_of value.now))) }
+    ensures open { IfOk result (λ d. IsBlockOpen d (take bits (bits_of value.now))) }
     ensures fault { IfErr result (IsBlockFault (take bits (bits_of value.now))) }
 {
     let Some(room) = room_of(bits) else {
@@ -40,8 +40,8 @@ fn room_of(bits: u32) -> Option<usize>
 /// Writes the data field, and gives the index.
 pub fn unpack_block(value: &[u8], bits: u32, field: &mut [u8]) -> Result<u8, SdcFault>
     requires length { length value.now ≡ (bits + 7) / 8 }
-    requires open { IsOpen (length field.old) (take bits (bits_of value.now)) }
-    ensures parts { IfOk result (λ afs. (check : List Bool) × IsFramed afs field.new check (take bits (bits_of value.now)) × IsChecked afs field.new check) }
+    requires open { IsBlockOpen (length field.old) (take bits (bits_of value.now)) }
+    ensures parts { IfOk result (λ afs. (check : List Bool) × IsFramed afs field.new check (take bits (bits_of value.now)) × IsBlockChecked afs field.new check) }
     ensures fault { IfErr result (IsBlockFault (take bits (bits_of value.now))) }
 {
     let mut rest = behind_front(value, bits);

@@ -1,11 +1,11 @@
 //! Bodies, written into bits.
 
 ghost use Rattle.std.specs.Prelude.{◌≡◌, ◌+◌, ◌*◌, ◌≤◌, ◌<◌, ◌^◌, ℕ, length};
-ghost use Rattle.drm_bits.specs.Fields.{Fit, spelled};
+ghost use Rattle.drm_bits.specs.Fields.{AllFit, spelled};
 ghost use Rattle.drm_bits.specs.Sink.{unwritten};
 ghost use Rattle.drm_sdc.specs.Bodies.{body_fields, body_length, kind_of, channel_fields, mode_fields, mode_length, mode_size, count};
 ghost use Rattle.drm_sdc.specs.Entity.{BodyFits, EntityFits, entity_fields, entity_size};
-ghost use Rattle.drm_bits.specs.Sink.{Wrote};
+ghost use Rattle.drm_bits.specs.Sink.{WroteBits};
 ghost use Rattle.drm_sdc.specs.declared.body.Body.TheVariants.{Mux, Label, Freq, When, App, Time, Audio, Next, Language, Raw};
 
 use crate::optional::put_optional;
@@ -19,7 +19,7 @@ use drm_bits::{BitSink, Octets};
 pub fn write_body(sink: &mut BitSink<'_>, body: &Body)
     requires fits { BodyFits body.now }
     requires room { 4 + 8 * body_length body.now ≤ length (unwritten sink.old) }
-    ensures wrote { Wrote (spelled (body_fields body.now)) sink.old sink.new }
+    ensures wrote { WroteBits (spelled (body_fields body.now)) sink.old sink.new }
     ensures remaining { length (unwritten sink.new) + (4 + 8 * body_length body.now) ≡ length (unwritten sink.old) }
 {
     match body {
@@ -116,9 +116,9 @@ fn write_frequencies(
     region: Option<u8>,
     list: &Channels,
 )
-    requires fits { Fit (channel_fields list.now) }
+    requires fits { AllFit (channel_fields list.now) }
     requires room { 4 + 8 * (count restriction + count region + 2 * length list.now) ≤ length (unwritten sink.old) }
-    ensures wrote { Wrote (spelled (body_fields (Freq sync layer restriction region list.now))) sink.old sink.new }
+    ensures wrote { WroteBits (spelled (body_fields (Freq sync layer restriction region list.now))) sink.old sink.new }
     ensures remaining { length (unwritten sink.new) + (4 + 8 * (count restriction + count region + 2 * length list.now)) ≡ length (unwritten sink.old) }
 {
     sink.put_flag(sync);
@@ -131,9 +131,9 @@ fn write_frequencies(
 }
 
 fn write_channels(sink: &mut BitSink<'_>, channels: &[Channel15])
-    requires fits { Fit (channel_fields channels.now) }
+    requires fits { AllFit (channel_fields channels.now) }
     requires room { 16 * length channels.now ≤ length (unwritten sink.old) }
-    ensures wrote { Wrote (spelled (channel_fields channels.now)) sink.old sink.new }
+    ensures wrote { WroteBits (spelled (channel_fields channels.now)) sink.old sink.new }
     ensures remaining { length (unwritten sink.new) + 16 * length channels.now ≡ length (unwritten sink.old) }
 {
     for channel in channels {
@@ -145,7 +145,7 @@ fn write_channels(sink: &mut BitSink<'_>, channels: &[Channel15])
 fn write_raw(sink: &mut BitSink<'_>, nibble: u8, bytes: &Octets)
     requires fits { nibble < 2 ^ 4 }
     requires room { 4 + 8 * length bytes.now ≤ length (unwritten sink.old) }
-    ensures wrote { (kind : ℕ) → Wrote (spelled (body_fields (Raw kind nibble bytes.now))) sink.old sink.new }
+    ensures wrote { (kind : ℕ) → WroteBits (spelled (body_fields (Raw kind nibble bytes.now))) sink.old sink.new }
     ensures remaining { length (unwritten sink.new) + (4 + 8 * length bytes.now) ≡ length (unwritten sink.old) }
 {
     sink.put_u8(nibble, 4);

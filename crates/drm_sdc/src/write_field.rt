@@ -6,7 +6,7 @@ ghost use Rattle.drm_bits.specs.Sink.{unwritten};
 ghost use Rattle.drm_sdc.specs.Bodies.{kind_of};
 ghost use Rattle.drm_sdc.specs.Entity.{EntityFits, entity_fields, entity_size};
 ghost use Rattle.drm_sdc.specs.Field.{IsField};
-ghost use Rattle.drm_bits.specs.Sink.{Wrote};
+ghost use Rattle.drm_bits.specs.Sink.{WroteBits};
 ghost use Rattle.drm_sdc.specs.Writing.{entity_bits, total_size};
 
 use crate::put::put_zeros;
@@ -45,7 +45,7 @@ pub fn write_field(entities: &[Entity], needed: usize, room: usize, field: &mut 
 pub fn write_entities(sink: &mut BitSink<'_>, entities: &[Entity])
     requires fit { All EntityFits entities.now }
     requires room { 8 * total_size entities.now ≤ length (unwritten sink.old) }
-    ensures wrote { Wrote (entity_bits entities.now) sink.old sink.new }
+    ensures wrote { WroteBits (entity_bits entities.now) sink.old sink.new }
     ensures remaining { length (unwritten sink.new) + 8 * total_size entities.now ≡ length (unwritten sink.old) }
 {
     for entity in entities {
@@ -57,7 +57,7 @@ pub fn write_entities(sink: &mut BitSink<'_>, entities: &[Entity])
 pub fn write_entity(sink: &mut BitSink<'_>, version: bool, body: &Body)
     requires fits { EntityFits (record { version = version; body = body.now }) }
     requires room { 8 * entity_size (record { version = version; body = body.now }) ≤ length (unwritten sink.old) }
-    ensures wrote { Wrote (spelled (entity_fields (record { version = version; body = body.now }))) sink.old sink.new }
+    ensures wrote { WroteBits (spelled (entity_fields (record { version = version; body = body.now }))) sink.old sink.new }
     ensures remaining { length (unwritten sink.new) + 8 * entity_size (record { version = version; body = body.now }) ≡ length (unwritten sink.old) }
 {
     let len = body_size(body) as u8;

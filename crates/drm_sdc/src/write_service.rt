@@ -1,10 +1,10 @@
 //! Labels, languages, applications and the coding of audio services, written into bits.
 
 ghost use Rattle.std.specs.Prelude.{◌≡◌, ◌+◌, ◌*◌, ◌≤◌, ◌<◌, ◌^◌, ◌++◌, ◌∷◌, length};
-ghost use Rattle.drm_bits.specs.Fields.{Fit, field, flag, spelled};
+ghost use Rattle.drm_bits.specs.Fields.{AllFit, field, flag, spelled};
 ghost use Rattle.drm_bits.specs.Sink.{unwritten};
 ghost use Rattle.drm_sdc.specs.Bodies.{body_fields, mode_fields, mode_length, mode_size};
-ghost use Rattle.drm_bits.specs.Sink.{Wrote};
+ghost use Rattle.drm_bits.specs.Sink.{WroteBits};
 ghost use Rattle.drm_sdc.specs.declared.body.Body.TheVariants.{Label, App, Audio, Language};
 
 use crate::AppMode;
@@ -12,9 +12,9 @@ use crate::put::put_octets;
 use drm_bits::{BitSink, Octets};
 
 pub fn write_label(sink: &mut BitSink<'_>, short: u8, spare: u8, text: &Octets)
-    requires fits { Fit (body_fields (Label short spare text.now)) }
+    requires fits { AllFit (body_fields (Label short spare text.now)) }
     requires room { 4 + 8 * length text.now ≤ length (unwritten sink.old) }
-    ensures wrote { Wrote (spelled (body_fields (Label short spare text.now))) sink.old sink.new }
+    ensures wrote { WroteBits (spelled (body_fields (Label short spare text.now))) sink.old sink.new }
     ensures remaining { length (unwritten sink.new) + (4 + 8 * length text.now) ≡ length (unwritten sink.old) }
 {
     sink.put_u8(short, 2);
@@ -23,9 +23,9 @@ pub fn write_label(sink: &mut BitSink<'_>, short: u8, spare: u8, text: &Octets)
 }
 
 pub fn write_language(sink: &mut BitSink<'_>, short: u8, spare: u8, language: u32, country: u16)
-    requires fits { Fit (body_fields (Language short spare language country)) }
+    requires fits { AllFit (body_fields (Language short spare language country)) }
     requires room { 44 ≤ length (unwritten sink.old) }
-    ensures wrote { Wrote (spelled (body_fields (Language short spare language country))) sink.old sink.new }
+    ensures wrote { WroteBits (spelled (body_fields (Language short spare language country))) sink.old sink.new }
     ensures remaining { length (unwritten sink.new) + 44 ≡ length (unwritten sink.old) }
 {
     sink.put_u8(short, 2);
@@ -44,9 +44,9 @@ pub fn write_application(
     bytes: &Octets,
 )
     requires numbers { (short < 2 ^ 2) × (stream < 2 ^ 2) × (domain < 2 ^ 3) }
-    requires mode { Fit (mode_fields packet) }
+    requires mode { AllFit (mode_fields packet) }
     requires room { 4 + 8 * (mode_size packet + length bytes.now) ≤ length (unwritten sink.old) }
-    ensures wrote { Wrote (spelled (body_fields (App short stream packet enhancement domain bytes.now))) sink.old sink.new }
+    ensures wrote { WroteBits (spelled (body_fields (App short stream packet enhancement domain bytes.now))) sink.old sink.new }
     ensures remaining { length (unwritten sink.new) + (4 + 8 * (mode_size packet + length bytes.now)) ≡ length (unwritten sink.old) }
 {
     sink.put_u8(short, 2);
@@ -56,10 +56,10 @@ pub fn write_application(
 }
 
 fn write_mode(sink: &mut BitSink<'_>, packet: AppMode, enhancement: bool, domain: u8)
-    requires fits { Fit (mode_fields packet) }
+    requires fits { AllFit (mode_fields packet) }
     requires domain { domain < 2 ^ 3 }
     requires room { 8 * mode_size packet ≤ length (unwritten sink.old) }
-    ensures wrote { Wrote (spelled (mode_fields packet ++ (flag enhancement ∷ field 3 domain ∷ mode_length packet))) sink.old sink.new }
+    ensures wrote { WroteBits (spelled (mode_fields packet ++ (flag enhancement ∷ field 3 domain ∷ mode_length packet))) sink.old sink.new }
     ensures remaining { length (unwritten sink.new) + 8 * mode_size packet ≡ length (unwritten sink.old) }
 {
     match packet {
@@ -94,9 +94,9 @@ pub fn write_audio(
     spare: bool,
     config: &Octets,
 )
-    requires fits { Fit (body_fields (Audio short stream coding sbr mode rate text enhancement coder spare config.now)) }
+    requires fits { AllFit (body_fields (Audio short stream coding sbr mode rate text enhancement coder spare config.now)) }
     requires room { 20 + 8 * length config.now ≤ length (unwritten sink.old) }
-    ensures wrote { Wrote (spelled (body_fields (Audio short stream coding sbr mode rate text enhancement coder spare config.now))) sink.old sink.new }
+    ensures wrote { WroteBits (spelled (body_fields (Audio short stream coding sbr mode rate text enhancement coder spare config.now))) sink.old sink.new }
     ensures remaining { length (unwritten sink.new) + (20 + 8 * length config.now) ≡ length (unwritten sink.old) }
 {
     sink.put_u8(short, 2);

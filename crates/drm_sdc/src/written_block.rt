@@ -5,7 +5,7 @@ ghost use Rattle.drm_bits.specs.Bits.{bits_of};
 ghost use Rattle.drm_bits.specs.Crc.{zeros};
 ghost use Rattle.drm_sdc.specs.Entity.{EntityFits};
 ghost use Rattle.drm_sdc.specs.declared.entity.Entity.{Entity};
-ghost use Rattle.drm_sdc.specs.Block.{IsBlock, IsChecked, first_form};
+ghost use Rattle.drm_sdc.specs.Block.{IsBlock, IsBlockChecked, first_form};
 ghost use Rattle.drm_sdc.specs.Field.{IsField};
 ghost use Rattle.drm_sdc.specs.Writing.{total_size};
 
@@ -53,7 +53,7 @@ pub fn frame_field(afs: u8, field: &[u8], into: &mut [u8]) -> u32
     requires into { length field.now + 3 ≤ length into.old }
     ensures bits { result ≡ 8 * length field.now + 20 }
     // Whatever the field has, it stands between the index and its check value; so the bits are the block of what it has.
-    ensures framed { (check : List Bool) × IsChecked afs field.now check × (take result (bits_of into.new) ≡ first_form afs field.now check) }
+    ensures framed { (check : List Bool) × IsBlockChecked afs field.now check × (take result (bits_of into.new) ≡ first_form afs field.now check) }
     ensures block { (entities : List Entity) (tail : List ℕ) → IsField entities tail field.now → IsBlock (record { afs = afs; entities = entities; tail = tail }) (take result (bits_of into.new)) }
     ensures last { take 4 (drop result (bits_of into.new)) ≡ zeros 4 }
     ensures rest { drop (length field.now + 3) into.new ≡ drop (length field.now + 3) into.old }
@@ -70,7 +70,7 @@ pub fn frame_field(afs: u8, field: &[u8], into: &mut [u8]) -> u32
 fn write_frame(afs: u8, field: &[u8], into: &mut [u8; 1026])
     requires index { afs < 2 ^ 4 }
     requires room { length field.now ≤ 1023 }
-    ensures frame { (check : List Bool) × IsChecked afs field.now check × (length check ≡ 16) × (bits_of (take (length field.now + 3) into.new) ≡ first_form afs field.now check ++ zeros 4) }
+    ensures frame { (check : List Bool) × IsBlockChecked afs field.now check × (length check ≡ 16) × (bits_of (take (length field.now + 3) into.new) ≡ first_form afs field.now check ++ zeros 4) }
     ensures octets { (i : ℕ) → slice_index into.new i < 2 ^ 8 }
 {
     let check = check_value(afs, field);

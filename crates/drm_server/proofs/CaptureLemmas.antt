@@ -5,13 +5,13 @@ use Rattle.std.proofs.Math.Seq.{take-append-add}
 use borrow.Rule.Slice.PartMut.{put_mid, post_of}
 use Rattle.std.specs.List.{concat}
 use Rattle.drm_schedule.specs.declared.plan.Plan.{Plan}
-use Rattle.drm_links.specs.Told.{Known}
-use Rattle.drm_links.specs.Sink.{Output, Outputs, IsFront}
-use Rattle.drm_links.proofs.ToldLemmas.{Outputs-then}
+use Rattle.drm_links.specs.Known.{Known}
+use Rattle.drm_links.specs.Sink.{Output, OutputsText, IsPrefix}
+use Rattle.drm_links.proofs.KnownLemmas.{OutputsText-then}
 use Rattle.drm_timeline.specs.Numbers.{frame_count}
 use Rattle.drm_server.specs.Datagrams.{IsDatagramAt, AreFirst, AreOfFrames, AreDatagrams}
-use Rattle.drm_server.specs.Capture.{IsCapture, IsFrontOfCapture}
-use Rattle.drm_server.specs.Gathering.{GathersDatagrams, IsFrontOfFrame, IsFrontWithDatagram}
+use Rattle.drm_server.specs.Capture.{IsCapture, IsPrefixOfCapture}
+use Rattle.drm_server.specs.Gathering.{GathersDatagrams, IsPrefixOfFrame, IsPrefixWithDatagram}
 
 pub concat_append : (xs ys : List (List ℕ)) → concat (xs ++ ys) ≡ concat xs ++ concat ys
 concat_append [] ys = refl
@@ -21,7 +21,7 @@ concat_push : (xs : List (List ℕ)) (x : List ℕ) → concat (xs ++ x ∷ []) 
 concat_push xs x = concat_append xs (x ∷ []) ∙ ap (λ l. concat xs ++ l) (append-nil x)
 
 -- The front of two lists, one after the other, ends in the first one or in the second.
-front_of_two : (xs ys text : List ℕ) → IsFront (xs ++ ys) text → IsFront xs text ⊎ ((part : List ℕ) × IsFront ys part × (text ≡ xs ++ part))
+front_of_two : (xs ys text : List ℕ) → IsPrefix (xs ++ ys) text → IsPrefix xs text ⊎ ((part : List ℕ) × IsPrefix ys part × (text ≡ xs ++ part))
 front_of_two [] ys text front = inr (text, front, refl)
 front_of_two (x ∷ xs) ys [] front = inl (x ∷ xs, refl)
 front_of_two (x ∷ xs) ys (y ∷ text) (rest, is) =
@@ -46,7 +46,7 @@ nothing_before (x ∷ part) rest is = cc
 module _ (plan : Plan) (from : ℕ) where
   -- datagrams of the frames before, some first ones of this frame, and a front of the next one
   ends_in : (n i : ℕ) → from + n < frame_count plan → (before first : List (List ℕ)) → AreOfFrames plan from n before → AreFirst plan (from + n) i first
-      → (next front : List ℕ) → IsDatagramAt plan (from + n) i next → IsFront next front → IsFrontOfCapture plan from (concat before ++ (concat first ++ front))
+      → (next front : List ℕ) → IsDatagramAt plan (from + n) i next → IsPrefix next front → IsPrefixOfCapture plan from (concat before ++ (concat first ++ front))
   ends_in n i within before first are are_first next front is is_front = (
     next,
     before ++ first,
@@ -58,33 +58,33 @@ module _ (plan : Plan) (from : ℕ) where
 
   -- a front of some first datagrams and one more: it ends in that one, or where `early` says
   in_next : (n i : ℕ) → from + n < frame_count plan → (before others : List (List ℕ)) (datagram : List ℕ) → AreOfFrames plan from n before → AreFirst plan (from + n) i others → IsDatagramAt plan (from + n) i datagram
-      → (part : List ℕ) → (IsFront (concat others) part → IsFrontOfCapture plan from (concat before ++ part)) → IsFront (concat (others ++ datagram ∷ [])) part
-      → IsFrontOfCapture plan from (concat before ++ part)
+      → (part : List ℕ) → (IsPrefix (concat others) part → IsPrefixOfCapture plan from (concat before ++ part)) → IsPrefix (concat (others ++ datagram ∷ [])) part
+      → IsPrefixOfCapture plan from (concat before ++ part)
   in_next n i within before others datagram are are_others is part early (rest, front) =
       elim (front_of_two (concat others) datagram part (rest, sym (concat_push others datagram) ∙ front)) [
         | inl first ↦ early first
         | inr found ↦
-            subst (λ l. IsFrontOfCapture plan from (concat before ++ l)) (sym found.2)
+            subst (λ l. IsPrefixOfCapture plan from (concat before ++ l)) (sym found.2)
             (ends_in n i within before others are are_others datagram found.0 is found.1)
       ]
 
   -- a front of one or more first datagrams of a frame, behind all of the frames before it
   front_in_frame : (n i : ℕ) → from + n < frame_count plan → (before first : List (List ℕ)) → AreOfFrames plan from n before → AreFirst plan (from + n) (suc i) first
-      → (part : List ℕ) → IsFront (concat first) part → IsFrontOfCapture plan from (concat before ++ part)
+      → (part : List ℕ) → IsPrefix (concat first) part → IsPrefixOfCapture plan from (concat before ++ part)
   front_in_frame n zero within before first are (others, datagram, none, is, same) part front =
       in_next n zero within before others datagram are none is part
       (λ (rest, is_front).
-      subst (λ l. IsFrontOfCapture plan from (concat before ++ l)) (sym (nothing_before part rest (sym (ap concat none) ∙ is_front)))
+      subst (λ l. IsPrefixOfCapture plan from (concat before ++ l)) (sym (nothing_before part rest (sym (ap concat none) ∙ is_front)))
       (ends_in n zero within before [] are refl datagram [] is (datagram, refl)))
-      (subst (λ l. IsFront (concat l) part) same front)
+      (subst (λ l. IsPrefix (concat l) part) same front)
   front_in_frame n (suc i) within before first are (others, datagram, are_others, is, same) part front =
       in_next n (suc i) within before others datagram are are_others is part
       (front_in_frame n i within before others are are_others part)
-      (subst (λ l. IsFront (concat l) part) same front)
+      (subst (λ l. IsPrefix (concat l) part) same front)
 
   -- a front of the datagrams of some first frames: it ends in one of them, or there are none and nothing else
   front_in_frames : (n : ℕ) → from + n ≤ frame_count plan → (before : List (List ℕ)) → AreOfFrames plan from n before
-      → (text : List ℕ) → IsFront (concat before) text → IsFrontOfCapture plan from text ⊎ (text ≡ concat before)
+      → (text : List ℕ) → IsPrefix (concat before) text → IsPrefixOfCapture plan from text ⊎ (text ≡ concat before)
   front_in_frames zero within before none text (rest, is) =
       inr (nothing_before text rest (sym (ap concat none) ∙ is) ∙ sym (ap concat none))
   front_in_frames (suc n) within before (others, of_frame, are, (count, has, first), same) text (rest, is) =
@@ -98,51 +98,51 @@ module _ (plan : Plan) (from : ℕ) where
         | inr found ↦ last count first found.0 found.1 found.2
       ]
     where
-      last : (count : ℕ) → AreFirst plan (from + n) count of_frame → (part : List ℕ) → IsFront (concat of_frame) part → text ≡ concat others ++ part
-          → IsFrontOfCapture plan from text ⊎ (text ≡ concat before)
+      last : (count : ℕ) → AreFirst plan (from + n) count of_frame → (part : List ℕ) → IsPrefix (concat of_frame) part → text ≡ concat others ++ part
+          → IsPrefixOfCapture plan from text ⊎ (text ≡ concat before)
       last zero none part (rest, front) is =
           let empty : part ≡ [] = nothing_before part rest (sym (ap concat none) ∙ front) in
           inr (is ∙ (ap (λ l. concat others ++ l) (empty ∙ sym (ap concat none)) ∙ sym (ap concat same ∙ concat_append others of_frame)))
       last (suc i) first part front is =
-          inl (subst (IsFrontOfCapture plan from) (sym is) (front_in_frame n i (omega (arith, within)) others of_frame are first part front))
+          inl (subst (IsPrefixOfCapture plan from) (sym is) (front_in_frame n i (omega (arith, within)) others of_frame are first part front))
 
   -- All datagrams of one frame or more are a front too: the last of them is whole.
   all_are_front : (n i : ℕ) → from + n < frame_count plan → (before first : List (List ℕ)) → AreOfFrames plan from n before → AreFirst plan (from + n) (suc i) first
-      → IsFrontOfCapture plan from (concat (before ++ first))
+      → IsPrefixOfCapture plan from (concat (before ++ first))
   all_are_front n i within before first are are_first =
-      subst (IsFrontOfCapture plan from) (sym (concat_append before first))
+      subst (IsPrefixOfCapture plan from) (sym (concat_append before first))
       (front_in_frame n i within before first are are_first (concat first) ([], sym (append-nil (concat first))))
 
   pub one_or_more : (n count : ℕ) → from + n < frame_count plan → 1 ≤ count → (before first : List (List ℕ)) → AreOfFrames plan from n before → AreFirst plan (from + n) count first
-      → IsFrontOfCapture plan from (concat (before ++ first))
+      → IsPrefixOfCapture plan from (concat (before ++ first))
   one_or_more n zero within some before first are are_first = absurd (omega (arith, some))
   one_or_more n (suc i) within some before first are are_first = all_are_front n i within before first are are_first
 
   -- a front of all frames before, and of one or more first datagrams of this frame
   front_so_far : (n i : ℕ) → from + n < frame_count plan → (before first : List (List ℕ)) → AreOfFrames plan from n before → AreFirst plan (from + n) (suc i) first
-      → (text : List ℕ) → IsFront (concat before ++ concat first) text → IsFrontOfCapture plan from text
+      → (text : List ℕ) → IsPrefix (concat before ++ concat first) text → IsPrefixOfCapture plan from text
   front_so_far n i within before first are are_first text front =
       elim (front_of_two (concat before) (concat first) text front) [
         | inl early ↦
             elim (front_in_frames n (omega (arith, within)) before are text early) [
               | inl found ↦ found
               | inr whole ↦
-                  subst (IsFrontOfCapture plan from) (append-nil (concat before) ∙ sym whole)
+                  subst (IsPrefixOfCapture plan from) (append-nil (concat before) ∙ sym whole)
                   (front_in_frame n i within before first are are_first [] (concat first, refl))
             ]
-        | inr found ↦ subst (IsFrontOfCapture plan from) (sym found.2) (front_in_frame n i within before first are are_first found.0 found.1)
+        | inr found ↦ subst (IsPrefixOfCapture plan from) (sym found.2) (front_in_frame n i within before first are are_first found.0 found.1)
       ]
 
 -- what waited, and more behind it, and more again
 pub gathers_then : (waited xs ys then_waits waits : List ℕ) (a b c : Known Output) → GathersDatagrams waited xs then_waits a b → GathersDatagrams then_waits ys waits b c → GathersDatagrams waited (xs ++ ys) waits a c
 gathers_then waited xs ys then_waits waits a b c first second =
-    Outputs-then (λ s. waited ++ xs ≡ s ++ then_waits) (λ t. then_waits ++ ys ≡ t ++ waits) (λ text. waited ++ (xs ++ ys) ≡ text ++ waits) a b c first second
+    OutputsText-then (λ s. waited ++ xs ≡ s ++ then_waits) (λ t. then_waits ++ ys ≡ t ++ waits) (λ text. waited ++ (xs ++ ys) ≡ text ++ waits) a b c first second
     (λ s t is_s is_t. sym (append_assoc waited xs ys) ∙ (ap (λ l. l ++ ys) is_s ∙ (append_assoc s then_waits ys ∙ (ap (λ l. s ++ l) is_t ∙ sym (append_assoc s t waits)))))
 
 -- and then a front of what waits, and of more behind it
-pub gathers_front : (waited xs ys then_waits : List ℕ) (a b c : Known Output) → GathersDatagrams waited xs then_waits a b → Outputs b c (IsFront (then_waits ++ ys)) → Outputs a c (IsFront (waited ++ (xs ++ ys)))
+pub gathers_front : (waited xs ys then_waits : List ℕ) (a b c : Known Output) → GathersDatagrams waited xs then_waits a b → OutputsText b c (IsPrefix (then_waits ++ ys)) → OutputsText a c (IsPrefix (waited ++ (xs ++ ys)))
 gathers_front waited xs ys then_waits a b c first second =
-    Outputs-then (λ s. waited ++ xs ≡ s ++ then_waits) (IsFront (then_waits ++ ys)) (IsFront (waited ++ (xs ++ ys))) a b c first second
+    OutputsText-then (λ s. waited ++ xs ≡ s ++ then_waits) (IsPrefix (then_waits ++ ys)) (IsPrefix (waited ++ (xs ++ ys))) a b c first second
     (λ s t is_s front. (
       front.0,
       sym (append_assoc waited xs ys) ∙ (ap (λ l. l ++ ys) is_s ∙ (append_assoc s then_waits ys ∙ (ap (λ l. s ++ l) front.1 ∙ sym (append_assoc s t front.0)))),
@@ -156,9 +156,9 @@ gathers_datagram waited datagrams datagram then_waits waits a b c first second =
 
 -- a front with one datagram more
 pub front_of_frame : (plan : Plan) (t i : ℕ) (datagrams : List (List ℕ)) (waited then_waits : List ℕ) (a b c : Known Output) → AreFirst plan t i datagrams
-    → GathersDatagrams waited (concat datagrams) then_waits a b → Outputs b c (IsFrontWithDatagram plan t i then_waits) → Outputs a c (IsFrontOfFrame plan t waited)
+    → GathersDatagrams waited (concat datagrams) then_waits a b → OutputsText b c (IsPrefixWithDatagram plan t i then_waits) → OutputsText a c (IsPrefixOfFrame plan t waited)
 front_of_frame plan t i datagrams waited then_waits a b c are first second =
-    Outputs-then (λ s. waited ++ concat datagrams ≡ s ++ then_waits) (IsFrontWithDatagram plan t i then_waits) (IsFrontOfFrame plan t waited) a b c first second
+    OutputsText-then (λ s. waited ++ concat datagrams ≡ s ++ then_waits) (IsPrefixWithDatagram plan t i then_waits) (IsPrefixOfFrame plan t waited) a b c first second
     (λ s u is (datagram, is_datagram, (rest, front)). (
       i,
       datagrams ++ datagram ∷ [],
@@ -179,39 +179,39 @@ gathers_frame before of_frame then_waits waits a b c first second =
 module _ (plan : Plan) (from : ℕ) where
   -- a part of the next frame
   pub part_written : (n : ℕ) (datagrams : List (List ℕ)) (waits : List ℕ) (a b c : Known Output) → from + n < frame_count plan → AreOfFrames plan from n datagrams
-      → GathersDatagrams [] (concat datagrams) waits a b → Outputs b c (IsFrontOfFrame plan (from + n) waits) → Outputs a c (IsFrontOfCapture plan from)
+      → GathersDatagrams [] (concat datagrams) waits a b → OutputsText b c (IsPrefixOfFrame plan (from + n) waits) → OutputsText a c (IsPrefixOfCapture plan from)
   part_written n datagrams waits a b c within are first second =
-      Outputs-then (λ s. concat datagrams ≡ s ++ waits) (IsFrontOfFrame plan (from + n) waits) (IsFrontOfCapture plan from) a b c first second
+      OutputsText-then (λ s. concat datagrams ≡ s ++ waits) (IsPrefixOfFrame plan (from + n) waits) (IsPrefixOfCapture plan from) a b c first second
       (λ s u is (i, of_frame, are_first, (rest, front)).
       front_so_far plan from n i within datagrams of_frame are are_first (s ++ u)
       (rest, ap (λ l. l ++ concat of_frame) is ∙ (append_assoc s waits (concat of_frame) ∙ (ap (λ l. s ++ l) front ∙ sym (append_assoc s u rest)))))
 
   -- a front of what waits at the end
-  pub end_written : (n : ℕ) (datagrams : List (List ℕ)) (waits : List ℕ) (a b c : Known Output) → from + n ≤ frame_count plan → AreOfFrames plan from n datagrams → IsFrontOfCapture plan from (concat datagrams)
-      → GathersDatagrams [] (concat datagrams) waits a b → Outputs b c (IsFront waits) → Outputs a c (IsFrontOfCapture plan from)
+  pub end_written : (n : ℕ) (datagrams : List (List ℕ)) (waits : List ℕ) (a b c : Known Output) → from + n ≤ frame_count plan → AreOfFrames plan from n datagrams → IsPrefixOfCapture plan from (concat datagrams)
+      → GathersDatagrams [] (concat datagrams) waits a b → OutputsText b c (IsPrefix waits) → OutputsText a c (IsPrefixOfCapture plan from)
   end_written n datagrams waits a b c within are all first second =
-      Outputs-then (λ s. concat datagrams ≡ s ++ waits) (IsFront waits) (IsFrontOfCapture plan from) a b c first second
+      OutputsText-then (λ s. concat datagrams ≡ s ++ waits) (IsPrefix waits) (IsPrefixOfCapture plan from) a b c first second
       (λ s u is (rest, front).
-      ⊎_elim (λ found. found) (λ whole. subst (IsFrontOfCapture plan from) (sym whole) all)
+      ⊎_elim (λ found. found) (λ whole. subst (IsPrefixOfCapture plan from) (sym whole) all)
       (front_in_frames plan from n within datagrams are (s ++ u) (rest, is ∙ (ap (λ l. s ++ l) front ∙ sym (append_assoc s u rest)))))
 
   -- all of what waits at the end
   pub all_written : (datagrams : List (List ℕ)) (waits : List ℕ) (a b c : Known Output) → AreDatagrams plan from datagrams
-      → GathersDatagrams [] (concat datagrams) waits a b → Outputs b c (λ text. text ≡ waits) → Outputs a c (IsCapture plan from)
+      → GathersDatagrams [] (concat datagrams) waits a b → OutputsText b c (λ text. text ≡ waits) → OutputsText a c (IsCapture plan from)
   all_written datagrams waits a b c are first second =
-      Outputs-then (λ s. concat datagrams ≡ s ++ waits) (λ text. text ≡ waits) (IsCapture plan from) a b c first second
+      OutputsText-then (λ s. concat datagrams ≡ s ++ waits) (λ text. text ≡ waits) (IsCapture plan from) a b c first second
       (λ s u is last. (datagrams, are, ap (λ l. s ++ l) last ∙ sym is))
 
 -- all that waits of one frame, and a front of it
-pub frame_written : (datagrams : List (List ℕ)) (waits : List ℕ) (a b c : Known Output) → GathersDatagrams [] (concat datagrams) waits a b → Outputs b c (λ text. text ≡ waits)
-    → Outputs a c (λ text. text ≡ concat datagrams)
+pub frame_written : (datagrams : List (List ℕ)) (waits : List ℕ) (a b c : Known Output) → GathersDatagrams [] (concat datagrams) waits a b → OutputsText b c (λ text. text ≡ waits)
+    → OutputsText a c (λ text. text ≡ concat datagrams)
 frame_written datagrams waits a b c first second =
-    Outputs-then (λ s. concat datagrams ≡ s ++ waits) (λ text. text ≡ waits) (λ text. text ≡ concat datagrams) a b c first second
+    OutputsText-then (λ s. concat datagrams ≡ s ++ waits) (λ text. text ≡ waits) (λ text. text ≡ concat datagrams) a b c first second
     (λ s u is last. ap (λ l. s ++ l) last ∙ sym is)
 
 pub frame_front : (plan : Plan) (t count : ℕ) (datagrams : List (List ℕ)) (waits : List ℕ) (a b c : Known Output) → 1 ≤ count → AreFirst plan t count datagrams
-    → GathersDatagrams [] (concat datagrams) waits a b → Outputs b c (IsFront waits) → Outputs a c (IsFrontOfFrame plan t [])
+    → GathersDatagrams [] (concat datagrams) waits a b → OutputsText b c (IsPrefix waits) → OutputsText a c (IsPrefixOfFrame plan t [])
 frame_front plan t zero datagrams waits a b c some are first second = absurd (omega (arith, some))
 frame_front plan t (suc i) datagrams waits a b c some are first second =
-    Outputs-then (λ s. concat datagrams ≡ s ++ waits) (IsFront waits) (IsFrontOfFrame plan t []) a b c first second
+    OutputsText-then (λ s. concat datagrams ≡ s ++ waits) (IsPrefix waits) (IsPrefixOfFrame plan t []) a b c first second
     (λ s u is (rest, front). (i, datagrams, are, (rest, is ∙ ap (λ l. s ++ l) front ∙ sym (append_assoc s u rest))))

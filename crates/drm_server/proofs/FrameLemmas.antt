@@ -9,7 +9,7 @@ use Rattle.dcp_pft.specs.declared.shape.Shape.{Shape}
 use Rattle.dcp_pft.specs.Carrying.{cut_of, datagram_count, CarriesPacket}
 use Rattle.dcp_pft.proofs.Carried.{whole_count, cut_count, carries_whole, carries_cut}
 use Rattle.drm_timeline.specs.Numbers.{sequence_number}
-use Rattle.drm_links.specs.Told.{Known}
+use Rattle.drm_links.specs.Known.{Known}
 use Rattle.drm_links.specs.Link.{Traffic}
 use Rattle.drm_links.specs.Transmission.{LinkTransmits, SendsNoMore, WaitsBetween}
 use Rattle.drm_links.proofs.TransmissionLemmas.{Transmits-weaker}

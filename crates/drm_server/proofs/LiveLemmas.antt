@@ -15,12 +15,12 @@ use Rattle.drm_timeline.specs.Standing.{has_started, config_of}
 use Rattle.drm_timeline.proofs.StandingLemmas.{last_passing_has}
 use Rattle.dcp_af.specs.Packet.{IsAf}
 use Rattle.mdi_items.specs.RoundTrip.{Parts, BlockBytes}
-use Rattle.live_streams.specs.Live.{Given, AreWhole, own_streams, streams_with, size_from, piece_size, piece_at, config_with, live_schedule}
+use Rattle.live_streams.specs.Live.{LivePieces, AreWhole, own_streams, streams_with, size_from, piece_size, piece_at, config_with, live_schedule}
 use Rattle.live_streams.proofs.Placing.{IsLike, config_like}
 use Rattle.live_streams.proofs.FrameLemmas.{config_holds, same_description, same_dlfc, same_fac, same_block, same_sequence_number, same_streams}
 use Rattle.live_streams.proofs.PlainLemmas.{nothing_asked, none_is_live, plain_schedule}
 use Rattle.drm_server.specs.Frames.{HasBlockWhere, IsFrameAt, IsPacketAt}
-use Rattle.drm_server.specs.Serving.{Serving, only_at}
+use Rattle.drm_server.specs.ServerState.{ServerState, only_at}
 
 -- ---- one schedule and another
 
@@ -45,7 +45,7 @@ packet_like p q t packet x same frame =
 
 -- ---- with and without bytes that came
 
-module _ (live : Live) (given : Given) (plan : Plan) (t : ℕ) (valid : IsSchedule plan) (whole : AreWhole live given plan) (within : t < frame_count plan) where
+module _ (live : Live) (given : LivePieces) (plan : Plan) (t : ℕ) (valid : IsSchedule plan) (whole : AreWhole live given plan) (within : t < frame_count plan) where
   abbrev with_ : Plan
   with_ = live_schedule live given plan
 
@@ -74,7 +74,7 @@ module _ (live : Live) (given : Given) (plan : Plan) (t : ℕ) (valid : IsSchedu
   record IsWith (parts : Parts) : Type 0 where
     own : List (List ℕ)
     frame : IsFrameAt plan t (record parts { streams = own })
-    came : parts.streams ≡ streams_with live (given t) own
+    input : parts.streams ≡ streams_with live (given t) own
 
   without : (parts : Parts) → IsFrameAt with_ t parts → IsWith parts
   without parts x = by (config_of plan (t / 3)) refl
@@ -97,11 +97,11 @@ module _ (live : Live) (given : Given) (plan : Plan) (t : ℕ) (valid : IsSchedu
               fac = sym (same_fac live given plan t) ∙ x.fac;
               mux = x.mux ∙ ap description_of config ∙ same_description live given c holds.frames;
               mode = x.mode ∙ ap (λ (c : Config). c.mode) config;
-              block = block_like first with_ plan (t / 3) c.room parts.block (sym (same_block live given plan (t / 3)))
-                  (subst (λ (c : Config). HasBlockWhere first with_ (t / 3) c.room parts.block) config x.block);
+              block = block_like first with_ plan (t / 3) c.scratch parts.block (sym (same_block live given plan (t / 3)))
+                  (subst (λ (c : Config). HasBlockWhere first with_ (t / 3) c.scratch parts.block) config x.block);
               streams = refl;
             };
-            came = x.streams ∙ ap (λ (c : Config). own_streams c (t - 3 * c.start)) config ∙ same_streams live given plan t c holds whole;
+            input = x.streams ∙ ap (λ (c : Config). own_streams c (t - 3 * c.start)) config ∙ same_streams live given plan t c holds whole;
           }
 
 -- ---- a piece for one frame
@@ -125,12 +125,12 @@ only_whole live plan t piece long n p is =
 
 -- ---- what came for other frames doesn't matter
 
-module _ (live : Live) (given other : Given) (plan : Plan) (t : ℕ) (valid : IsSchedule plan) (whole : AreWhole live given plan) (others : AreWhole live other plan) (within : t < frame_count plan) where
+module _ (live : Live) (given other : LivePieces) (plan : Plan) (t : ℕ) (valid : IsSchedule plan) (whole : AreWhole live given plan) (others : AreWhole live other plan) (within : t < frame_count plan) where
   frame_by : given t ≡ other t → (parts : Parts) → IsFrameAt (live_schedule live given plan) t parts → IsFrameAt (live_schedule live other plan) t parts
   frame_by same parts x =
       let w = without live given plan t valid whole within parts x in
       subst (λ (streams : List (List ℕ)). IsFrameAt (live_schedule live other plan) t (record parts { streams = streams }))
-      (ap (λ (came : Option (List ℕ)). streams_with live came w.own) (sym same) ∙ sym w.came)
+      (ap (λ (input : Option (List ℕ)). streams_with live input w.own) (sym same) ∙ sym w.input)
       (frame_with live other plan t valid others within (record parts { streams = w.own }) w.frame)
 
   -- where the same bytes came for it, the frame has the same packet
@@ -139,7 +139,7 @@ module _ (live : Live) (given other : Given) (plan : Plan) (t : ℕ) (valid : Is
       packet_like (live_schedule live given plan) (live_schedule live other plan) t packet x
       (same_sequence_number live given plan t ∙ sym (same_sequence_number live other plan t)) (frame_by same x.parts x.frame)
 
-module _ (live : Live) (given : Given) (plan : Plan) (t : ℕ) (valid : IsSchedule plan) (whole : AreWhole live given plan) (within : t < frame_count plan) where
+module _ (live : Live) (given : LivePieces) (plan : Plan) (t : ℕ) (valid : IsSchedule plan) (whole : AreWhole live given plan) (within : t < frame_count plan) where
   -- where these are the streams of each frame, it has the packet of the schedule
   own_frame : ((parts : Parts) → IsFrameAt plan t parts → streams_with live (given t) parts.streams ≡ parts.streams) → (packet : List ℕ) → IsPacketAt plan t packet → IsPacketAt (live_schedule live given plan) t packet
   own_frame same packet x =
@@ -149,7 +149,7 @@ module _ (live : Live) (given : Given) (plan : Plan) (t : ℕ) (valid : IsSchedu
 
   -- where no bytes came for it
   pub plain_frame : given t ≡ None → (packet : List ℕ) → IsPacketAt plan t packet → IsPacketAt (live_schedule live given plan) t packet
-  plain_frame nothing = own_frame (λ parts x. ap (λ (came : Option (List ℕ)). streams_with live came parts.streams) nothing)
+  plain_frame nothing = own_frame (λ parts x. ap (λ (input : Option (List ℕ)). streams_with live input parts.streams) nothing)
 
   -- and where it has no bytes to be given, whatever came
   pub empty_frame : piece_at live plan t ≡ 0 → (packet : List ℕ) → IsPacketAt plan t packet → IsPacketAt (live_schedule live given plan) t packet
@@ -176,7 +176,7 @@ no_piece live plan t same = sym (ap (λ (l : Live). piece_at l plan t) same ∙ 
     by (Some c) = no_size 0 c.streams
 
 -- and a server that has loaded a frame has the schedule's own one
-pub plain_loaded : (server : Serving) (live : Live) (given : Given) (plan : Plan) (t : ℕ) → server ≡ record { base = plan; plan = live_schedule live given plan; frame = t } → live ≡ none
+pub plain_loaded : (server : ServerState) (live : Live) (given : LivePieces) (plan : Plan) (t : ℕ) → server ≡ record { base = plan; plan = live_schedule live given plan; frame = t } → live ≡ none
     → server ≡ record { base = plan; plan = plan; frame = t }
 plain_loaded server live given plan t is same =
     is ∙ ap (λ (p : Plan). record { base = plan; plan = p; frame = t }) (ap (λ (l : Live). live_schedule l given plan) same ∙ plain_schedule none given none_is_live plan)

@@ -10,7 +10,7 @@ use Rattle.drm_sdc.specs.declared.block.Block.{Block}
 use Rattle.drm_sdc.specs.declared.entity.Entity.{Entity}
 use Rattle.drm_sdc.specs.Entity.{entity_fields, entity_size}
 use Rattle.drm_sdc.specs.Field.{IsField}
-use Rattle.drm_sdc.specs.Block.{first_form, IsFramed, IsChecked, IsBlock}
+use Rattle.drm_sdc.specs.Block.{first_form, IsFramed, IsBlockChecked, IsBlock}
 use Rattle.drm_sdc.proofs.BlockLaws.{length-form, one_check}
 use Rattle.drm_schedule.specs.declared.plan.Plan.{Plan}
 use Rattle.mdi_items.specs.RoundTrip.{BlockBytes}
@@ -40,7 +40,7 @@ one_spelling b room x y is_x is_y size_x size_y =
     let field : is_x.field ≡ is_y.field = one_field b.entities b.tail is_x.field is_y.field is_x.framed.octets is_y.framed.octets is_x.entities is_y.entities in
     let check : is_x.check ≡ is_y.check =
     one_check (bits_of (b.afs ∷ is_x.field)) is_x.check is_y.check is_x.framed.width is_y.framed.width is_x.checked
-    (subst (λ (l : List ℕ). IsChecked b.afs l is_y.check) (sym field) is_y.checked) in
+    (subst (λ (l : List ℕ). IsBlockChecked b.afs l is_y.check) (sym field) is_y.checked) in
     shorter b.afs room is_x.field is_x.check x is_x.framed size_x
     ∙ (ap (λ (l : List ℕ). first_form b.afs l is_x.check) field
     ∙ (ap (λ (l : List Bool). first_form b.afs is_y.field l) check ∙ sym (shorter b.afs room is_y.field is_y.check y is_y.framed size_y)))

@@ -87,9 +87,9 @@ module _ (one_fragment : OneFragment) where
   one_capture plan from bytes others (datagrams, are, same) (datagrams', are', same') =
       same ∙ (ap concat (one_delivery plan from datagrams datagrams' are are') ∙ sym same')
 
-  pub first_ones_are_front : (plan : Plan) (from : ℕ) (datagrams first : List (List ℕ)) (next : List ℕ) → AreDatagrams plan from datagrams → AreBefore plan from next first
+  pub first_ones_are_prefix : (plan : Plan) (from : ℕ) (datagrams first : List (List ℕ)) (next : List ℕ) → AreDatagrams plan from datagrams → AreBefore plan from next first
       → (behind : List (List ℕ)) × (datagrams ≡ first ++ next ∷ behind)
-  first_ones_are_front plan from datagrams first next are x =
+  first_ones_are_prefix plan from datagrams first next are x =
       let t : ℕ = from + x.n in
       let sent : x.n < frame_count plan - from = omega (arith, x.within) in
       let f = frames_split plan from x.n (frame_count plan - from) datagrams sent are in

@@ -13,7 +13,7 @@ use Rattle.live_streams.specs.Live.{streams_with, piece_at, live_schedule}
 use Rattle.live_streams.proofs.FrameLemmas.{same_sequence_number}
 use Rattle.drm_server.specs.Frames.{IsFrameAt, IsPacketAt}
 use Rattle.drm_server.specs.Placing.{IsPayloadWith}
-use Rattle.drm_server.specs.Serving.{only_at}
+use Rattle.drm_server.specs.ServerState.{only_at}
 use Rattle.drm_server.proofs.LiveLemmas.{frame_with, only_here, only_whole}
 
 pub packet_is : (live : Live) (piece : List ℕ) (plan : Plan) (t seq : ℕ) (payload stands packet : List ℕ) → IsSchedule plan → length piece ≡ piece_at live plan t → t < frame_count plan
@@ -21,7 +21,7 @@ pub packet_is : (live : Live) (piece : List ℕ) (plan : Plan) (t seq : ℕ) (pa
     → IsAf (record { seq = seq; checked = true; minor = 0; payload = stands }) packet → IsBytes packet → IsPacketAt (live_schedule live (only_at t piece) plan) t packet
 packet_is live piece plan t seq payload stands packet valid whole within (parts, frame, written) same number is small = record {
   parts = record parts { streams = streams_with live (Some piece) parts.streams };
-  frame = subst (λ (came : Option (List ℕ)). IsFrameAt (live_schedule live (only_at t piece) plan) t (record parts { streams = streams_with live came parts.streams })) (only_here t piece)
+  frame = subst (λ (input : Option (List ℕ)). IsFrameAt (live_schedule live (only_at t piece) plan) t (record parts { streams = streams_with live input parts.streams })) (only_here t piece)
       (frame_with live (only_at t piece) plan t valid (only_whole live plan t piece whole) within parts frame);
   payload = payload;
   written = written;

@@ -9,7 +9,7 @@ use Rattle.drm_timeline.specs.Standing.{config_of}
 use Rattle.drm_timeline.specs.FastAccess.{fac_of}
 use Rattle.drm_timeline.specs.Description.{description_of}
 use Rattle.mdi_items.specs.declared.writer.MdiWriter.{MdiWriter}
-use Rattle.mdi_items.specs.Written.{Piece, written, behind, IsHead, spelling, stream_pieces}
+use Rattle.mdi_items.specs.Written.{WrittenItem, written, behind, AreHeadItems, spelling, stream_pieces}
 use Rattle.mdi_items.specs.RoundTrip.{Parts, BlockBytes, block_pieces}
 use Rattle.mdi_items.proofs.RoundTripLemmas.{spelling-append}
 use Rattle.drm_schedule.specs.Contents.{stream_bytes}
@@ -27,14 +27,14 @@ piece_is live plan t c holds = ap (λ (o : Option Config). unwrap_or (option_map
 
 -- the parts of a frame, and what is written of them
 pub payload_is : (live : Live) (piece : List ℕ) (plan : Plan) (t : ℕ) (c : Config) (streams : List Stream) (head after : List ℕ) (block : Option BlockBytes) (fac : Fac) (payload : List ℕ)
-    → config_of plan (t / 3) ≡ Some c → streams ≡ c.streams → fac_of plan t ≡ Some fac → IsHead ((plan.dlfc + t) % 2 ^ 32) fac (description_of c) c.mode head
-    → HasBlockWhere (t % 3 == 0) plan (t / 3) c.room block → after ≡ head ++ spelling (block_pieces block)
+    → config_of plan (t / 3) ≡ Some c → streams ≡ c.streams → fac_of plan t ≡ Some fac → AreHeadItems ((plan.dlfc + t) % 2 ^ 32) fac (description_of c) c.mode head
+    → HasBlockWhere (t % 3 == 0) plan (t / 3) c.scratch block → after ≡ head ++ spelling (block_pieces block)
     → payload ≡ after ++ spelling (stream_pieces 0 (streams_with live (Some piece) (map (stream_bytes (t - 3 * c.start)) streams)))
     → IsPayloadWith live piece plan t payload
 payload_is live piece plan t c streams head after block fac payload holds same is_fac is_head has after_is is =
     let bytes : List (List ℕ) = map (stream_bytes (t - 3 * c.start)) c.streams in
     let parts : Parts = record { count = (plan.dlfc + t) % 2 ^ 32; fac = fac; mux = description_of c; mode = c.mode; block = block; streams = bytes } in
-    let items : List Piece = stream_pieces 0 (streams_with live (Some piece) bytes) in
+    let items : List WrittenItem = stream_pieces 0 (streams_with live (Some piece) bytes) in
     let all : payload ≡ head ++ spelling (block_pieces block ++ items) =
     is
     ∙ (ap (λ (l : List Stream). after ++ spelling (stream_pieces 0 (streams_with live (Some piece) (map (stream_bytes (t - 3 * c.start)) l)))) same

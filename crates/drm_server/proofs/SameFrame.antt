@@ -1,10 +1,10 @@
 -- What is sent or written of a frame that a server has loaded is that of the frame of each schedule that has it.
 use Rattle.std.proofs.Common.{◌≡◌, ◌+◌, ◌%◌, ◌^◌, ◌<◌, ℕ, zero, suc, List, length, Some, None, refl, ap, sym, ◌∙◌, subst}
-use Rattle.drm_links.specs.Told.{Known}
+use Rattle.drm_links.specs.Known.{Known}
 use Rattle.drm_links.specs.Link.{Traffic}
-use Rattle.drm_links.specs.Sink.{Output, Outputs}
+use Rattle.drm_links.specs.Sink.{Output, OutputsText}
 use Rattle.drm_links.specs.Transmission.{LinkTransmits}
-use Rattle.drm_links.proofs.ToldLemmas.{Outputs-weaker}
+use Rattle.drm_links.proofs.KnownLemmas.{OutputsText-weaker}
 use Rattle.drm_links.proofs.TransmissionLemmas.{Transmits-weaker}
 use Rattle.drm_schedule.specs.declared.live.Live.{Live}
 use Rattle.drm_schedule.specs.declared.plan.Plan.{Plan}
@@ -12,25 +12,25 @@ use Rattle.drm_schedule.specs.Valid.{IsSchedule}
 use Rattle.dcp_pft.specs.declared.carry.Carry.{Carry}
 use Rattle.dcp_pft.specs.Carrying.{datagram_count, CarriesPacket}
 use Rattle.drm_timeline.specs.Numbers.{frame_count, sequence_number}
-use Rattle.live_streams.specs.Live.{Given, AreWhole, piece_at, live_schedule}
+use Rattle.live_streams.specs.Live.{LivePieces, AreWhole, piece_at, live_schedule}
 use Rattle.live_streams.proofs.FrameLemmas.{same_carry, same_seq}
 use Rattle.drm_server.specs.Datagrams.{HasDatagrams, IsDatagramAt, AreFirst, AreOfFrame}
 use Rattle.drm_server.specs.OneFrame.{SentFrame, SendsPartOfFrame}
-use Rattle.drm_server.specs.Gathering.{WroteFrame, IsFrontOfFrame}
-use Rattle.drm_server.specs.Serving.{Serving, HasFrame, only_at}
+use Rattle.drm_server.specs.Gathering.{WroteFrame, IsPrefixOfFrame}
+use Rattle.drm_server.specs.ServerState.{ServerState, HasFrame, only_at}
 use Rattle.drm_server.proofs.LiveLemmas.{only_here, only_whole, same_frame, plain_frame, empty_frame}
 
 -- the frame of the schedule itself
-pub own_frame : (server : Serving) (plan : Plan) → server.plan ≡ plan → HasFrame server plan
+pub own_frame : (server : ServerState) (plan : Plan) → server.plan ≡ plan → HasFrame server plan
 own_frame server plan same = subst (HasFrame server) same (record { carry = refl; seq = refl; packet = λ packet is. is })
 
 -- the frame of a schedule whose live streams have what came for each frame, where this piece came for the one that is loaded
-module _ (live : Live) (given : Given) (base : Plan) (t : ℕ) (valid : IsSchedule base) (whole : AreWhole live given base) (within : t < frame_count base) where
+module _ (live : Live) (given : LivePieces) (base : Plan) (t : ℕ) (valid : IsSchedule base) (whole : AreWhole live given base) (within : t < frame_count base) where
   pub live_has : (piece : List ℕ) → given t ≡ Some piece → HasFrame (record { base = base; plan = live_schedule live (only_at t piece) base; frame = t }) (live_schedule live given base)
-  live_has piece came = record {
+  live_has piece input = record {
     carry = same_carry live given base ∙ sym (same_carry live (only_at t piece) base);
     seq = same_seq live given base ∙ sym (same_seq live (only_at t piece) base);
-    packet = same_frame live (only_at t piece) given base t valid (only_whole live base t piece (whole t piece came)) whole within (only_here t piece ∙ sym came);
+    packet = same_frame live (only_at t piece) given base t valid (only_whole live base t piece (whole t piece input)) whole within (only_here t piece ∙ sym input);
   }
 
   -- where none came for it
@@ -41,7 +41,7 @@ module _ (live : Live) (given : Given) (base : Plan) (t : ℕ) (valid : IsSchedu
   pub empty_has : piece_at live base t ≡ 0 → HasFrame (record { base = base; plan = base; frame = t }) (live_schedule live given base)
   empty_has empty = record { carry = same_carry live given base; seq = same_seq live given base; packet = empty_frame live given base t valid whole within empty }
 
-module _ (server : Serving) (plan : Plan) (has : HasFrame server plan) where
+module _ (server : ServerState) (plan : Plan) (has : HasFrame server plan) where
   abbrev t : ℕ
   t = server.frame
 
@@ -83,7 +83,7 @@ module _ (server : Serving) (plan : Plan) (has : HasFrame server plan) where
   pub same_written : (n : ℕ) (before after : Known Output) → WroteFrame server.plan t n before after → WroteFrame plan t n before after
   same_written n before after (datagrams, are, size, written) = (datagrams, same_of_frame datagrams are, size, written)
 
-  pub same_front : (waited : List ℕ) (before after : Known Output) → Outputs before after (IsFrontOfFrame server.plan t waited) → Outputs before after (IsFrontOfFrame plan t waited)
+  pub same_front : (waited : List ℕ) (before after : Known Output) → OutputsText before after (IsPrefixOfFrame server.plan t waited) → OutputsText before after (IsPrefixOfFrame plan t waited)
   same_front waited before after written =
-      Outputs-weaker (IsFrontOfFrame server.plan t waited) (IsFrontOfFrame plan t waited) before after written
+      OutputsText-weaker (IsPrefixOfFrame server.plan t waited) (IsPrefixOfFrame plan t waited) before after written
       (λ text (i, datagrams, are, front). (i, datagrams, same_first (suc i) datagrams are, front))

@@ -2,11 +2,11 @@
 use Rattle.std.proofs.Common.{◌≡◌, ◌+◌, ◌*◌, ◌<◌, ◌≤◌, ℕ, Bool, true, false, [], ◌++◌, length, replicate, refl, sym, subst, ◌∙◌, arith, length-append}
 use Rattle.drm_schedule.specs.declared.plan.Plan.{Plan}
 use Rattle.dcp_pft.specs.Limits.{most_fragments}
-use Rattle.drm_links.specs.Told.{Known, HasFailed}
+use Rattle.drm_links.specs.Known.{Known, HasFailed}
 use Rattle.drm_links.specs.Link.{Traffic}
 use Rattle.drm_links.specs.ManyCalls.{MakesCalls}
 use Rattle.drm_links.specs.Transmission.{LinkTransmits, SendsAll, WaitsBetween}
-use Rattle.drm_links.proofs.ToldLemmas.{once_then}
+use Rattle.drm_links.proofs.KnownLemmas.{once_then}
 use Rattle.drm_links.proofs.TransmissionLemmas.{Transmits-nothing, Transmits-no_wait}
 use Rattle.drm_links.proofs.ManyCallsLemmas.{no_calls, more_calls, at_most}
 use Rattle.dcp_sender.specs.Sending.{MadeCalls}
@@ -16,7 +16,7 @@ use Rattle.drm_timeline.specs.Numbers.{frame_count}
 use Rattle.drm_server.specs.Datagrams.{AreFirst}
 use Rattle.drm_server.specs.OneFrame.{SentFrame, SendsPartOfFrame}
 use Rattle.drm_server.specs.Rests.{calls_of_frame, rests_before, rests_between, pause}
-use Rattle.drm_server.specs.Several.{SentFrames, SentPart, Served, ServedBy}
+use Rattle.drm_server.specs.Several.{SentFrames, SentPart, MemberServed, ServedBy}
 use Rattle.drm_server.proofs.DatagramLemmas.{next_frame, first_length}
 use Rattle.drm_server.proofs.RestLemmas.{one_more_rest}
 use Rattle.drm_server.proofs.SendingLemmas.{then_rested, then_paused, whole_frame_waited, part_sent}
@@ -108,14 +108,14 @@ nothing_yet plan first pace a =
 module _ {L : Type 0} (plan : Plan) (first pace : ℕ) (known : L → Known Traffic) where
   -- where a link failed, it doesn't matter how many frames went since
   pub any_later : (n k : ℕ) (start : Known Traffic) (member : Member L) → member.up ≡ false
-      → Served plan first pace n known start member → Served plan first pace k known start member
+      → MemberServed plan first pace n known start member → MemberServed plan first pace k known start member
   any_later n k start member down served =
       let P : Bool → Type 0 = λ up. ServedBy up plan first pace n start (known member.link) in
       let Q : Bool → Type 0 = λ up. ServedBy up plan first pace k start (known member.link) in
       subst Q (sym down) (subst P down served)
 
   -- and where it is up, nothing went before the first frame
-  pub at_start : (member : Member L) → member.up ≡ true → Served plan first pace 0 known (known member.link) member
+  pub at_start : (member : Member L) → member.up ≡ true → MemberServed plan first pace 0 known (known member.link) member
   at_start member up =
       let Q : Bool → Type 0 = λ b. ServedBy b plan first pace 0 (known member.link) (known member.link) in
       subst Q (sym up) (nothing_yet plan first pace (known member.link))

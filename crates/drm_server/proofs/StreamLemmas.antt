@@ -7,7 +7,7 @@ use Rattle.drm_schedule.specs.declared.config.Config.{Config}
 use Rattle.drm_schedule.specs.declared.stream.Stream.{Stream}
 use Rattle.drm_schedule.specs.Ranges.{StreamInLines, ConfigInLines}
 use Rattle.drm_timeline.specs.Description.{description_of, part_of}
-use Rattle.drm_timeline.proofs.ToldLemmas.{description_fits}
+use Rattle.drm_timeline.proofs.OwnLemmas.{description_fits}
 use Rattle.std.specs.Prelude.{false}
 
 pub is_description : (c : Config) → ConfigInLines c → IsDescription (description_of c)

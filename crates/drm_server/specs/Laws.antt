@@ -23,8 +23,8 @@ HasOneDelivery =
     (plan : Plan) (first : ℕ) (datagrams others : List (List ℕ)) → AreDatagrams plan first datagrams → AreDatagrams plan first others → datagrams ≡ others
 
 -- those before one of them are their front, and it is the next
-abbrev pub FirstOnesAreFront : Type 0
-FirstOnesAreFront =
+abbrev pub FirstOnesArePrefix : Type 0
+FirstOnesArePrefix =
     (plan : Plan) (first : ℕ) (datagrams before : List (List ℕ)) (next : List ℕ) → AreDatagrams plan first datagrams → AreBefore plan first next before
     → (behind : List (List ℕ)) × (datagrams ≡ before ++ next ∷ behind)
 

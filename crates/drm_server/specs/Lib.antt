@@ -1,7 +1,7 @@
 pub mod Frames
 pub mod Multiplex
 pub mod Placing
-pub mod Serving
+pub mod ServerState
 pub mod Lending
 pub mod Datagrams
 pub mod Capture

@@ -15,7 +15,7 @@ use Rattle.live_streams.specs.Live.{streams_with}
 use Rattle.drm_server.specs.Frames.{IsFrameAt}
 
 -- The writer has written nothing, and has so many bytes.
-pub record IsNew (bytes : ℕ) (w : MdiWriter) : Type 0 where
+pub record IsNewWriter (bytes : ℕ) (w : MdiWriter) : Type 0 where
   pub first : next w ≡ 0
   pub empty : written w ≡ []
   pub room : bytes ≤ length (behind w)
@@ -38,7 +38,7 @@ pub record HoldsIn (plan : Plan) (sf : ℕ) (c : Config) : Type 0 where
   pub fits : ConfigInLines c
 
 -- A stream whose file, where it has one, reaches as far as this frame of its configuration.
-pub record IsReady (frame : ℕ) (s : Stream) : Type 0 where
+pub record IsStreamReady (frame : ℕ) (s : Stream) : Type 0 where
   pub fits : StreamInLines s
   pub enough : is_short (frame + 1) s ≡ false
 

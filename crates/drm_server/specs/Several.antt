@@ -1,7 +1,7 @@
 -- A schedule over several links, from a frame on: over each, what would go over it alone.
 use Rattle.std.specs.Prelude.{ℕ, ◌≡◌, ◌+◌, ◌*◌, Bool, true, false, List, length}
 use Rattle.drm_schedule.specs.declared.plan.Plan.{Plan}
-use Rattle.drm_links.specs.Told.{Known, HasFailed}
+use Rattle.drm_links.specs.Known.{Known, HasFailed}
 use Rattle.drm_links.specs.Link.{Traffic}
 use Rattle.drm_links.specs.ManyCalls.{MakesCalls}
 use Rattle.drm_links.specs.Transmission.{LinkTransmits, SendsAll, WaitsBetween}
@@ -38,5 +38,5 @@ ServedBy true plan first pace n start now = SentFrames plan first pace n start n
 ServedBy false plan first pace n start now = SentPart plan first pace start now
 
 -- n frames went over a link that told this at the start, or it failed before
-abbrev pub Served : {L : Type 0} → Plan → ℕ → ℕ → ℕ → (L → Known Traffic) → Known Traffic → Member L → Type 0
-Served plan first pace n known start member = ServedBy member.up plan first pace n start (known member.link)
+abbrev pub MemberServed : {L : Type 0} → Plan → ℕ → ℕ → ℕ → (L → Known Traffic) → Known Traffic → Member L → Type 0
+MemberServed plan first pace n known start member = ServedBy member.up plan first pace n start (known member.link)

@@ -1,6 +1,6 @@
 //! Laws of packets and datagrams, each on a function that does nothing.
 
-ghost use Rattle.drm_server.specs.Laws.{HasOneFrame, HasOnePacket, HasOneDelivery, FirstOnesAreFront, HasOneCapture, HasMultiplexFrame};
+ghost use Rattle.drm_server.specs.Laws.{HasOneFrame, HasOnePacket, HasOneDelivery, FirstOnesArePrefix, HasOneCapture, HasMultiplexFrame};
 
 use dcp_pft::one_fragment;
 
@@ -22,8 +22,8 @@ pub fn one_delivery()
 }
 
 /// The datagrams that stand before one of these are the front of all of them, and it is the next one.
-pub fn first_ones_are_front()
-    ensures { FirstOnesAreFront }
+pub fn first_ones_are_prefix()
+    ensures { FirstOnesArePrefix }
 {
     one_fragment();
 }

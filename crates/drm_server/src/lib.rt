@@ -11,7 +11,7 @@ mod server;
 mod stream;
 
 pub use laws::{
-    first_ones_are_front, one_capture, one_delivery, one_frame, one_packet,
+    first_ones_are_prefix, one_capture, one_delivery, one_frame, one_packet,
     streams_make_the_multiplex_frame,
 };
 pub use send::{serve_each, serve_links};

@@ -2,20 +2,20 @@
 
 ghost use Rattle.std.specs.Prelude.{ℕ, List, [], ◌≡◌, ◌<◌, ◌≤◌, length, take, replicate, true, IfOk, OnErr, IsErr};
 ghost use Rattle.dcp_pft.specs.Limits.{longest_packet, most_packet, most_fragments, most_parity};
-ghost use Rattle.drm_links.specs.Told.{HasCause};
+ghost use Rattle.drm_links.specs.Known.{HasCause};
 ghost use Rattle.drm_links.specs.ManyCalls.{MakesCalls};
 ghost use Rattle.drm_links.specs.Transmission.{LinkTransmits, WaitsBetween};
 ghost use Rattle.dcp_sender.specs.Sending.{MadeCalls};
 ghost use Rattle.drm_timeline.specs.Numbers as numbers;
 ghost use Rattle.drm_timeline.specs.Numbers.{packet_size};
 ghost use Rattle.live_streams.specs.Live.{piece_at, live_schedule};
-ghost use Rattle.drm_server.specs.Serving.{only_at};
+ghost use Rattle.drm_server.specs.ServerState.{only_at};
 ghost use Rattle.drm_server.specs.Frames.{IsPacketAt};
 ghost use Rattle.drm_server.specs.Datagrams.{HasDatagrams, HasDatagram, IsDatagramAt};
 ghost use Rattle.drm_server.specs.OneFrame.{SentFrame, SendsPartOfFrame};
 
 use crate::packet::write_packet;
-use crate::payload::Rooms;
+use crate::payload::PayloadBuffers;
 use dcp_pft::{LONGEST_PACKET, MOST_PARITY, Shape, all_taken, cut_for, datagrams, most_packet};
 use dcp_sender::{send_packet, write_cut, write_parity};
 use drm_bits::{NoMemory, zeros};
@@ -28,7 +28,7 @@ use std::marker::Model;
 
 /// A frame of a schedule: its packet, how that is cut, and the parity of its chunks.
 #[derive(Drop)]
-pub struct Loaded<'a> {
+pub struct EncodedFrame<'a> {
     plan: &'a Schedule,
     frame: u32,
     // The streams that have bytes which came from outside, and these bytes, at the front.
@@ -41,10 +41,10 @@ pub struct Loaded<'a> {
     // How it is cut, where it isn't carried whole, and the parity of its chunks, at the front.
     cut: Option<Shape>,
     parity: Vec<u8>,
-    rooms: Box<Rooms>,
+    buffers: Box<PayloadBuffers>,
 }
 
-impl<'a> Model for Loaded<'a> {
+impl<'a> Model for EncodedFrame<'a> {
     ghost use Rattle.std.specs.Prelude.{◌≡◌, ◌<◌, ◌≤◌, length, take, IfSome};
     ghost use Rattle.dcp_pft.specs.Limits.{longest_packet, most_packet, most_parity};
     ghost use Rattle.dcp_pft.specs.Cutting.{IsShapeOf};
@@ -53,9 +53,9 @@ impl<'a> Model for Loaded<'a> {
     ghost use Rattle.drm_server.specs.Frames.{IsPacketAt};
     ghost use Rattle.dcp_sender.specs.Parity.{HoldsParity};
     ghost use Rattle.live_streams.specs.Live.{live_schedule};
-    ghost use Rattle.drm_server.specs.Serving.{Serving, only_at};
+    ghost use Rattle.drm_server.specs.ServerState.{ServerState, only_at};
 
-    ghost Value = { Serving };
+    ghost Value = { ServerState };
 
     ghost view = { λ s. record {
       base = s.plan.now;
@@ -77,18 +77,18 @@ impl<'a> Model for Loaded<'a> {
         × (length s.piece.items ≡ 32760) };
 }
 
-impl<'a> Loaded<'a> {
+impl<'a> EncodedFrame<'a> {
     /// Frame 0 of this schedule.
-    pub fn first(alloc: Global, plan: &'a Schedule) -> Result<Loaded<'a>, NoMemory>
+    pub fn first(alloc: Global, plan: &'a Schedule) -> Result<EncodedFrame<'a>, NoMemory>
         ensures { IfOk result (λ loaded. loaded ≡ record { base = plan.now; plan = plan.now; frame = 0 }) }
     {
         let buffer = zeros(alloc, LONGEST_PACKET)?;
         let parity = zeros(alloc, MOST_PARITY)?;
         let piece = zeros(alloc, MOST_PIECE)?;
-        let Ok(rooms) = Box::new(alloc, Rooms::new()) else {
+        let Ok(buffers) = Box::new(alloc, PayloadBuffers::new()) else {
             return Err(NoMemory);
         };
-        Ok(Loaded::in_room(plan, buffer, parity, piece, rooms))
+        Ok(EncodedFrame::in_room(plan, buffer, parity, piece, buffers))
     }
 
     // Frame 0, in room for the longest packet, its parity, and the longest piece.
@@ -97,8 +97,8 @@ impl<'a> Loaded<'a> {
         mut buffer: Vec<u8>,
         mut parity: Vec<u8>,
         piece: Vec<u8>,
-        mut rooms: Box<Rooms>,
-    ) -> Loaded<'a>
+        mut buffers: Box<PayloadBuffers>,
+    ) -> EncodedFrame<'a>
         requires buffer { length buffer.items ≡ longest_packet }
         requires parity { length parity.items ≡ most_parity }
         requires piece { length piece.items ≡ 32760 }
@@ -106,10 +106,10 @@ impl<'a> Loaded<'a> {
     {
         plan.always_valid();
         let live = Live::none();
-        let len = write_packet(plan, 0, &live, &[], &mut buffer, &mut rooms);
+        let len = write_packet(plan, 0, &live, &[], &mut buffer, &mut buffers);
         let cut = cut_for(plan.carry(), len);
         write_parity(&buffer[..len], cut, &mut parity);
-        Loaded {
+        EncodedFrame {
             plan,
             frame: 0,
             live,
@@ -119,7 +119,7 @@ impl<'a> Loaded<'a> {
             len,
             cut,
             parity,
-            rooms,
+            buffers,
         }
     }
 
@@ -176,7 +176,14 @@ impl<'a> Loaded<'a> {
         let _ = piece_len(self.plan, live, t);
         self.piece_len = write_front(piece, &mut self.piece);
         self.live = *live;
-        self.len = write_packet(self.plan, t, live, piece, &mut self.buffer, &mut self.rooms);
+        self.len = write_packet(
+            self.plan,
+            t,
+            live,
+            piece,
+            &mut self.buffer,
+            &mut self.buffers,
+        );
         self.cut = cut_for(self.plan.carry(), self.len);
         write_parity(&self.buffer[..self.len], self.cut, &mut self.parity);
         self.frame = t;
@@ -214,8 +221,8 @@ impl<'a> Loaded<'a> {
     }
 
     /// Sends the datagrams of the frame over a link, one after another and by way of this room, and gives their number.
-    pub fn send<L: Link>(&self, room: &mut [u8], link: &mut L) -> Result<u64, LinkFault>
-        requires { most_packet self.now.plan.carry ≤ length room.old }
+    pub fn send<L: Link>(&self, scratch: &mut [u8], link: &mut L) -> Result<u64, LinkFault>
+        requires { most_packet self.now.plan.carry ≤ length scratch.old }
         ensures whole { IfOk result (λ n. SentFrame self.now.plan self.now.frame n
             (L.known link.old) (L.known link.new)) }
         ensures waits { IfOk result (λ n. LinkTransmits (L.known link.old) (L.known link.new) (WaitsBetween (replicate n 0) 0)) }
@@ -227,11 +234,11 @@ impl<'a> Loaded<'a> {
         ensures cause { HasCause (L.known link.old) (L.known link.new) (IsErr result) }
         ensures idle { L.idles link.new ≡ L.idles link.old }
         ensures calls { MakesCalls (λ traffic. traffic.calls) most_fragments (L.known link.old) (L.known link.new) }
-        ensures room { length room.new ≡ length room.old }
+        ensures room { length scratch.new ≡ length scratch.old }
     {
         let packet = &self.buffer[..self.len];
         let seq = sequence_number(self.plan, self.frame);
-        send_packet(packet, self.cut, &self.parity, seq, room, link)
+        send_packet(packet, self.cut, &self.parity, seq, scratch, link)
     }
 
     /// Writes the datagram with this number, from 0, to the front, and gives its length.

@@ -6,9 +6,9 @@ ghost use Rattle.drm_timeline.specs.Numbers.{frame_count, packet_size};
 ghost use Rattle.live_streams.specs.Live.{piece_at, live_schedule};
 ghost use Rattle.drm_server.specs.Frames.{IsPacketAt, longest_payload};
 ghost use Rattle.drm_server.specs.Placing.{IsPayloadWith};
-ghost use Rattle.drm_server.specs.Serving.{only_at};
+ghost use Rattle.drm_server.specs.ServerState.{only_at};
 
-use crate::payload::{Rooms, write_payload};
+use crate::payload::{PayloadBuffers, write_payload};
 use dcp_af::write_af;
 use drm_schedule::{Live, Schedule};
 use drm_timeline::sequence_number;
@@ -24,7 +24,7 @@ pub fn write_packet(
     live: &Live,
     piece: &[u8],
     into: &mut [u8],
-    rooms: &mut Rooms,
+    buffers: &mut PayloadBuffers,
 ) -> usize
     requires frame { t < frame_count plan.now }
     requires piece { length piece.now ≡ piece_at live.now plan.now t }
@@ -36,7 +36,7 @@ pub fn write_packet(
     ensures at_least_one { 1 ≤ result }
 {
     plan.always_valid();
-    let len = write_first(plan, t, live, piece, &mut into[HEAD..], rooms);
+    let len = write_first(plan, t, live, piece, &mut into[HEAD..], buffers);
     write_af(sequence_number(plan, t), into, len)
 }
 
@@ -46,20 +46,20 @@ fn write_first(
     t: u32,
     live: &Live,
     piece: &[u8],
-    room: &mut [u8],
-    rooms: &mut Rooms,
+    scratch: &mut [u8],
+    buffers: &mut PayloadBuffers,
 ) -> usize
     requires frame { t < frame_count plan.now }
     requires piece { length piece.now ≡ piece_at live.now plan.now t }
-    requires room { longest_payload ≤ length room.old }
-    ensures written { IsPayloadWith live.now piece.now plan.now t (take result room.new) }
+    requires room { longest_payload ≤ length scratch.old }
+    ensures written { IsPayloadWith live.now piece.now plan.now t (take result scratch.new) }
     ensures len { result + 12 ≡ packet_size plan.now t }
     ensures in_range { result + 12 ≤ most_packet plan.now.carry }
     ensures within { result ≤ longest_payload }
-    ensures room { length room.new ≡ length room.old }
+    ensures room { length scratch.new ≡ length scratch.old }
 {
-    match room.first_chunk_mut() {
-        Some(payload) => write_payload(plan, t, live, piece, payload, rooms),
+    match scratch.first_chunk_mut() {
+        Some(payload) => write_payload(plan, t, live, piece, payload, buffers),
         None => unreachable!(),
     }
 }

@@ -8,12 +8,12 @@ ghost use Rattle.drm_timeline.specs.Numbers.{frame_count, packet_size};
 ghost use Rattle.drm_timeline.specs.FastAccess.{fac_of};
 ghost use Rattle.drm_timeline.specs.Description.{description_of};
 ghost use Rattle.mdi_items.specs.Names.{sdc_, str};
-ghost use Rattle.mdi_items.specs.Written.{written, behind, next, lender, spelled, spelling, block_piece, IsHead, head_length};
+ghost use Rattle.mdi_items.specs.Written.{written, behind, next, lender, spelled, spelling, block_piece, AreHeadItems, head_length};
 ghost use Rattle.mdi_items.specs.RoundTrip.{BlockBytes, block_pieces};
 ghost use Rattle.live_streams.specs.Live.{piece_at};
 ghost use Rattle.dcp_pft.specs.Limits.{most_packet};
 ghost use Rattle.drm_server.specs.Frames.{IsBlockAt, HasBlockWhere, longest_payload};
-ghost use Rattle.drm_server.specs.Placing.{IsNew, IsBefore, HoldsIn, IsPayloadWith};
+ghost use Rattle.drm_server.specs.Placing.{IsNewWriter, IsBefore, HoldsIn, IsPayloadWith};
 
 use crate::stream::{MOST, write_streams};
 use dcp_pft::LONGEST_PACKET;
@@ -26,17 +26,17 @@ pub const MOST_PAYLOAD: usize = LONGEST_PACKET - 12;
 
 /// Room for what is written on its way into a payload.
 #[derive(Drop)]
-pub struct Rooms {
+pub struct PayloadBuffers {
     // The block of a super frame.
     block: [u8; 1026],
     // A stream of one byte over and over.
     fill: [u8; MOST],
 }
 
-impl Rooms {
+impl PayloadBuffers {
     /// New rooms.
-    pub fn new() -> Rooms {
-        Rooms {
+    pub fn new() -> PayloadBuffers {
+        PayloadBuffers {
             block: [0; 1026],
             fill: [0; MOST],
         }
@@ -50,7 +50,7 @@ pub fn write_payload(
     live: &Live,
     piece: &[u8],
     into: &mut [u8; MOST_PAYLOAD],
-    rooms: &mut Rooms,
+    buffers: &mut PayloadBuffers,
 ) -> usize
     requires frame { t < frame_count plan.now }
     requires piece { length piece.now ≡ piece_at live.now plan.now t }
@@ -65,7 +65,7 @@ pub fn write_payload(
     let _ = packet_len(plan, t);
     let mut writer = MdiWriter::new(into);
     write_head(&mut writer, plan, t, config);
-    write_block_where(&mut writer, plan, t, config, &mut rooms.block);
+    write_block_where(&mut writer, plan, t, config, &mut buffers.block);
     let frame = t - 3 * config.start;
     write_streams(
         &mut writer,
@@ -73,7 +73,7 @@ pub fn write_payload(
         frame,
         live,
         piece,
-        &mut rooms.fill,
+        &mut buffers.fill,
     );
     let room = writer.room();
     total(into) - room
@@ -89,10 +89,10 @@ fn total(bytes: &[u8; MOST_PAYLOAD]) -> usize
 
 // Writes what stands at the front of each frame.
 fn write_head(writer: &mut MdiWriter<'_>, plan: &Schedule, t: u32, config: &Config)
-    requires new { IsNew (head_length (length config.now.streams)) writer.old }
+    requires new { IsNewWriter (head_length (length config.now.streams)) writer.old }
     requires fits { ConfigInLines config.now }
     ensures written { (fac : Fac) × (fac_of plan.now t ≡ Some fac)
-        × IsHead ((plan.now.dlfc + t) % 2 ^ 32) fac (description_of config.now) config.now.mode (written writer.new) }
+        × AreHeadItems ((plan.now.dlfc + t) % 2 ^ 32) fac (description_of config.now) config.now.mode (written writer.new) }
     ensures remaining { length (behind writer.new) + head_length (length config.now.streams) ≡ length (behind writer.old) }
     ensures next { next writer.new ≡ sdc_ }
     ensures same_reference { lender writer.new ≡ lender writer.old }
@@ -107,7 +107,7 @@ fn write_block_where(
     plan: &Schedule,
     t: u32,
     config: &Config,
-    room: &mut [u8; 1026],
+    scratch: &mut [u8; 1026],
 )
     requires config { HoldsIn plan.now (t / 3) config.now }
     requires place { IsBefore sdc_ (if t % 3 == 0 then config.now.room + 11 else 0) writer.old }
@@ -119,7 +119,7 @@ fn write_block_where(
     ensures same_reference { lender writer.new ≡ lender writer.old }
 {
     if t % 3 == 0 {
-        write_block(writer, plan, t / 3, config, room);
+        write_block(writer, plan, t / 3, config, scratch);
     }
 }
 
@@ -129,7 +129,7 @@ fn write_block(
     plan: &Schedule,
     sf: u32,
     config: &Config,
-    room: &mut [u8; 1026],
+    scratch: &mut [u8; 1026],
 )
     requires config { HoldsIn plan.now sf config.now }
     requires place { IsBefore sdc_ (config.now.room + 11) writer.old }
@@ -139,6 +139,6 @@ fn write_block(
     ensures next { next writer.new ≡ sdc_ + 1 }
     ensures same_reference { lender writer.new ≡ lender writer.old }
 {
-    let bits = block_into(plan, sf, room);
-    writer.block(&room[..usize::from(config.room) + 3], bits);
+    let bits = block_into(plan, sf, scratch);
+    writer.block(&scratch[..usize::from(config.room) + 3], bits);
 }

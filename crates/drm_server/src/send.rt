@@ -1,7 +1,7 @@
 //! A schedule over several links.
 
 ghost use Rattle.std.specs.Prelude.{ℕ, [], ◌≡◌, ◌+◌, ◌-◌, ◌<◌, ◌≤◌, length, replicate, slice_index_or, IfOk, OnErr, IsErr};
-ghost use Rattle.drm_links.specs.Told.{Known, HasCause};
+ghost use Rattle.drm_links.specs.Known.{Known, HasCause};
 ghost use Rattle.drm_links.specs.Link.{Traffic};
 ghost use Rattle.drm_links.specs.ManyCalls.{MakesCalls};
 ghost use Rattle.drm_links.specs.Transmission.{LinkTransmits, SendsAll, WaitsBetween};
@@ -13,8 +13,8 @@ ghost use Rattle.dcp_sender.specs.Sending.{MadeCalls};
 ghost use Rattle.dcp_pft.specs.Limits.{most_fragments};
 ghost use Rattle.drm_server.specs.Rests.{rests_before, pause};
 ghost use Rattle.drm_server.specs.OneFrame.{SentFrame, SendsPartOfFrame};
-ghost use Rattle.drm_server.specs.Serving.{HasFrame};
-ghost use Rattle.drm_server.specs.Several.{Served};
+ghost use Rattle.drm_server.specs.ServerState.{HasFrame};
+ghost use Rattle.drm_server.specs.Several.{MemberServed};
 
 use crate::Server;
 use drm_links::{Link, LinkFault};
@@ -31,7 +31,7 @@ pub fn serve_links<L: Link>(
 )
     requires up { AreUp members.old }
     ensures served { (k : ℕ) (d : Member L) → k < length members.old
-        → Served server.old.base first pace (frame_count server.old.base - first) L.known
+        → MemberServed server.old.base first pace (frame_count server.old.base - first) L.known
         (L.known (slice_index_or members.old k d).link) (slice_index_or members.new k d) }
     ensures idle { (k : ℕ) (d : Member L) → k < length members.old
         → L.idles (slice_index_or members.new k d).link ≡ L.idles (slice_index_or members.old k d).link }
@@ -51,8 +51,8 @@ pub fn serve_links<L: Link>(
 pub fn serve_each<L: Link>(server: &mut Server<'_>, n: u32, members: &mut [Member<L>], pace: u32)
     ensures step { (k : ℕ) (d : Member L) (plan : Plan) (first : ℕ) (start : Known Traffic) → k < length members.old
         → HasFrame server.old plan → first + n < frame_count plan → server.old.frame ≡ first + n
-        → Served plan first pace n L.known start (slice_index_or members.old k d)
-        → Served plan first pace (n + 1) L.known start (slice_index_or members.new k d) }
+        → MemberServed plan first pace n L.known start (slice_index_or members.old k d)
+        → MemberServed plan first pace (n + 1) L.known start (slice_index_or members.new k d) }
     ensures idle { (k : ℕ) (d : Member L) → k < length members.old
         → L.idles (slice_index_or members.new k d).link ≡ L.idles (slice_index_or members.old k d).link }
     ensures server { server.new ≡ server.old }
@@ -66,8 +66,8 @@ pub fn serve_each<L: Link>(server: &mut Server<'_>, n: u32, members: &mut [Membe
 fn serve_one<L: Link>(server: &mut Server<'_>, n: u32, member: &mut Member<L>, pace: u32)
     ensures step { (plan : Plan) (first : ℕ) (start : Known Traffic)
         → HasFrame server.old plan → first + n < frame_count plan → server.old.frame ≡ first + n
-        → Served plan first pace n L.known start member.old
-        → Served plan first pace (n + 1) L.known start member.new }
+        → MemberServed plan first pace n L.known start member.old
+        → MemberServed plan first pace (n + 1) L.known start member.new }
     ensures idle { L.idles member.new.link ≡ L.idles member.old.link }
     ensures server { server.new ≡ server.old }
 {

@@ -5,12 +5,12 @@ ghost use Rattle.std.specs.Borrow.{sem};
 ghost use Rattle.dcp_pft.specs.Limits.{longest_packet, most_packet, most_fragments};
 ghost use Rattle.drm_timeline.specs.Numbers.{frame_count, packet_size};
 ghost use Rattle.live_streams.specs.Live.{piece_at, live_schedule};
-ghost use Rattle.drm_server.specs.Serving.{only_at};
+ghost use Rattle.drm_server.specs.ServerState.{only_at};
 ghost use Rattle.drm_server.specs.Frames.{IsPacketAt};
 ghost use Rattle.drm_server.specs.Datagrams.{HasDatagrams, HasDatagram, IsDatagramAt};
 ghost use Rattle.drm_server.specs.Lending.{ServerStays};
 
-use crate::loaded::Loaded;
+use crate::loaded::EncodedFrame;
 use dcp_pft::{LONGEST_PACKET, most_packet};
 use drm_bits::{NoMemory, zeros};
 use drm_schedule::{Live, Schedule};
@@ -24,7 +24,7 @@ const WAITING: usize = 2 * LONGEST_PACKET;
 /// schedule's start. All memory is taken when it is made.
 #[derive(Drop)]
 pub struct Server<'a> {
-    pub(crate) loaded: Loaded<'a>,
+    pub(crate) loaded: EncodedFrame<'a>,
     // The datagram that was asked for last stands at the front, where it isn't the packet.
     pub(crate) datagram: Vec<u8>,
     // Where datagrams wait until a sink is called once for many.
@@ -34,9 +34,9 @@ pub struct Server<'a> {
 impl<'a> Model for Server<'a> {
     ghost use Rattle.std.specs.Prelude.{◌≡◌, ◌≤◌, length};
     ghost use Rattle.dcp_pft.specs.Limits.{most_packet};
-    ghost use Rattle.drm_server.specs.Serving.{Serving};
+    ghost use Rattle.drm_server.specs.ServerState.{ServerState};
 
-    ghost Value = { Serving };
+    ghost Value = { ServerState };
 
     ghost view = { λ s. s.loaded };
 
@@ -50,7 +50,7 @@ impl<'a> Server<'a> {
     pub fn make(alloc: Global, plan: &'a Schedule) -> Result<Server<'a>, NoMemory>
         ensures { IfOk result (λ server. server ≡ record { base = plan.now; plan = plan.now; frame = 0 }) }
     {
-        let loaded = Loaded::first(alloc, plan)?;
+        let loaded = EncodedFrame::first(alloc, plan)?;
         let datagram = zeros(alloc, most_packet(plan.carry()))?;
         let waiting = zeros(alloc, WAITING)?;
         Ok(Server {

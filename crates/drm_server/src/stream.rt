@@ -7,7 +7,7 @@ ghost use Rattle.drm_schedule.specs.Ranges.{StreamInLines};
 ghost use Rattle.drm_schedule.specs.Sizes.{stream_size};
 ghost use Rattle.drm_schedule.specs.Contents.{stream_bytes};
 ghost use Rattle.live_streams.specs.Live.{size_from, streams_with};
-ghost use Rattle.drm_server.specs.Placing.{IsBefore, IsBeforeStream, IsReady, AreReady};
+ghost use Rattle.drm_server.specs.Placing.{IsBefore, IsBeforeStream, IsStreamReady, AreReady};
 
 use drm_schedule::{Content, Live, Stream};
 use mdi_items::MdiWriter;
@@ -23,7 +23,7 @@ pub fn write_streams(
     frame: u32,
     live: &Live,
     piece: &[u8],
-    room: &mut [u8; MOST],
+    scratch: &mut [u8; MOST],
 )
     requires place { IsBefore (str 0) (sum_by (λ s. 8 + stream_size s) streams.now) writer.old }
     requires ready { AreReady frame streams.now }
@@ -39,7 +39,7 @@ pub fn write_streams(
             left = write_live(writer, k as u8, stream, left);
             continue;
         }
-        write_stream(writer, k as u8, stream, frame, room);
+        write_stream(writer, k as u8, stream, frame, scratch);
     }
 }
 
@@ -66,10 +66,10 @@ fn write_stream(
     k: u8,
     stream: &Stream,
     frame: u32,
-    room: &mut [u8; MOST],
+    scratch: &mut [u8; MOST],
 )
     requires place { IsBeforeStream k (8 + stream_size stream.now) writer.old }
-    requires ready { IsReady frame stream.now }
+    requires ready { IsStreamReady frame stream.now }
     ensures written { written writer.new ≡ written writer.old ++ spelled (whole (str k) (stream_bytes frame stream.now)) }
     ensures remaining { length (behind writer.new) + (8 + stream_size stream.now) ≡ length (behind writer.old) }
     ensures next { next writer.new ≡ str k + 1 }
@@ -77,7 +77,7 @@ fn write_stream(
 {
     let size = usize::from(stream.a) + usize::from(stream.b);
     match &stream.content {
-        Content::Fill(byte) => write_fill(writer, k, *byte, size, room),
+        Content::Fill(byte) => write_fill(writer, k, *byte, size, scratch),
         Content::File { bytes, .. } => {
             writer.stream(k, part(bytes.as_slice(), frame as usize, size));
         }
@@ -85,7 +85,7 @@ fn write_stream(
 }
 
 // Writes one byte so many times.
-fn write_fill(writer: &mut MdiWriter<'_>, k: u8, byte: u8, size: usize, room: &mut [u8; MOST])
+fn write_fill(writer: &mut MdiWriter<'_>, k: u8, byte: u8, size: usize, scratch: &mut [u8; MOST])
     requires within_limit { size ≤ 8190 }
     requires place { IsBeforeStream k (8 + size) writer.old }
     ensures written { written writer.new ≡ written writer.old ++ spelled (whole (str k) (replicate size byte)) }
@@ -93,7 +93,7 @@ fn write_fill(writer: &mut MdiWriter<'_>, k: u8, byte: u8, size: usize, room: &m
     ensures next { next writer.new ≡ str k + 1 }
     ensures same_reference { lender writer.new ≡ lender writer.old }
 {
-    let bytes = &mut room[..size];
+    let bytes = &mut scratch[..size];
     bytes.fill(byte);
     writer.stream(k, bytes);
 }

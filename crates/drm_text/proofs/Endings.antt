@@ -5,9 +5,9 @@ use Rattle.std.specs.Int.{w16, from_be_bytes}
 use Rattle.std.proofs.lemmas.List.{drop-drop}
 use Rattle.drm_bits.specs.declared.compared.WrongCheck.{WrongCheck}
 use Rattle.drm_bits.specs.Crc.{IsCheckOf}
-use Rattle.drm_bits.specs.Compared.{IsWrong}
+use Rattle.drm_bits.specs.Compared.{IsWrongCheck}
 use Rattle.drm_bits.proofs.Checks.{one_check}
-use Rattle.drm_text.specs.Reading.{EndsWell}
+use Rattle.drm_text.specs.Reading.{EndsWithCheck}
 
 -- the parts behind the first bytes
 pub record AreParts (bytes : List ℕ) (end : ℕ) (front check zeros : List ℕ) : Type 0 where
@@ -27,7 +27,7 @@ on_ok (Ok x) is h = h
 on_ok (Err w) is h = absurd cc
 
 pub ends_from : (bytes front check zeros : List ℕ) (end : ℕ) (r : Result (Unit {0}) WrongCheck) → AreParts bytes end front check zeros → is_ok r ≡ true → OnOk r (IsCheckOf front (from_be_bytes w16 check))
-    → EachIndex zeros (λ k. get_or zeros k 0 ≡ 0) → EndsWell bytes end
+    → EachIndex zeros (λ k. get_or zeros k 0 ≡ 0) → EndsWithCheck bytes end
 ends_from bytes front check zeros end r at is h each =
     let P : List ℕ → List ℕ → Type 0 = λ f c. IsCheckOf f (from_be_bytes w16 c) in
     let R : List ℕ → Type 0 = λ l. EachIndex l (λ k. get_or l k 0 ≡ 0) in
@@ -36,13 +36,13 @@ ends_from bytes front check zeros end r at is h each =
       zeros = subst R at.zeros_are each;
     }
 
-pub zeros_from : (bytes front check zeros : List ℕ) (end : ℕ) → AreParts bytes end front check zeros → EndsWell bytes end → EachIndex zeros (λ k. get_or zeros k 0 ≡ 0)
+pub zeros_from : (bytes front check zeros : List ℕ) (end : ℕ) → AreParts bytes end front check zeros → EndsWithCheck bytes end → EachIndex zeros (λ k. get_or zeros k 0 ≡ 0)
 zeros_from bytes front check zeros end at e =
     let R : List ℕ → Type 0 = λ l. EachIndex l (λ k. get_or l k 0 ≡ 0) in
     subst R (sym at.zeros_are) e.zeros
 
 -- with another check value it doesn't end well
-pub wrong_end : (bytes front check zeros : List ℕ) (end : ℕ) (r : Result (Unit {0}) WrongCheck) → AreParts bytes end front check zeros → is_ok r ≡ false → IfErr r (λ w. IsWrong w front check) → EndsWell bytes end → ⊥
+pub wrong_end : (bytes front check zeros : List ℕ) (end : ℕ) (r : Result (Unit {0}) WrongCheck) → AreParts bytes end front check zeros → is_ok r ≡ false → IfErr r (λ w. IsWrongCheck w front check) → EndsWithCheck bytes end → ⊥
 wrong_end bytes front check zeros end (Ok x) at is h e = absurd cc
 wrong_end bytes front check zeros end (Err w) at is h e =
     let P : List ℕ → List ℕ → Type 0 = λ f c. IsCheckOf f (from_be_bytes w16 c) in

@@ -8,7 +8,7 @@ use Rattle.std.proofs.lemmas.Nat.{be_bytes_2, from_be_bytes-to_be_bytes_2}
 use Rattle.drm_bits.specs.Crc.{IsCheckOf}
 use Rattle.drm_bits.proofs.DigitsLemmas.{bit_again}
 use Rattle.drm_text.specs.Segment.{Segment, round_up, head, front, IsSegment}
-use Rattle.drm_text.specs.Reading.{body_length, BeginsWell, EndsWell}
+use Rattle.drm_text.specs.Reading.{body_length, BeginsWell, EndsWithCheck}
 
 abbrev pub IsBytes : List ℕ → Type 0
 IsBytes bytes = (i : ℕ) → get_or bytes i 0 < 256
@@ -40,7 +40,7 @@ parts t f l b ht hf hl hb few = (omega arith, omega arith, omega arith, omega ar
 pub record IsPlaced (s : Segment) (bytes : List ℕ) : Type 0 where
   pub begins : BeginsWell bytes
   pub long : body_length bytes ≡ length s.body
-  pub ends : EndsWell bytes (length s.body + 2)
+  pub ends : EndsWithCheck bytes (length s.body + 2)
   pub is_it : segment_in bytes ≡ s
 
 abbrev nothing : ℕ
@@ -120,7 +120,7 @@ bytes_in l fits a n i =
     ]
 
 -- bytes that begin and end well are the segment at its places
-pub found_at : (bytes : List ℕ) → IsBytes bytes → BeginsWell bytes → EndsWell bytes (body_length bytes + 2) → IsSegment (segment_in bytes) bytes
+pub found_at : (bytes : List ℕ) → IsBytes bytes → BeginsWell bytes → EndsWithCheck bytes (body_length bytes + 2) → IsSegment (segment_in bytes) bytes
 found_at bytes fits begins ends =
     let none : ℕ = 0 in
     let n : ℕ = body_length bytes in
@@ -160,7 +160,7 @@ pub one_segment : (s t : Segment) (bytes : List ℕ) → IsSegment s bytes → I
 one_segment s t bytes h k = sym (placed s bytes h).is_it ∙ (placed t bytes k).is_it
 
 -- the segment that is given
-pub found_by : (bytes : List ℕ) (n : ℕ) → IsBytes bytes → BeginsWell bytes → EndsWell bytes (n + 1 + 2) → n ≡ get_or bytes 0 0 % 16
+pub found_by : (bytes : List ℕ) (n : ℕ) → IsBytes bytes → BeginsWell bytes → EndsWithCheck bytes (n + 1 + 2) → n ≡ get_or bytes 0 0 % 16
     → IsSegment
     (record {
       toggle = get_or bytes 0 0 / 128 % 2 == 1;
@@ -173,7 +173,7 @@ pub found_by : (bytes : List ℕ) (n : ℕ) → IsBytes bytes → BeginsWell byt
 found_by bytes n fits begins ends is =
     let place : n + 1 + 2 ≡ body_length bytes + 2 = omega (arith, is) in
     let size : body_length bytes ≡ n + 1 + 2 - 2 = omega (arith, is) in
-    let P : ℕ → Type 0 = λ k. EndsWell bytes k in
+    let P : ℕ → Type 0 = λ k. EndsWithCheck bytes k in
     let Q : ℕ → Type 0 = λ k.
     IsSegment
     (record {

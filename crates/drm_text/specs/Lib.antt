@@ -3,7 +3,7 @@ pub mod Message
 pub mod Writing
 pub mod Reading
 pub mod Joining
-pub mod Rooms
+pub mod Buffers
 pub mod Taking
 pub mod Lending
 pub mod Laws

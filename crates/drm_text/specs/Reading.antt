@@ -16,6 +16,6 @@ pub record BeginsWell (bytes : List ℕ) : Type 0 where
   pub spare : slice_index bytes 1 % 16 ≡ 0
 
 -- The check value of the first bytes stands behind them, and then zeros.
-pub record EndsWell (bytes : List ℕ) (end : ℕ) : Type 0 where
+pub record EndsWithCheck (bytes : List ℕ) (end : ℕ) : Type 0 where
   pub checked : IsCheckOf (take end bytes) (from_be_bytes w16 (take 2 (drop end bytes)))
   pub zeros : EachIndex (drop (end + 2) bytes) (λ k. slice_index (drop (end + 2) bytes) k ≡ 0)

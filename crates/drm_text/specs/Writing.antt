@@ -1,9 +1,9 @@
 -- A segment as the code has it.
 use Rattle.std.specs.Prelude.{◌<◌, ◌≤◌, length}
-use Rattle.drm_text.specs.declared.segment.Part.{Part}
+use Rattle.drm_text.specs.declared.segment.SegmentView.{SegmentView}
 use Rattle.drm_text.specs.Segment.{Segment, most_body}
 
-abbrev pub segment_of : Part → Segment
+abbrev pub segment_of : SegmentView → Segment
 segment_of p =
     record { toggle = p.toggle; first = p.first; last = p.last; number = p.number; body = p.body.now }
 

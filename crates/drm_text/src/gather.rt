@@ -2,14 +2,14 @@
 
 ghost use Rattle.std.specs.Prelude.{◌≡◌, ◌+◌, ◌≤◌, ◌++◌, ◌∷◌, [], length, take, Some, None};
 ghost use Rattle.drm_text.specs.Joining.{gather, segment_after, is_complete as all_there, is_start as starts};
-ghost use Rattle.drm_text.specs.Rooms.{segment_in, IsSegmentRoom, IsGathered};
+ghost use Rattle.drm_text.specs.Buffers.{segment_in, IsSegmentBuffer, IsGathered};
 
 use crate::segment::MOST_SEGMENT;
 use drm_bits::put_at;
 
 /// What a piece is to the segment whose pieces came before it.
 #[derive(Drop)]
-pub(crate) enum Gathered {
+pub(crate) enum PieceRole {
     /// A start. Where `breaks` is true, a segment wasn't whole.
     Start { breaks: bool },
     /// No start came before it.
@@ -22,53 +22,53 @@ pub(crate) enum Gathered {
 
 /// The bytes of a segment so far, or none where no start came.
 #[derive(Drop)]
-pub(crate) struct SegmentRoom {
+pub(crate) struct SegmentBuffer {
     pub bytes: [u8; 20],
     pub len: Option<usize>,
 }
 
-impl SegmentRoom {
-    pub(crate) fn new() -> SegmentRoom
-        ensures room { IsSegmentRoom result }
+impl SegmentBuffer {
+    pub(crate) fn new() -> SegmentBuffer
+        ensures room { IsSegmentBuffer result }
         ensures none { segment_in result ≡ None }
     {
-        SegmentRoom {
+        SegmentBuffer {
             bytes: [0; MOST_SEGMENT],
             len: None,
         }
     }
 
     /// Takes a piece.
-    pub(crate) fn take(&mut self, piece: [u8; 4]) -> Gathered
-        requires { IsSegmentRoom self.old }
+    pub(crate) fn take(&mut self, piece: [u8; 4]) -> PieceRole
+        requires { IsSegmentBuffer self.old }
         ensures gathered { IsGathered result self.new (gather (segment_in self.old) piece) }
         ensures after { segment_in self.new ≡ segment_after (gather (segment_in self.old) piece) }
-        ensures room { IsSegmentRoom self.new }
+        ensures room { IsSegmentBuffer self.new }
     {
         if is_start(piece) {
             let breaks = self.len.is_some();
             self.len = Some(0);
-            return Gathered::Start { breaks };
+            return PieceRole::Start { breaks };
         }
         let Some(len) = self.len else {
-            return Gathered::Stray;
+            return PieceRole::Stray;
         };
         put_at(&mut self.bytes, len, &piece);
         let end = len + 4;
         if is_complete(&self.bytes, end) {
             self.len = None;
-            Gathered::Full(end)
+            PieceRole::Full(end)
         } else {
             self.len = Some(end);
-            Gathered::More
+            PieceRole::More
         }
     }
 
     /// Something is missing: no start came.
     pub(crate) fn clear(&mut self)
-        requires { IsSegmentRoom self.old }
+        requires { IsSegmentBuffer self.old }
         ensures none { segment_in self.new ≡ None }
-        ensures room { IsSegmentRoom self.new }
+        ensures room { IsSegmentBuffer self.new }
     {
         self.len = None;
     }

@@ -4,31 +4,31 @@ ghost use Rattle.std.specs.Prelude.{◌≡◌, ◌↔◌, IsSome, IfSome};
 ghost use Rattle.std.specs.Str.{IsUtf8};
 ghost use Rattle.std.specs.Borrow.{sem};
 ghost use Rattle.drm_text.specs.Joining.{made};
-ghost use Rattle.drm_text.specs.Rooms.{IsMessageRoom};
+ghost use Rattle.drm_text.specs.Buffers.{IsMessageBuffer};
 ghost use Rattle.drm_text.specs.Taking.{GivesOfPiece, TookSegment};
 ghost use Rattle.drm_text.specs.Lending.{JoinerAfterPiece};
 
-use crate::gather::{Gathered, SegmentRoom};
-use crate::message::MessageRoom;
+use crate::gather::{PieceRole, SegmentBuffer};
+use crate::message::MessageBuffer;
 use crate::read::read_segment;
 use std::marker::Model;
 
 /// Joins pieces to messages.
 #[derive(Drop)]
 pub struct TextJoiner {
-    segment: SegmentRoom,
-    message: MessageRoom,
+    segment: SegmentBuffer,
+    message: MessageBuffer,
 }
 
 impl Model for TextJoiner {
-    ghost use Rattle.drm_text.specs.Joining.{State};
-    ghost use Rattle.drm_text.specs.Taking.{state, IsSound};
+    ghost use Rattle.drm_text.specs.Joining.{TextState};
+    ghost use Rattle.drm_text.specs.Taking.{state, TextJoinerInvariant};
 
-    ghost Value = { State };
+    ghost Value = { TextState };
 
     ghost view = { state };
 
-    ghost invariant = { IsSound };
+    ghost invariant = { TextJoinerInvariant };
 }
 
 impl TextJoiner {
@@ -37,8 +37,8 @@ impl TextJoiner {
         ensures { result ≡ made }
     {
         TextJoiner {
-            segment: SegmentRoom::new(),
-            message: MessageRoom::new(),
+            segment: SegmentBuffer::new(),
+            message: MessageBuffer::new(),
         }
     }
 
@@ -48,18 +48,18 @@ impl TextJoiner {
         ensures* after { sem 𝓛 (JoinerAfterPiece piece self.entry) }
     {
         match self.segment.take(piece) {
-            Gathered::Start { breaks } => {
+            PieceRole::Start { breaks } => {
                 if breaks {
                     self.message.clear();
                 }
                 None
             }
-            Gathered::Stray => {
+            PieceRole::Stray => {
                 self.message.clear();
                 None
             }
-            Gathered::More => None,
-            Gathered::Full(len) => {
+            PieceRole::More => None,
+            PieceRole::Full(len) => {
                 match take_segment(&mut self.message, &self.segment.bytes[..len]) {
                     Some(len) => as_text(self.message.front(len)),
                     None => None,
@@ -78,8 +78,8 @@ impl TextJoiner {
 }
 
 // Takes the bytes of a segment, and answers how many bytes the message has that is whole with it, if one is.
-fn take_segment(message: &mut MessageRoom, bytes: &[u8]) -> Option<usize>
-    requires { IsMessageRoom message.old }
+fn take_segment(message: &mut MessageBuffer, bytes: &[u8]) -> Option<usize>
+    requires { IsMessageBuffer message.old }
     ensures { TookSegment bytes.now message.old result message.new }
 {
     match read_segment(bytes) {

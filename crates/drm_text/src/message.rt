@@ -4,9 +4,9 @@ ghost use Rattle.std.specs.Prelude.{◌≡◌, ◌+◌, ◌≤◌, ◌<◌, ◌+
 ghost use Rattle.drm_text.specs.Message.{most_message};
 ghost use Rattle.drm_text.specs.Writing.{segment_of, FitsSegment};
 ghost use Rattle.drm_text.specs.Joining.{bytes_with, going_on, whole};
-ghost use Rattle.drm_text.specs.Rooms.{begun_in, begun_of, body_from, front_of, IsMessageRoom};
+ghost use Rattle.drm_text.specs.Buffers.{begun_in, begun_of, body_from, front_of, IsMessageBuffer};
 
-use crate::segment::{MOST_BODY, Part};
+use crate::segment::{MOST_BODY, SegmentView};
 use drm_bits::put_at;
 
 /// The most bytes of a message.
@@ -14,37 +14,37 @@ const MOST_MESSAGE: usize = 128;
 
 /// What is known of a message that was begun: its toggle, the number of its next segment, and how many bytes have come.
 #[derive(Clone, Copy, Drop)]
-pub(crate) struct Begun {
+pub(crate) struct OpenMessage {
     pub toggle: bool,
     pub number: u8,
     pub len: usize,
 }
 
 #[derive(Drop)]
-pub(crate) struct MessageRoom {
+pub(crate) struct MessageBuffer {
     pub text: [u8; 128],
-    pub begun: Option<Begun>,
+    pub begun: Option<OpenMessage>,
 }
 
-impl MessageRoom {
-    pub(crate) fn new() -> MessageRoom
-        ensures room { IsMessageRoom result }
+impl MessageBuffer {
+    pub(crate) fn new() -> MessageBuffer
+        ensures room { IsMessageBuffer result }
         ensures none { begun_in result ≡ None }
     {
-        MessageRoom {
+        MessageBuffer {
             text: [0; MOST_MESSAGE],
             begun: None,
         }
     }
 
     /// Takes a segment, and answers how many bytes the message has that is whole with it, if one is.
-    pub(crate) fn join(&mut self, part: &Part<'_>) -> Option<usize>
-        requires room { IsMessageRoom self.old }
+    pub(crate) fn join(&mut self, part: &SegmentView<'_>) -> Option<usize>
+        requires room { IsMessageBuffer self.old }
         requires fits { FitsSegment (segment_of part.now) }
         ensures begun { begun_in self.new ≡ going_on (segment_of part.now) (bytes_with (begun_in self.old) (segment_of part.now)) }
         ensures whole { front_of self.new.text result ≡ whole (segment_of part.now) (bytes_with (begun_in self.old) (segment_of part.now)) }
         ensures within { IfSome result (λ len. len ≤ most_message) }
-        ensures room { IsMessageRoom self.new }
+        ensures room { IsMessageBuffer self.new }
     {
         let begun = self.begun;
         self.begun = None;
@@ -57,7 +57,7 @@ impl MessageRoom {
             return Some(len);
         }
         if part.body.len() == MOST_BODY {
-            self.begun = Some(Begun {
+            self.begun = Some(OpenMessage {
                 toggle: part.toggle,
                 number: part.number + 1,
                 len,
@@ -68,9 +68,9 @@ impl MessageRoom {
 
     /// The message is broken off.
     pub(crate) fn clear(&mut self)
-        requires { IsMessageRoom self.old }
+        requires { IsMessageBuffer self.old }
         ensures none { begun_in self.new ≡ None }
-        ensures room { IsMessageRoom self.new }
+        ensures room { IsMessageBuffer self.new }
     {
         self.begun = None;
     }
@@ -85,7 +85,7 @@ impl MessageRoom {
 }
 
 // Where the bytes of a segment belong, if it is the next one of the message or begins one.
-fn place_of(begun: Option<Begun>, part: &Part<'_>) -> Option<usize>
+fn place_of(begun: Option<OpenMessage>, part: &SegmentView<'_>) -> Option<usize>
     requires within { IfSome begun (λ b. b.len ≤ most_message) }
     requires fits { FitsSegment (segment_of part.now) }
     ensures place { (text : List ℕ) → length text ≡ most_message

@@ -4,7 +4,7 @@ ghost use Rattle.std.specs.Prelude.{◌≡◌, ◌+◌, ◌*◌, ◌<◌, ◌≤
 ghost use Rattle.drm_text.specs.Message.{most_message, segment_at, IsPieceOf};
 ghost use Rattle.drm_text.specs.Writing.{segment_of};
 
-use crate::segment::{MOST_BODY, MOST_SEGMENT, Part, write_segment};
+use crate::segment::{MOST_BODY, MOST_SEGMENT, SegmentView, write_segment};
 
 /// The piece that stands before each segment.
 pub(crate) const START: [u8; 4] = [0xff; 4];
@@ -38,13 +38,13 @@ pub fn text_piece(message: &str, toggle: bool, k: usize) -> Option<[u8; 4]>
 }
 
 // A segment of a message.
-fn part_at(message: &[u8], toggle: bool, number: usize) -> Part<'_>
+fn part_at(message: &[u8], toggle: bool, number: usize) -> SegmentView<'_>
     requires within_limit { length message.now ≤ most_message }
     requires within { number * 16 < length message.now }
     ensures { segment_of result ≡ segment_at toggle message.now number }
 {
     let rest = &message[number * MOST_BODY..];
-    Part {
+    SegmentView {
         toggle,
         first: number == 0,
         last: rest.len() <= MOST_BODY,

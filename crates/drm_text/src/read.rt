@@ -3,16 +3,16 @@
 ghost use Rattle.std.specs.Prelude.{◌≡◌, ◌↔◌, ◌+◌, ◌≤◌, ℕ, IsTrue, EachIndex, slice_index, length, IfSome, IsSomeAnd};
 ghost use Rattle.drm_text.specs.Segment.{Segment, IsSegment};
 ghost use Rattle.drm_text.specs.Writing.{segment_of};
-ghost use Rattle.drm_text.specs.Reading.{BeginsWell, EndsWell};
+ghost use Rattle.drm_text.specs.Reading.{BeginsWell, EndsWithCheck};
 
-use crate::segment::Part;
+use crate::segment::SegmentView;
 use drm_bits::compare_crc16;
 
 /// The least bytes of a segment.
 const LEAST_SEGMENT: usize = 8;
 
 /// The segment that these bytes are, if they are one.
-pub(crate) fn read_segment(bytes: &[u8]) -> Option<Part<'_>>
+pub(crate) fn read_segment(bytes: &[u8]) -> Option<SegmentView<'_>>
     ensures found { IfSome result (λ part. IsSegment (segment_of part) bytes.now) }
     ensures only { (s : Segment) → IsSegment s bytes.now → IsSomeAnd result (λ part. segment_of part ≡ s) }
 {
@@ -23,7 +23,7 @@ pub(crate) fn read_segment(bytes: &[u8]) -> Option<Part<'_>>
     if !ends_well(bytes, len + 2) {
         return None;
     }
-    Some(Part {
+    Some(SegmentView {
         toggle: bytes[0] / 0x80 % 2 == 1,
         first: bytes[0] / 0x40 % 2 == 1,
         last: bytes[0] / 0x20 % 2 == 1,
@@ -46,7 +46,7 @@ fn begins_well(bytes: &[u8]) -> bool
 // Whether the check value behind the first bytes is theirs, and zeros stand behind it.
 fn ends_well(bytes: &[u8], end: usize) -> bool
     requires { end + 2 ≤ length bytes.now }
-    ensures { IsTrue result ↔ EndsWell bytes.now end }
+    ensures { IsTrue result ↔ EndsWithCheck bytes.now end }
 {
     let (front, rest) = bytes.split_at(end);
     let (check, zeros) = rest.split_at(2);

@@ -14,7 +14,7 @@ pub(crate) const MOST_SEGMENT: usize = 20;
 
 /// A segment of a message.
 #[derive(Clone, Copy, Drop)]
-pub(crate) struct Part<'a> {
+pub(crate) struct SegmentView<'a> {
     pub toggle: bool,
     pub first: bool,
     pub last: bool,
@@ -23,7 +23,7 @@ pub(crate) struct Part<'a> {
 }
 
 /// Writes a segment, and answers how many bytes it has.
-pub(crate) fn write_segment(part: &Part<'_>, into: &mut [u8]) -> usize
+pub(crate) fn write_segment(part: &SegmentView<'_>, into: &mut [u8]) -> usize
     requires fits { FitsSegment (segment_of part.now) }
     requires room { 20 ≤ length into.old }
     ensures end { result ≡ round_up (length part.now.body.now) + 4 }
@@ -39,7 +39,7 @@ pub(crate) fn write_segment(part: &Part<'_>, into: &mut [u8]) -> usize
     size
 }
 
-fn head_of(part: &Part<'_>) -> u8
+fn head_of(part: &SegmentView<'_>) -> u8
     requires { FitsSegment (segment_of part.now) }
     ensures { result ≡ head_byte (segment_of part.now) }
 {

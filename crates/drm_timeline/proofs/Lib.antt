@@ -1,7 +1,7 @@
 pub mod StandingLemmas
 pub mod ScheduleLemmas
 pub mod FastAccessLemmas
-pub mod ToldLemmas
+pub mod OwnLemmas
 pub mod PackedLemmas
 pub mod AnnouncingLemmas
 pub mod BlockLemmas

@@ -8,7 +8,7 @@ use Rattle.drm_bits.specs.Fields.{spelled}
 use Rattle.drm_bits.specs.Sink.{unwritten}
 use Rattle.drm_sdc.specs.declared.entity.Entity.{Entity}
 use Rattle.drm_sdc.specs.Entity.{EntityFits, entity_fields, entity_size}
-use Rattle.drm_bits.specs.Sink.{Wrote}
+use Rattle.drm_bits.specs.Sink.{WroteBits}
 use Rattle.drm_sdc.specs.Writing.{entity_bits, total_size}
 use Rattle.drm_bits.proofs.WroteLemmas.{then as behind, wrote_none}
 use Rattle.plan_packing.specs.declared.packing.Spot.{Spot}
@@ -156,7 +156,7 @@ wrote_none_of s = record { each = All-nil EntityFits; wrote = wrote_none s; left
 pub wrote_both : {xs ys : List Entity} {s t u : BitSink} → WroteEntities xs s t → WroteEntities ys t u → WroteEntities (xs ++ ys) s u
 wrote_both {xs} {ys} {s} {t} {u} a b = record {
   each = All-append EntityFits xs ys a.each b.each;
-  wrote = subst (λ (l : List Bool). Wrote l s u) (sym (bits_append xs ys)) (behind a.wrote b.wrote);
+  wrote = subst (λ (l : List Bool). WroteBits l s u) (sym (bits_append xs ys)) (behind a.wrote b.wrote);
   left = omega (arith, a.left, b.left, size_append xs ys);
 }
 

@@ -56,23 +56,23 @@ announces_or : (plan : Plan) (other : Signature) → AnnouncesStarts plan → In
 announces_or plan other a =
     record { named = a.named; before = λ start is above. a.before start is; changes = λ t differ. a.changes t (λ same. differ (ap (λ o. unwrap_or o other) same)) }
 
-sent : (plan : Plan) (other : Signature) (base : ℕ) (items : List (Option Seen)) → AreSeenOf plan base items → AreSent (index_of plan) (signature_or plan other) base items
-sent plan other base items are q seen frame =
+sent : (plan : Plan) (other : Signature) (first_frame : ℕ) (items : List (Option Seen)) → AreSeenOf plan first_frame items → AreSent (index_of plan) (signature_or plan other) first_frame items
+sent plan other first_frame items are q seen frame =
     let is = are q seen frame in
     (is.position, is.index, sym (ap (λ o. unwrap_or o other) is.signature))
 
 pub only_at_its_starts : (plan : Plan) → AnnouncesStarts plan → SwitchesOnlyAtStarts plan
-only_at_its_starts plan a base items f are switches =
+only_at_its_starts plan a first_frame items f are switches =
     let other : Signature = switches.names.0.signature in
-    only_at_starts (index_of plan) (signature_or plan other) (later_starts plan) base items f (announces_or plan other a) (sent plan other base items are) switches
+    only_at_starts (index_of plan) (signature_or plan other) (later_starts plan) first_frame items f (announces_or plan other a) (sent plan other first_frame items are) switches
 
 pub at_all_its_starts : (plan : Plan) → AnnouncesStarts plan → SwitchesAtAllStarts plan
-at_all_its_starts plan a base items start are none is low high =
+at_all_its_starts plan a first_frame items start are none is low high =
     let other : Signature = (none 0 (omega (arith, low, high))).0.signature in
-    at_all_starts (index_of plan) (signature_or plan other) (later_starts plan) base items start (announces_or plan other a) (sent plan other base items are) none is low high
+    at_all_starts (index_of plan) (signature_or plan other) (later_starts plan) first_frame items start (announces_or plan other a) (sent plan other first_frame items are) none is low high
 
 pub resumes_nowhere : (plan : Plan) → AnnouncesStarts plan → ResumesNowhere plan
-resumes_nowhere plan a base items p are none resumes =
+resumes_nowhere plan a first_frame items p are none resumes =
     let other : Signature = resumes.old.signature in
-    none_resumed (index_of plan) (signature_or plan other) (later_starts plan) base items p (announces_or plan other a) (sent plan other base items are) none
+    none_resumed (index_of plan) (signature_or plan other) (later_starts plan) first_frame items p (announces_or plan other a) (sent plan other first_frame items are) none
     (slice_get_within items p (Some resumes.new) resumes.frame) resumes

@@ -23,8 +23,8 @@ use Rattle.drm_timeline.proofs.StandingLemmas.{last_passing_has}
 use Rattle.drm_timeline.proofs.StartsLemmas.{stays_or_starts, is_later}
 
 -- in each frame a service is told
-service_told : (c : Config) (phase : ℕ) → IsSome (services_of c) → (service : Service) × (service_of c phase ≡ Some service)
-service_told c phase some = by (service_at a d phase) refl
+has_service : (c : Config) (phase : ℕ) → IsSome (services_of c) → (service : Service) × (service_of c phase ≡ Some service)
+has_service c phase some = by (service_at a d phase) refl
   where
     a : ℕ
     a = length (audio_services c)
@@ -34,7 +34,7 @@ service_told c phase some = by (service_at a d phase) refl
 
     of_slot : (slot : Slot) → service_at a d phase ≡ Some slot → (o : Option Service) → service_in c slot ≡ o → (service : Service) × (o ≡ Some service)
     of_slot slot is None none = absurd (service_there c phase slot some (sym is) none)
-    of_slot slot is (Some service) told = (service, refl)
+    of_slot slot is (Some service) is_service = (service, refl)
 
     by : (o : Option Slot) → service_at a d phase ≡ o → (service : Service) × (chain o (service_in c) ≡ Some service)
     by (Some slot) is = of_slot slot is (service_in c slot) refl
@@ -71,8 +71,8 @@ signature_under c services = signature_of c.mode (channel_of c services 0 0) (de
 
 signed_as : (plan : Plan) (t : ℕ) (c : Config) (services : ℕ) → config_of plan (t / 3) ≡ Some c → services_of c ≡ Some services → signature_at plan t ≡ Some (signature_under c services)
 signed_as plan t c services holds code =
-    let told = service_told c (t - 3 * c.start) (subst (λ (o : Option ℕ). IsSome o) (sym code) refl) in
-    rw (holds, code, told.1) refl
+    let is_service = has_service c (t - 3 * c.start) (subst (λ (o : Option ℕ). IsSome o) (sym code) refl) in
+    rw (holds, code, is_service.1) refl
 
 pub signed_in : (plan : Plan) (t : ℕ) → IsThere plan (t / 3) → IsSome (signature_at plan t)
 signed_in plan t is = subst (λ (o : Option Signature). IsSome o) (sym (signed_as plan t is.config is.services is.holds is.code)) refl

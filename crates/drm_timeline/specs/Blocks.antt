@@ -29,12 +29,12 @@ abbrev pub clock_in : Config → ℕ → List Entity
 clock_in c sf = if tells_clock c sf then clock_from ((sf - c.start) / 50) c.clock else []
 
 -- what the block of super frame sf tells of its own configuration
-abbrev pub told_in : Config → ℕ → List Entity
-told_in c sf = current (Mux (description_of c)) ∷ (entities_in_force c sf ++ clock_in c sf)
+abbrev pub own_entities : Config → ℕ → List Entity
+own_entities c sf = current (Mux (description_of c)) ∷ (entities_in_force c sf ++ clock_in c sf)
 
 -- the entities of a block
 abbrev pub entities_of : Config → Plan → ℕ → Option (List Entity)
-entities_of c plan sf = option_map (λ announced. told_in c sf ++ announced) (announced_by c sf (announced_in plan sf))
+entities_of c plan sf = option_map (λ announced. own_entities c sf ++ announced) (announced_by c sf (announced_in plan sf))
 
 -- the block with these entities, whose data field has so many bytes: its index is 0, and zeros end the field
 abbrev pub block_with : ℕ → List Entity → Block

@@ -48,22 +48,22 @@ pub record AnnouncesStarts (plan : Plan) : Type 0 where
   -- which changes only with the first frame of a later configuration
   pub changes : (t : ℕ) → signature_at plan t ≢ signature_at plan (t + 1) → IsFirstFrame plan (t + 1)
 
--- each frame among the items is seen of the schedule, from its frame `base` on
+-- each frame among the items is seen of the schedule, from its frame `first_frame` on
 abbrev pub AreSeenOf : Plan → ℕ → List (Option Seen) → Type 0
-AreSeenOf plan base items = (q : ℕ) (seen : Seen) → IsFrame items q seen → IsSeenOf plan (q + base) seen
+AreSeenOf plan first_frame items = (q : ℕ) (seen : Seen) → IsFrame items q seen → IsSeenOf plan (q + first_frame) seen
 
 -- whatever is missing, a switch stands only before the first frame of a later configuration
 abbrev pub SwitchesOnlyAtStarts : Plan → Type 0
 SwitchesOnlyAtStarts plan =
-    (base : ℕ) (items : List (Option Seen)) (f : ℕ) → AreSeenOf plan base items → SwitchesAt items f → IsFirstFrame plan (f + base)
+    (first_frame : ℕ) (items : List (Option Seen)) (f : ℕ) → AreSeenOf plan first_frame items → SwitchesAt items f → IsFirstFrame plan (f + first_frame)
 
 -- where no frame is missing, a switch stands at each later start among the frames behind the first one
 abbrev pub SwitchesAtAllStarts : Plan → Type 0
 SwitchesAtAllStarts plan =
-    (base : ℕ) (items : List (Option Seen)) (start : ℕ) → AreSeenOf plan base items → NoneMissing items
-    → Contains (later_starts plan) start → base < 3 * start → 3 * start < base + length items → SwitchesAt items (3 * start - base)
+    (first_frame : ℕ) (items : List (Option Seen)) (start : ℕ) → AreSeenOf plan first_frame items → NoneMissing items
+    → Contains (later_starts plan) start → first_frame < 3 * start → 3 * start < first_frame + length items → SwitchesAt items (3 * start - first_frame)
 
 -- where no frame is missing, none is resumed
 abbrev pub ResumesNowhere : Plan → Type 0
 ResumesNowhere plan =
-    (base : ℕ) (items : List (Option Seen)) (p : ℕ) → AreSeenOf plan base items → NoneMissing items → ¬ ResumesAt items p
+    (first_frame : ℕ) (items : List (Option Seen)) (p : ℕ) → AreSeenOf plan first_frame items → NoneMissing items → ¬ ResumesAt items p

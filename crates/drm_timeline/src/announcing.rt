@@ -35,7 +35,7 @@ pub fn write_announcement(sink: &mut BitSink<'_>, before: &Config, config: &Conf
     requires counting { standing.is_counting sf config.now ≡ true }
     requires can { announcement.can_be_announced before.now config.now ≡ true }
     requires room { 8 * free_bytes before.now sf ≤ length (unwritten sink.old) }
-    ensures told { BlockAnnounces before.now sf (Some config.now) sink.old sink.new }
+    ensures announces { BlockAnnounces before.now sf (Some config.now) sink.old sink.new }
 {
     let countdown = u32::from(config.countdown);
     let frame = (sf - config.start.saturating_sub(countdown)) as usize;

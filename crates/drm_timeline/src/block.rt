@@ -10,9 +10,9 @@ ghost use Rattle.drm_sdc.specs.Writing.{total_size};
 ghost use Rattle.drm_sdc.specs.declared.block.Block.{Block};
 ghost use Rattle.drm_sdc.specs.declared.entity.Entity.{Entity};
 ghost use Rattle.drm_schedule.specs.Ranges.{ConfigInLines};
-ghost use Rattle.drm_schedule.specs.Sizes.{HasRoom, free_bytes, told_size, size_if, tells_clock};
+ghost use Rattle.drm_schedule.specs.Sizes.{HasRoom, free_bytes, size_in_force, size_if, tells_clock};
 ghost use Rattle.drm_timeline.specs.Standing.{config_of, announced_in};
-ghost use Rattle.drm_timeline.specs.Blocks.{block_of, entities_of, told_in, clock_in};
+ghost use Rattle.drm_timeline.specs.Blocks.{block_of, entities_of, own_entities, clock_in};
 ghost use Rattle.drm_timeline.specs.Telling.{WroteEntities, BlockAnnounces};
 
 use crate::announcing::write_announcement;
@@ -49,7 +49,7 @@ fn write_field(plan: &Schedule, sf: u32, config: &Config, field: &mut [u8; 1023]
     ensures octets { (i : ℕ) → slice_index field.new i < 2 ^ 8 }
 {
     let mut sink = BitSink::new(field);
-    write_told(&mut sink, config, sf);
+    write_own_entities(&mut sink, config, sf);
     write_announced(&mut sink, plan, sf, config);
     let used = sink.len() / 8;
     put_zeros(&mut sink, usize::from(config.room) - used);
@@ -60,7 +60,7 @@ fn write_announced(sink: &mut BitSink<'_>, plan: &Schedule, sf: u32, config: &Co
     requires config { config_of plan.now sf ≡ Some config.now }
     requires fits { ConfigInLines config.now }
     requires room { 8 * free_bytes config.now sf ≤ length (unwritten sink.old) }
-    ensures told { BlockAnnounces config.now sf (announced_in plan.now sf) sink.old sink.new }
+    ensures announces { BlockAnnounces config.now sf (announced_in plan.now sf) sink.old sink.new }
 {
     if let Some(next) = announced(plan, sf) {
         write_announcement(sink, config, next, sf);
@@ -68,11 +68,11 @@ fn write_announced(sink: &mut BitSink<'_>, plan: &Schedule, sf: u32, config: &Co
 }
 
 // Writes what a block tells of its own configuration.
-fn write_told(sink: &mut BitSink<'_>, config: &Config, sf: u32)
+fn write_own_entities(sink: &mut BitSink<'_>, config: &Config, sf: u32)
     requires fits { ConfigInLines config.now }
     requires started { (config.now.start ≤ sf) × (sf < 1000000) }
-    requires room { 8 * (told_size config.now sf + size_if (tells_clock config.now sf)) ≤ length (unwritten sink.old) }
-    ensures { WroteEntities (told_in config.now sf) sink.old sink.new }
+    requires room { 8 * (size_in_force config.now sf + size_if (tells_clock config.now sf)) ≤ length (unwritten sink.old) }
+    ensures { WroteEntities (own_entities config.now sf) sink.old sink.new }
 {
     let desc = description(config);
     write_entity(sink, false, &Body::Mux { desc });

@@ -1,7 +1,7 @@
 -- The ends of runs that tell of no frames.
 use Rattle.std.proofs.Common.{◌≡◌, ℕ, ◌⊎◌, inl, inr, Bool, List, true, false, [], Option, None, Some, Result, Ok, Err, refl, sym, ◌∙◌, ap, subst}
-use Rattle.drm_links.specs.Told.{Known, RisesWhere, IfBothKnown, IfBoth}
-use Rattle.drm_links.proofs.ToldLemmas.{counts_as}
+use Rattle.drm_links.specs.Known.{Known, RisesWhere, IfBothKnown, IfBoth}
+use Rattle.drm_links.proofs.KnownLemmas.{counts_as}
 use Rattle.drm_links.specs.Dock.{DockContents}
 use Rattle.link_group.specs.Reaching.{NothingSent}
 use Rattle.cmd_faults.specs.declared.fault.Fault.{Fault}
@@ -13,7 +13,7 @@ use Rattle.dcp_pft.specs.declared.carry.Carry.{Carry}
 use Rattle.drm_links.specs.Source.{Input}
 use Rattle.drm_links.specs.Sink.{Output}
 use Rattle.cmd_convert.specs.Run as convert
-use Rattle.recv_reading.specs.Packets.{Terms}
+use Rattle.recv_reading.specs.Packets.{PacketRange}
 use Rattle.drm_links.specs.declared.dock.Address.{Address}
 use Rattle.drm_links.specs.declared.link.LinkFault.{LinkFault}
 use Rattle.recv_reading.specs.declared.options.ReceiveOptions.{ReceiveOptions}
@@ -50,9 +50,9 @@ module _ (code : ℕ) (fault : Fault) (status : code ≡ fault_status fault) (kn
 
 -- a dock that is left alone
 pub dock_still : (a : Known DockContents) → IfBothKnown a a NothingSent
-dock_still a = still a.told
+dock_still a = still a.contents
   where
-    still : (told : Option DockContents) → IfBoth told told NothingSent
+    still : (contents : Option DockContents) → IfBoth contents contents NothingSent
     still None = tt
     still (Some x) = ([], refl)
 
@@ -62,11 +62,11 @@ not_else fault memory write (inl is) = memory is
 not_else fault memory write (inr is) = write is
 
 -- a conversion ends neither by its words nor by a link
-pub not_convert : (terms : Terms) (carry : Carry) (ending : Result Bool Fault) (told : Bool) (a b : Known Input) (x y z w : Known Output) → convert.ConvertEnds terms carry ending told a b x y z w → ending ≡ Err faults.Words → ⊥
-not_convert terms carry ending told a b x y z w ends is = let P : Result Bool Fault → Type 0 = λ e. convert.ConvertEnds terms carry e told a b x y z w in subst P is ends
+pub not_convert : (range : PacketRange) (carry : Carry) (ending : Result Bool Fault) (err_ok : Bool) (a b : Known Input) (x y z w : Known Output) → convert.ConvertEnds range carry ending err_ok a b x y z w → ending ≡ Err faults.Words → ⊥
+not_convert range carry ending err_ok a b x y z w ends is = let P : Result Bool Fault → Type 0 = λ e. convert.ConvertEnds range carry e err_ok a b x y z w in subst P is ends
 
-pub not_a_link : (terms : Terms) (carry : Carry) (ending : Result Bool Fault) (told : Bool) (a b : Known Input) (x y z w : Known Output) → convert.ConvertEnds terms carry ending told a b x y z w → ending ≡ Err faults.Link → ⊥
-not_a_link terms carry ending told a b x y z w ends is = let P : Result Bool Fault → Type 0 = λ e. convert.ConvertEnds terms carry e told a b x y z w in subst P is ends
+pub not_a_link : (range : PacketRange) (carry : Carry) (ending : Result Bool Fault) (err_ok : Bool) (a b : Known Input) (x y z w : Known Output) → convert.ConvertEnds range carry ending err_ok a b x y z w → ending ≡ Err faults.Link → ⊥
+not_a_link range carry ending err_ok a b x y z w ends is = let P : Result Bool Fault → Type 0 = λ e. convert.ConvertEnds range carry e err_ok a b x y z w in subst P is ends
 
 -- a gateway ends for want of memory, by a failed link or by a failed write
 pub not_gate : (fault : Fault) → (fault ≡ faults.NoMemory → ⊥) → (fault ≡ faults.Link → ⊥) → (fault ≡ faults.Write → ⊥)
@@ -89,10 +89,10 @@ no_gate rules carry from to ending dock_known dock dock' out_known out out' is (
 
 -- ---- what is written to err behind a command
 
-pub done_told : {E : Type 0} (told clean : Bool) (known : E → Known Output) (err : E) → ReportsIf told (done_of (Ok clean)) known err err
-done_told true clean known err = refl
-done_told false clean known err = refl
+pub done_reports : {E : Type 0} (err_ok clean : Bool) (known : E → Known Output) (err : E) → ReportsIf err_ok (done_of (Ok clean)) known err err
+done_reports true clean known err = refl
+done_reports false clean known err = refl
 
-pub fault_told : {E : Type 0} (told : Bool) (fault : Fault) (known : E → Known Output) (mid new : E) → (told ≡ true → WritesLine (fault_line fault) known mid new) → (told ≡ false → new ≡ mid) → ReportsIf told (done_of (Err fault)) known mid new
-fault_told true fault known mid new wrote still = wrote refl
-fault_told false fault known mid new wrote still = still refl
+pub fault_reports : {E : Type 0} (err_ok : Bool) (fault : Fault) (known : E → Known Output) (mid new : E) → (err_ok ≡ true → WritesLine (fault_line fault) known mid new) → (err_ok ≡ false → new ≡ mid) → ReportsIf err_ok (done_of (Err fault)) known mid new
+fault_reports true fault known mid new wrote still = wrote refl
+fault_reports false fault known mid new wrote still = still refl

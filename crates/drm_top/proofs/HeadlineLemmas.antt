@@ -1,9 +1,9 @@
 -- The headline of a command that ended with a report.
 use Rattle.std.proofs.Common.{◌≡◌, inl, inr, ℕ, Bool, true, false, List, None, Some, Result, Ok, Err, refl}
-use Rattle.drm_links.specs.Told.{Known}
+use Rattle.drm_links.specs.Known.{Known}
 use Rattle.drm_links.specs.Shelf.{Files}
 use Rattle.drm_links.specs.Sink.{Output}
-use Rattle.drm_links.specs.Dock.{DockContents, Docked}
+use Rattle.drm_links.specs.Dock.{DockContents, DockKnownThrough}
 use Rattle.link_group.proofs.OpeningLemmas.{docked_weaker}
 use Rattle.drm_links.specs.declared.dock.Address.{Address}
 use Rattle.drm_schedule.specs.declared.plan.Plan.{Plan}
@@ -39,9 +39,9 @@ module _ {S O : Type 0} (name script : List ℕ) (window : ℕ) (clean : Bool)
   abbrev Feeds : Type 0
   Feeds = WroteFeeds name script window clean known shelf shelf' out_known out out'
 
-  of_script : (plan : Plan) (came : Result (List (List Delivery)) ScheduleFault) → IsSchedule plan
-      → ReadBy (schedule_named name) (Ok plan) (known shelf) (known between) → ReadBy (script_named plan script) came (known between) (known shelf')
-      → ByScript plan window came (Ok clean) out_known out out' → Feeds
+  of_script : (plan : Plan) (outcome : Result (List (List Delivery)) ScheduleFault) → IsSchedule plan
+      → ReadBy (schedule_named name) (Ok plan) (known shelf) (known between) → ReadBy (script_named plan script) outcome (known between) (known shelf')
+      → ByScript plan window outcome (Ok clean) out_known out out' → Feeds
   of_script plan (Ok feeds) valid schedule deliveries (is, wrote, kind) = record {
     plan = plan;
     valid = valid;
@@ -53,20 +53,20 @@ module _ {S O : Type 0} (name script : List ℕ) (window : ℕ) (clean : Bool)
   }
   of_script plan (Err fault) valid schedule deliveries (is, still) = absurd (no_fault clean (fault_of_script fault) is)
 
-  of_schedule : (came : Result Plan ScheduleFault) → ReadBy (schedule_named name) came (known shelf) (known between)
-      → BySchedule script window came (Ok clean) known between shelf' out_known out out' → Feeds
-  of_schedule (Ok plan) schedule over = of_script plan over.came over.valid schedule over.loads over.writes
+  of_schedule : (outcome : Result Plan ScheduleFault) → ReadBy (schedule_named name) outcome (known shelf) (known between)
+      → BySchedule script window outcome (Ok clean) known between shelf' out_known out out' → Feeds
+  of_schedule (Ok plan) schedule over = of_script plan over.outcome over.valid schedule over.loads over.writes
   of_schedule (Err fault) schedule (is, unread, still) = absurd (no_fault clean (fault_of_schedule fault) is)
 
 -- the reports of links
 of_links : {D O : Type 0} (rules : ReceiveOptions) (addresses : List Address) (clean : Bool)
     (dock_known : D → Known DockContents) (dock dock' : D) (out_known : O → Known Output) (out out' : O)
     → ReceiveRun rules addresses (Ok clean) dock_known dock dock' out_known out out'
-    → Docked (dock_known dock) (dock_known dock') (λ told. WritesReports (AreReports rules told addresses) (Ok clean) out_known out out')
+    → DockKnownThrough (dock_known dock) (dock_known dock') (λ contents. WritesReports (AreReports rules contents addresses) (Ok clean) out_known out out')
 of_links rules addresses clean dock_known dock dock' out_known out out' run =
-    docked_weaker (λ told. WritesAll rules told addresses (Ok clean) out_known out out')
-    (λ told. WritesReports (AreReports rules told addresses) (Ok clean) out_known out out')
-    (dock_known dock) (dock_known dock') run.writes (λ told writes. all_reports rules told addresses clean out_known out out' writes)
+    docked_weaker (λ contents. WritesAll rules contents addresses (Ok clean) out_known out out')
+    (λ contents. WritesReports (AreReports rules contents addresses) (Ok clean) out_known out out')
+    (dock_known dock) (dock_known dock') run.writes (λ contents writes. all_reports rules contents addresses clean out_known out out' writes)
 
 -- ---- all commands
 
@@ -76,21 +76,21 @@ one_status true false same = cc
 one_status false true same = cc
 one_status false false same = refl
 
-module _ {S I O E D : Type 0} (clean told : Bool) (o : Outside S I O E D) where
-  of_command : (request : Request) → CommandRun request (Ok clean) told o → HeadlineOfRun request clean o
+module _ {S I O E D : Type 0} (clean err_ok : Bool) (o : Outside S I O E D) where
+  of_command : (request : Request) → CommandRun request (Ok clean) err_ok o → HeadlineOfRun request clean o
   of_command (Receive (Some addresses) window reach first frames idle limit) run =
       of_links (options_of window reach first frames idle limit) addresses clean o.dock.known o.dock.before o.dock.after o.out.known o.out.before o.out.after run.0
   of_command (Receive None window reach first frames idle limit) run = run.0.writes clean refl
   of_command (Air name script window) run =
-      of_schedule name script window clean o.shelf.known o.shelf.before run.0.between o.shelf.after o.out.known o.out.before o.out.after run.0.came run.0.loads run.0.runs
+      of_schedule name script window clean o.shelf.known o.shelf.before run.0.between o.shelf.after o.out.known o.out.before o.out.after run.0.outcome run.0.loads run.0.runs
   of_command _ run = tt
 
-  of_runs : (request : Request) → RunsCommand request (Ok clean) told o → HeadlineOfRun request clean o
+  of_runs : (request : Request) → RunsCommand request (Ok clean) err_ok o → HeadlineOfRun request clean o
   of_runs request (inl run) = of_command request run
   of_runs request (inr (memory, untouched, quiet)) = absurd (no_fault clean faults.NoMemory memory)
 
   -- whatever Bool has this status is the one with which the run ended
-  pub headline_of : (request : Request) (other : Bool) → clean_status clean ≡ clean_status other → RunsCommand request (Ok clean) told o → HeadlineOfRun request other o
+  pub headline_of : (request : Request) (other : Bool) → clean_status clean ≡ clean_status other → RunsCommand request (Ok clean) err_ok o → HeadlineOfRun request other o
   headline_of request other same runs = rw (← one_status clean other same) (of_runs request runs)
 
 -- the statuses 0 and 7 are those of no fault

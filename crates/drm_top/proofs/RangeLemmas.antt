@@ -3,7 +3,7 @@ use Rattle.std.proofs.Common.{◌≡◌, ◌≤◌, ℕ, List, [], ◌∷◌, Op
 use Rattle.drm_links.specs.declared.dock.Address.{Address}
 use Rattle.drm_words.specs.declared.request.Request.{Request}
 use Rattle.drm_words.specs.declared.request.Request.TheVariants.{Check, Serve, Receive, Count, Air, Exercise, Convert, Gate, Pack, Unpack, Texts}
-use Rattle.drm_words.specs.Table.{Options, IsNumberOr, IsNumberOrNone, IsStretch, IsReading, AreAddressesOrNone, AreAddressesIfTold, HasTextNames}
+use Rattle.drm_words.specs.Table.{CommandOptions, IsNumberOr, IsNumberOrNone, IsStretch, IsReading, AreAddressesOrNone, AreAddressesOrEmpty, HasTextNames}
 use Rattle.drm_words.specs.Line.{IsLine}
 use Rattle.recv_reading.specs.declared.options.ReceiveOptions.{ReceiveOptions}
 use Rattle.dcp_pft.specs.declared.carry.Carry.{Carry}
@@ -13,7 +13,7 @@ use Rattle.cli_syntax.specs.Carries.{IsCarry}
 use Rattle.drm_links.specs.Dock.{AreDifferent}
 use Rattle.link_group.specs.Listed.{AreListed}
 use Rattle.recv_reading.specs.Options.{AreInRange}
-use Rattle.drm_top.specs.Words.{options_of, IsInRange, IsInStretch}
+use Rattle.drm_top.specs.Words.{options_of, IsRequestInRange, IsInStretch}
 
 within : (default least greatest n : ℕ) (value : Option (List ℕ)) → least ≤ default → default ≤ greatest → IsNumberOr default least greatest value n → (least ≤ n) × (n ≤ greatest)
 within default least greatest n None low high is = (omega (arith, is, low), omega (arith, is, high))
@@ -31,7 +31,7 @@ listed (text ∷ []) addresses (list, is, are) =
     subst AreListed (sym same) (record { some = are.some; few = are.few; different = are.different })
 listed (text ∷ other ∷ texts) addresses is = absurd is
 
-in_reading : (options : Options) (rules : ReceiveOptions) → IsReading options rules.window rules.reach rules.first rules.frames rules.idle rules.limit → AreInRange rules
+in_reading : (options : CommandOptions) (rules : ReceiveOptions) → IsReading options rules.window rules.reach rules.first rules.frames rules.idle rules.limit → AreInRange rules
 in_reading options rules reading =
     let window = within 8 1 64 rules.window _ (omega arith) (omega arith) reading.stretch.has_window in
     let reach = within 32767 1 32767 rules.reach _ (omega arith) (omega arith) reading.stretch.has_reach in
@@ -56,7 +56,7 @@ reads : (words : List (List ℕ)) (addresses : Option (List Address)) (window re
     → AreInRange (options_of window reach first frames idle limit)
 reads words addresses window reach first frames idle limit line = let asks = line.asks in in_reading _ (options_of window reach first frames idle limit) asks.3
 
-different : (value : Option (List ℕ)) (to : List Address) → AreAddressesIfTold value to → AreDifferent to
+different : (value : Option (List ℕ)) (to : List Address) → AreAddressesOrEmpty value to → AreDifferent to
 different None to none = subst AreDifferent (sym none) tt
 different (Some text) to are = are.different
 
@@ -68,13 +68,13 @@ both : (frames : Option ℕ) → IfSome frames (λ n. 1 ≤ n) → IfSome frames
 both None some few = tt
 both (Some n) some few = (some, few)
 
-in_stretch : (options : Options) (window reach : ℕ) (first frames : Option ℕ) → IsStretch options window reach first frames → IsInStretch window frames
+in_stretch : (options : CommandOptions) (window reach : ℕ) (first frames : Option ℕ) → IsStretch options window reach first frames → IsInStretch window frames
 in_stretch options window reach first frames stretch =
     let size = within 8 1 64 window _ (omega arith) (omega arith) stretch.has_window in
     let some = within_or_none 1 3000000 _ frames stretch.has_frames in
     (size.0, size.1, both frames some.0 some.1)
 
-pub in_range : (request : Request) (words : List (List ℕ)) → IsLine words request → HasTextNames request → IsInRange request
+pub in_range : (request : Request) (words : List (List ℕ)) → IsLine words request → HasTextNames request → IsRequestInRange request
 in_range (Check name) words line text = text
 in_range (Serve name to pace from live) words line text =
     (text, (within 0 0 1000000 from _ (omega arith) (omega arith) line.asks.5).1, different _ to line.asks.3)

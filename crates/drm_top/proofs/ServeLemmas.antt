@@ -9,12 +9,12 @@ use Rattle.drm_top.specs.Outside.{Outside, IsStill}
 use Rattle.drm_top.specs.Command.{CommandRun, ServesOver, IsQuiet, OpensALink}
 
 -- a run that sends to some addresses is one of the command
-pub sends : {S I O E D : Type 0} → (name : List ℕ) (to : List Address) (pace from : ℕ) (live : Live) (ending : Result Bool Fault) (told : Bool)
+pub sends : {S I O E D : Type 0} → (name : List ℕ) (to : List Address) (pace from : ℕ) (live : Live) (ending : Result Bool Fault) (err_ok : Bool)
     (o : Outside S I O E D) → (to ≡ [] → ⊥)
-    → ServesOver (is_any live) name to pace from live ending o × IsStill o.out × IsQuiet told o.err.before o.err.after
-    → CommandRun (Serve name to pace from live) ending told o
-sends name [] pace from live ending told o some run = absurd (some refl)
-sends name (at ∷ others) pace from live ending told o some run = run
+    → ServesOver (is_any live) name to pace from live ending o × IsStill o.out × IsQuiet err_ok o.err.before o.err.after
+    → CommandRun (Serve name to pace from live) ending err_ok o
+sends name [] pace from live ending err_ok o some run = absurd (some refl)
+sends name (at ∷ others) pace from live ending err_ok o some run = run
 
 -- it opens a link
 pub opens_some : (name : List ℕ) (to : List Address) (pace from : ℕ) (live : Live) → (to ≡ [] → ⊥) → OpensALink (Serve name to pace from live)

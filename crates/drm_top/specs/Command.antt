@@ -1,6 +1,6 @@
 -- The runs of the commands.
 use Rattle.std.specs.Prelude.{ℕ, ◌≡◌, ◌⊎◌, Bool, true, false, IsTrue, List, [], ◌∷◌, None, Some, Result, Err}
-use Rattle.drm_links.specs.Told.{Known}
+use Rattle.drm_links.specs.Known.{Known}
 use Rattle.drm_links.specs.Sink.{Output}
 use Rattle.drm_links.specs.declared.dock.Address.{Address}
 use Rattle.cmd_show.specs.Fac.{FacRun}
@@ -31,77 +31,77 @@ use Rattle.drm_words.specs.declared.request.Request.{Request}
 use Rattle.drm_words.specs.declared.request.Request.TheVariants.{Fac, Check, Serve, Receive, Count, Air, Show, Exercise, Convert, Gate, Pack, Unpack, Texts}
 
 -- a run that tells of no frames
-abbrev pub Whole : Result Bool Fault → (Result (Unit {0}) Fault → Type 0) → Type 0
-Whole ending P = (done : Result (Unit {0}) Fault) × (ending ≡ whole_of done) × P done
+abbrev pub EndsWhole : Result Bool Fault → (Result (Unit {0}) Fault → Type 0) → Type 0
+EndsWhole ending P = (done : Result (Unit {0}) Fault) × (ending ≡ whole_of done) × P done
 
 -- nothing was written to err, which can still be told
 abbrev pub IsQuiet : {E : Type 0} → Bool → E → E → Type 0
-IsQuiet told err err' = (told ≡ true) × (err' ≡ err)
+IsQuiet err_ok err err' = (err_ok ≡ true) × (err' ≡ err)
 
 -- A run of `serve` to out: where no stream is live input is left alone, and else the live ones take their bytes from it.
 abbrev pub ServesOut : {S I O E D : Type 0} → Bool → List ℕ → ℕ → Live → Result Bool Fault → Outside S I O E D → Type 0
 ServesOut false name from live ending o =
-    Whole ending (λ done. ServeRun name from done o.shelf.known o.shelf.before o.shelf.after o.out.known o.out.before o.out.after) × IsStill o.input
+    EndsWhole ending (λ done. ServeRun name from done o.shelf.known o.shelf.before o.shelf.after o.out.known o.out.before o.out.after) × IsStill o.input
 ServesOut true name from live ending o =
     LiveServeRun name from live ending o.shelf.known o.shelf.before o.shelf.after o.input.known o.input.before o.input.after o.out.known o.out.before o.out.after
 
 -- and over links
 abbrev pub ServesOver : {S I O E D : Type 0} → Bool → List ℕ → List Address → ℕ → ℕ → Live → Result Bool Fault → Outside S I O E D → Type 0
 ServesOver false name addresses pace from live ending o =
-    Whole ending (λ done. SendRun (schedule_named name) addresses pace from done o.shelf.known o.shelf.before o.shelf.after o.dock.known o.dock.before o.dock.after) × IsStill o.input
+    EndsWhole ending (λ done. SendRun (schedule_named name) addresses pace from done o.shelf.known o.shelf.before o.shelf.after o.dock.known o.dock.before o.dock.after) × IsStill o.input
 ServesOver true name addresses pace from live ending o =
     LiveSendRun name addresses pace from live ending o.shelf.known o.shelf.before o.shelf.after o.input.known o.input.before o.input.after o.dock.known o.dock.before o.dock.after
 
--- A run of the command that this asks for, with this ending: what it doesn't use stays as it is. Where `told` doesn't hold, err failed.
+-- A run of the command that this asks for, with this ending: what it doesn't use stays as it is. Where `err_ok` doesn't hold, err failed.
 abbrev pub CommandRun : {S I O E D : Type 0} → Request → Result Bool Fault → Bool → Outside S I O E D → Type 0
-CommandRun Fac ending told o =
-    Whole ending (λ done. FacRun done o.input.known o.input.before o.input.after o.out.known o.out.before o.out.after) × IsStill o.shelf × IsStill o.dock × IsQuiet told o.err.before o.err.after
-CommandRun (Check name) ending told o =
-    Whole ending (λ done. CheckRun name done o.shelf.known o.shelf.before o.shelf.after o.out.known o.out.before o.out.after) × IsStill o.input × IsStill o.dock × IsQuiet told o.err.before o.err.after
-CommandRun (Serve name [] pace from live) ending told o =
-    ServesOut (is_any live) name from live ending o × IsStill o.dock × IsQuiet told o.err.before o.err.after
-CommandRun (Serve name (at ∷ others) pace from live) ending told o =
-    ServesOver (is_any live) name (at ∷ others) pace from live ending o × IsStill o.out × IsQuiet told o.err.before o.err.after
-CommandRun (Receive (Some addresses) window reach first frames idle limit) ending told o =
-    ReceiveRun (options_of window reach first frames idle limit) addresses ending o.dock.known o.dock.before o.dock.after o.out.known o.out.before o.out.after × IsStill o.shelf × IsStill o.input × IsQuiet told o.err.before o.err.after
-CommandRun (Receive None window reach first frames idle limit) ending told o =
-    CaptureRun (options_of window reach first frames idle limit) ending o.input.known o.input.before o.input.after o.out.known o.out.before o.out.after × IsStill o.shelf × IsStill o.dock × IsQuiet told o.err.before o.err.after
-CommandRun (Count (Some at) window reach first frames idle limit) ending told o =
-    CountRun (options_of window reach first frames idle limit) at ending o.dock.known o.dock.before o.dock.after o.out.known o.out.before o.out.after × IsStill o.shelf × IsStill o.input × IsQuiet told o.err.before o.err.after
-CommandRun (Count None window reach first frames idle limit) ending told o =
-    CountCaptureRun (options_of window reach first frames idle limit) ending o.input.known o.input.before o.input.after o.out.known o.out.before o.out.after × IsStill o.shelf × IsStill o.dock × IsQuiet told o.err.before o.err.after
-CommandRun (Air name script window) ending told o =
-    AirRun name script window ending o.shelf.known o.shelf.before o.shelf.after o.out.known o.out.before o.out.after × IsStill o.input × IsStill o.dock × IsQuiet told o.err.before o.err.after
-CommandRun Show ending told o =
-    ShowRun ending o.input.known o.input.before o.input.after o.out.known o.out.before o.out.after × IsStill o.shelf × IsStill o.dock × IsQuiet told o.err.before o.err.after
-CommandRun (Exercise n) ending told o =
-    ExerciseRun n ending o.out.known o.out.before o.out.after × IsStill o.shelf × IsStill o.input × IsStill o.dock × IsQuiet told o.err.before o.err.after
-CommandRun (Convert carry window reach first frames) ending told o =
-    ConvertRun (record { window = window; reach = reach; first = first; told = frames }) carry ending told o.input.known o.input.before o.input.after o.out.known o.out.before o.out.after o.err.known o.err.before o.err.after × IsStill o.shelf × IsStill o.dock
-CommandRun (Gate from to carry window reach first frames idle limit) ending told o =
-    GateCommandRun (options_of window reach first frames idle limit) carry from to ending o.dock.known o.dock.before o.dock.after o.out.known o.out.before o.out.after × IsStill o.shelf × IsStill o.input × IsQuiet told o.err.before o.err.after
-CommandRun (Pack pid length) ending told o =
-    Whole ending (λ done. PackRun pid length done o.input.known o.input.before o.input.after o.out.known o.out.before o.out.after) × IsStill o.shelf × IsStill o.dock × IsQuiet told o.err.before o.err.after
-CommandRun (Unpack stream pid length window reach first frames) ending told o =
-    DataRun (record { window = window; reach = reach; first = first; told = frames }) (UnitsOf stream pid length) ending o.input.known o.input.before o.input.after o.out.known o.out.before o.out.after
-    × IsStill o.shelf × IsStill o.dock × IsQuiet told o.err.before o.err.after
-CommandRun (Texts stream window reach first frames) ending told o =
-    DataRun (record { window = window; reach = reach; first = first; told = frames }) (TextsOf stream) ending o.input.known o.input.before o.input.after o.out.known o.out.before o.out.after
-    × IsStill o.shelf × IsStill o.dock × IsQuiet told o.err.before o.err.after
+CommandRun Fac ending err_ok o =
+    EndsWhole ending (λ done. FacRun done o.input.known o.input.before o.input.after o.out.known o.out.before o.out.after) × IsStill o.shelf × IsStill o.dock × IsQuiet err_ok o.err.before o.err.after
+CommandRun (Check name) ending err_ok o =
+    EndsWhole ending (λ done. CheckRun name done o.shelf.known o.shelf.before o.shelf.after o.out.known o.out.before o.out.after) × IsStill o.input × IsStill o.dock × IsQuiet err_ok o.err.before o.err.after
+CommandRun (Serve name [] pace from live) ending err_ok o =
+    ServesOut (is_any live) name from live ending o × IsStill o.dock × IsQuiet err_ok o.err.before o.err.after
+CommandRun (Serve name (at ∷ others) pace from live) ending err_ok o =
+    ServesOver (is_any live) name (at ∷ others) pace from live ending o × IsStill o.out × IsQuiet err_ok o.err.before o.err.after
+CommandRun (Receive (Some addresses) window reach first frames idle limit) ending err_ok o =
+    ReceiveRun (options_of window reach first frames idle limit) addresses ending o.dock.known o.dock.before o.dock.after o.out.known o.out.before o.out.after × IsStill o.shelf × IsStill o.input × IsQuiet err_ok o.err.before o.err.after
+CommandRun (Receive None window reach first frames idle limit) ending err_ok o =
+    CaptureRun (options_of window reach first frames idle limit) ending o.input.known o.input.before o.input.after o.out.known o.out.before o.out.after × IsStill o.shelf × IsStill o.dock × IsQuiet err_ok o.err.before o.err.after
+CommandRun (Count (Some at) window reach first frames idle limit) ending err_ok o =
+    CountRun (options_of window reach first frames idle limit) at ending o.dock.known o.dock.before o.dock.after o.out.known o.out.before o.out.after × IsStill o.shelf × IsStill o.input × IsQuiet err_ok o.err.before o.err.after
+CommandRun (Count None window reach first frames idle limit) ending err_ok o =
+    CountCaptureRun (options_of window reach first frames idle limit) ending o.input.known o.input.before o.input.after o.out.known o.out.before o.out.after × IsStill o.shelf × IsStill o.dock × IsQuiet err_ok o.err.before o.err.after
+CommandRun (Air name script window) ending err_ok o =
+    AirRun name script window ending o.shelf.known o.shelf.before o.shelf.after o.out.known o.out.before o.out.after × IsStill o.input × IsStill o.dock × IsQuiet err_ok o.err.before o.err.after
+CommandRun Show ending err_ok o =
+    ShowRun ending o.input.known o.input.before o.input.after o.out.known o.out.before o.out.after × IsStill o.shelf × IsStill o.dock × IsQuiet err_ok o.err.before o.err.after
+CommandRun (Exercise n) ending err_ok o =
+    ExerciseRun n ending o.out.known o.out.before o.out.after × IsStill o.shelf × IsStill o.input × IsStill o.dock × IsQuiet err_ok o.err.before o.err.after
+CommandRun (Convert carry window reach first frames) ending err_ok o =
+    ConvertRun (record { window = window; reach = reach; first = first; frame_limit = frames }) carry ending err_ok o.input.known o.input.before o.input.after o.out.known o.out.before o.out.after o.err.known o.err.before o.err.after × IsStill o.shelf × IsStill o.dock
+CommandRun (Gate from to carry window reach first frames idle limit) ending err_ok o =
+    GateCommandRun (options_of window reach first frames idle limit) carry from to ending o.dock.known o.dock.before o.dock.after o.out.known o.out.before o.out.after × IsStill o.shelf × IsStill o.input × IsQuiet err_ok o.err.before o.err.after
+CommandRun (Pack pid length) ending err_ok o =
+    EndsWhole ending (λ done. PackRun pid length done o.input.known o.input.before o.input.after o.out.known o.out.before o.out.after) × IsStill o.shelf × IsStill o.dock × IsQuiet err_ok o.err.before o.err.after
+CommandRun (Unpack stream pid length window reach first frames) ending err_ok o =
+    DataRun (record { window = window; reach = reach; first = first; frame_limit = frames }) (UnitsOf stream pid length) ending o.input.known o.input.before o.input.after o.out.known o.out.before o.out.after
+    × IsStill o.shelf × IsStill o.dock × IsQuiet err_ok o.err.before o.err.after
+CommandRun (Texts stream window reach first frames) ending err_ok o =
+    DataRun (record { window = window; reach = reach; first = first; frame_limit = frames }) (TextsOf stream) ending o.input.known o.input.before o.input.after o.out.known o.out.before o.out.after
+    × IsStill o.shelf × IsStill o.dock × IsQuiet err_ok o.err.before o.err.after
 
 -- nothing of the outside was touched
-abbrev pub IsUntouched : {S I O D : Type 0} → S → S → I → I → O → O → D → D → Type 0
-IsUntouched shelf shelf' input input' out out' dock dock' = (shelf' ≡ shelf) × (input' ≡ input) × (out' ≡ out) × (dock' ≡ dock)
+abbrev pub IsOutsideUntouched : {S I O D : Type 0} → S → S → I → I → O → O → D → D → Type 0
+IsOutsideUntouched shelf shelf' input input' out out' dock dock' = (shelf' ≡ shelf) × (input' ≡ input) × (out' ≡ out) × (dock' ≡ dock)
 
 -- What comes of words that ask for this: a run of the command; or memory ran out while they were read, and nothing was touched.
 abbrev pub RunsCommand : {S I O E D : Type 0} → Request → Result Bool Fault → Bool → Outside S I O E D → Type 0
-RunsCommand request ending told o =
-    CommandRun request ending told o
-    ⊎ ((ending ≡ Err NoMemory) × IsUntouched o.shelf.before o.shelf.after o.input.before o.input.after o.out.before o.out.after o.dock.before o.dock.after × IsQuiet told o.err.before o.err.after)
+RunsCommand request ending err_ok o =
+    CommandRun request ending err_ok o
+    ⊎ ((ending ≡ Err NoMemory) × IsOutsideUntouched o.shelf.before o.shelf.after o.input.before o.input.after o.out.before o.out.after o.dock.before o.dock.after × IsQuiet err_ok o.err.before o.err.after)
 
 -- How a run ends: its status, and the line of its fault on err, behind what the command has written there, unless err failed.
 abbrev pub RunEnds : {E : Type 0} → Result Bool Fault → Bool → ℕ → (E → Known Output) → E → E → Type 0
-RunEnds ending told code known err err' = (code ≡ report_status ending) × ReportsIf told (done_of ending) known err err'
+RunEnds ending err_ok code known err err' = (code ≡ report_status ending) × ReportsIf err_ok (done_of ending) known err err'
 
 -- a command that opens a link
 abbrev pub OpensALink : Request → Type 0

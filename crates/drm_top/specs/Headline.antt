@@ -1,10 +1,10 @@
 -- The headline over a run of the program that ended with a report.
 use Rattle.std.specs.Prelude.{ℕ, Bool, List, None, Some, Ok}
-use Rattle.drm_links.specs.Told.{Known}
+use Rattle.drm_links.specs.Known.{Known}
 use Rattle.drm_links.specs.Shelf.{Files}
-use Rattle.drm_links.specs.Source.{Inputs}
+use Rattle.drm_links.specs.Source.{InputsBytes}
 use Rattle.drm_links.specs.Sink.{Output}
-use Rattle.drm_links.specs.Dock.{Docked}
+use Rattle.drm_links.specs.Dock.{DockKnownThrough}
 use Rattle.drm_schedule.specs.declared.plan.Plan.{Plan}
 use Rattle.drm_schedule.specs.Valid.{IsSchedule}
 use Rattle.plan_script.specs.declared.delivery.Delivery.{Delivery}
@@ -34,10 +34,10 @@ pub record WroteFeeds {S O : Type 0} (name script : List ℕ) (window : ℕ) (cl
 -- feed delivers. Of each report `HeadlineOf` holds: whatever delivery of whatever valid schedule came, it says what that calls for.
 abbrev pub HeadlineOfRun : {S I O E D : Type 0} → Request → Bool → Outside S I O E D → Type 0
 HeadlineOfRun (Receive (Some addresses) window reach first frames idle limit) clean o =
-    Docked (o.dock.known o.dock.before) (o.dock.known o.dock.after) (λ told.
-    WritesReports (AreReports (options_of window reach first frames idle limit) told addresses) (Ok clean) o.out.known o.out.before o.out.after)
+    DockKnownThrough (o.dock.known o.dock.before) (o.dock.known o.dock.after) (λ contents.
+    WritesReports (AreReports (options_of window reach first frames idle limit) contents addresses) (Ok clean) o.out.known o.out.before o.out.after)
 HeadlineOfRun (Receive None window reach first frames idle limit) clean o =
-    Inputs (o.input.known o.input.before) (o.input.known o.input.after) (λ left _.
+    InputsBytes (o.input.known o.input.before) (o.input.known o.input.after) (λ left _.
     WritesReport (options_of window reach first frames idle limit) left clean o.out.known o.out.before o.out.after)
 HeadlineOfRun (Air name script window) clean o =
     WroteFeeds name script window clean o.shelf.known o.shelf.before o.shelf.after o.out.known o.out.before o.out.after

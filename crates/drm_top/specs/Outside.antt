@@ -1,6 +1,6 @@
 -- What a run uses of the outside.
 use Rattle.std.specs.Prelude.{◌≡◌}
-use Rattle.drm_links.specs.Told.{Known}
+use Rattle.drm_links.specs.Known.{Known}
 use Rattle.drm_links.specs.Shelf.{Files}
 use Rattle.drm_links.specs.Source.{Input}
 use Rattle.drm_links.specs.Sink.{Output}

@@ -26,17 +26,17 @@ abbrev pub IsInStretch : ℕ → Option ℕ → Type 0
 IsInStretch window frames = (1 ≤ window) × (window ≤ 64) × IfSome frames (λ n. (1 ≤ n) × (n ≤ 3000000))
 
 -- its names are text, and its numbers are in their ranges
-abbrev pub IsInRange : Request → Type 0
-IsInRange (Check name) = IsUtf8 name
-IsInRange (Serve name to pace from live) = IsUtf8 name × (from ≤ 1000000) × AreDifferent to
-IsInRange (Receive (Some addresses) window reach first frames idle limit) = AreInRange (options_of window reach first frames idle limit) × AreListed addresses
-IsInRange (Receive None window reach first frames idle limit) = AreInRange (options_of window reach first frames idle limit)
-IsInRange (Count address window reach first frames idle limit) = AreInRange (options_of window reach first frames idle limit)
-IsInRange (Air name script window) = IsUtf8 name × IsUtf8 script × (1 ≤ window) × (window ≤ 64)
-IsInRange (Exercise n) = (1 ≤ n) × (n ≤ 1000)
-IsInRange (Convert carry window reach first frames) = CarryFits carry × IsInStretch window frames
-IsInRange (Gate from to carry window reach first frames idle limit) = CarryFits carry × AreInRange (options_of window reach first frames idle limit) × AreListed to
-IsInRange (Pack pid length) = (pid < 4) × (1 ≤ length)
-IsInRange (Unpack stream pid length window reach first frames) = (stream < 4) × (pid < 4) × (1 ≤ length) × IsInStretch window frames
-IsInRange (Texts stream window reach first frames) = (stream < 4) × IsInStretch window frames
-IsInRange _ = Unit {0}
+abbrev pub IsRequestInRange : Request → Type 0
+IsRequestInRange (Check name) = IsUtf8 name
+IsRequestInRange (Serve name to pace from live) = IsUtf8 name × (from ≤ 1000000) × AreDifferent to
+IsRequestInRange (Receive (Some addresses) window reach first frames idle limit) = AreInRange (options_of window reach first frames idle limit) × AreListed addresses
+IsRequestInRange (Receive None window reach first frames idle limit) = AreInRange (options_of window reach first frames idle limit)
+IsRequestInRange (Count address window reach first frames idle limit) = AreInRange (options_of window reach first frames idle limit)
+IsRequestInRange (Air name script window) = IsUtf8 name × IsUtf8 script × (1 ≤ window) × (window ≤ 64)
+IsRequestInRange (Exercise n) = (1 ≤ n) × (n ≤ 1000)
+IsRequestInRange (Convert carry window reach first frames) = CarryFits carry × IsInStretch window frames
+IsRequestInRange (Gate from to carry window reach first frames idle limit) = CarryFits carry × AreInRange (options_of window reach first frames idle limit) × AreListed to
+IsRequestInRange (Pack pid length) = (pid < 4) × (1 ≤ length)
+IsRequestInRange (Unpack stream pid length window reach first frames) = (stream < 4) × (pid < 4) × (1 ≤ length) × IsInStretch window frames
+IsRequestInRange (Texts stream window reach first frames) = (stream < 4) × IsInStretch window frames
+IsRequestInRange _ = Unit {0}

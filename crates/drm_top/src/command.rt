@@ -1,15 +1,15 @@
 //! The top call.
 
 ghost use Rattle.std.specs.Prelude.{◌≡◌, ◌≤◌, ◌⊎◌, map, string_bytes, Result, Ok, IsErrOf, Bool, true, false};
-ghost use Rattle.drm_links.specs.Told.{HasCause, IfBothKnown};
+ghost use Rattle.drm_links.specs.Known.{HasCause, IfBothKnown};
 ghost use Rattle.cmd_faults.specs.Causes.{OneFailed, OpeningFailed};
 ghost use Rattle.cmd_faults.specs.Lines.{fault_line};
 ghost use Rattle.cmd_faults.specs.Fault.{WritesLine, whole_of, clean_status};
 ghost use Rattle.link_group.specs.Reaching.{NothingSent};
-ghost use Rattle.drm_top.specs.Command.{CommandRun, RunsCommand, RunEnds, IsQuiet, IsUntouched, OpensALink, WritesReport};
+ghost use Rattle.drm_top.specs.Command.{CommandRun, RunsCommand, RunEnds, IsQuiet, IsOutsideUntouched, OpensALink, WritesReport};
 ghost use Rattle.drm_top.specs.Headline.{HeadlineOfRun};
 ghost use Rattle.drm_top.specs.Outside.{outside};
-ghost use Rattle.drm_top.specs.Words.{AsksFor, AsksForNothing, IsInRange};
+ghost use Rattle.drm_top.specs.Words.{AsksFor, AsksForNothing, IsRequestInRange};
 ghost use Rattle.drm_words.specs.declared.request.Request.{Request};
 
 use crate::words::{options_of, text};
@@ -59,14 +59,14 @@ where
     // Words that ask for a command are a run of it, or memory ran out while they were read. Each command has a record: what is
     // loaded, read, opened, written and sent, when each refusal comes, and that nothing is lost where nothing fails.
     ensures runs { (request : Request) → AsksFor request (map string_bytes words.now)
-        → (ending : Result Bool Fault) × (told : Bool) × (mid : E) × RunEnds ending told result.code E.known mid err.new
-        × RunsCommand request ending told (outside S.known shelf.old shelf.new I.known input.old input.new
+        → (ending : Result Bool Fault) × (err_ok : Bool) × (mid : E) × RunEnds ending err_ok result.code E.known mid err.new
+        × RunsCommand request ending err_ok (outside S.known shelf.old shelf.new I.known input.old input.new
         O.known out.old out.new E.known err.old mid D.known dock.old dock.new) }
     // Words that ask for none are refused, and nothing is touched.
     ensures nothing { AsksForNothing (map string_bytes words.now)
         → (ending : Result Bool Fault) × RunEnds ending true result.code E.known err.old err.new
         × (IsErrOf ending Fault.Words ⊎ IsErrOf ending Fault.NoMemory)
-        × IsUntouched shelf.old shelf.new input.old input.new out.old out.new dock.old dock.new }
+        × IsOutsideUntouched shelf.old shelf.new input.old input.new out.old out.new dock.old dock.new }
     // The headline. Where `receive` or `air` ends with 0 or 7, each report says of whatever delivery of whatever valid schedule
     // came what that calls for.
     ensures headline { (request : Request) → AsksFor request (map string_bytes words.now)
@@ -96,11 +96,11 @@ where
         × AsksFor request (map string_bytes words.now) }
 {
     // Whether `err` took all lines that it was given.
-    let mut told = true;
-    match execute(rt, alloc, words, shelf, input, out, err, &mut told, dock) {
+    let mut err_ok = true;
+    match execute(rt, alloc, words, shelf, input, out, err, &mut err_ok, dock) {
         Ok(true) => Status { code: 0 },
         Ok(false) => Status { code: 7 },
-        Err(fault) => fault.report_if(told, err),
+        Err(fault) => fault.report_if(err_ok, err),
     }
 }
 
@@ -121,19 +121,19 @@ fn execute<R: Threads + Sync, S: Shelf, I: Source, O: Sink, E: Sink, D: Dock>(
     input: &mut I,
     out: &mut O,
     err: &mut E,
-    told: &mut bool,
+    err_ok: &mut bool,
     dock: &mut D,
 ) -> Result<bool, Fault>
 where
     D::L: Link + Send,
-    requires { told.old ≡ true }
+    requires { err_ok.old ≡ true }
     ensures runs { (request : Request) → AsksFor request (map string_bytes words.now)
-        → RunsCommand request result told.new (outside S.known shelf.old shelf.new I.known input.old input.new
+        → RunsCommand request result err_ok.new (outside S.known shelf.old shelf.new I.known input.old input.new
         O.known out.old out.new E.known err.old err.new D.known dock.old dock.new) }
     ensures nothing { AsksForNothing (map string_bytes words.now)
         → (IsErrOf result Fault.Words ⊎ IsErrOf result Fault.NoMemory)
-        × IsQuiet told.new err.old err.new
-        × IsUntouched shelf.old shelf.new input.old input.new out.old out.new dock.old dock.new }
+        × IsQuiet err_ok.new err.old err.new
+        × IsOutsideUntouched shelf.old shelf.new input.old input.new out.old out.new dock.old dock.new }
     ensures words { IsErrOf result Fault.Words → AsksForNothing (map string_bytes words.now) }
     ensures memory { IsErrOf result Fault.NoMemory → (input.new ≡ input.old) × (out.new ≡ out.old) }
     ensures unsent { IsErrOf result Fault.NoMemory
@@ -150,7 +150,7 @@ where
         × AsksFor request (map string_bytes words.now) }
 {
     match read_words(alloc, words) {
-        Ok(request) => run_command(rt, alloc, &request, shelf, input, out, err, told, dock),
+        Ok(request) => run_command(rt, alloc, &request, shelf, input, out, err, err_ok, dock),
         Err(WordsFault::Words) => Err(Fault::Words),
         Err(WordsFault::NoMemory) => Err(Fault::NoMemory),
     }
@@ -164,16 +164,16 @@ fn run_command<R: Threads + Sync, S: Shelf, I: Source, O: Sink, E: Sink, D: Dock
     input: &mut I,
     out: &mut O,
     err: &mut E,
-    told: &mut bool,
+    err_ok: &mut bool,
     dock: &mut D,
 ) -> Result<bool, Fault>
 where
     D::L: Link + Send,
-    requires range { IsInRange request.now }
-    requires told { told.old ≡ true }
+    requires range { IsRequestInRange request.now }
+    requires err_ok { err_ok.old ≡ true }
     ensures words { IsErrOf result Fault.Words → ⊥ }
     ensures memory { IsErrOf result Fault.NoMemory → (input.new ≡ input.old) × (out.new ≡ out.old) }
-    ensures run { CommandRun request.now result told.new (outside S.known shelf.old shelf.new
+    ensures run { CommandRun request.now result err_ok.new (outside S.known shelf.old shelf.new
         I.known input.old input.new O.known out.old out.new
         E.known err.old err.new D.known dock.old dock.new) }
     ensures read { (IsErrOf result Fault.Link → ⊥) → OneFailed (I.known input.old) (I.known input.new)
@@ -253,7 +253,7 @@ where
             first,
             frames,
         } => convert(
-            alloc, *carry, *window, *reach, *first, *frames, input, out, err, told,
+            alloc, *carry, *window, *reach, *first, *frames, input, out, err, err_ok,
         ),
         Request::Gate {
             from,

@@ -6,7 +6,7 @@ use Rattle.drm_words.specs.declared.request.Request.{Request}
 use Rattle.cli_syntax.specs.declared.fault.WordsFault.{WordsFault}
 use Rattle.cli_syntax.specs.declared.fault.WordsFault.TheVariants.{Words, NoMemory}
 use Rattle.drm_words.specs.Table.{IsRequest}
-use Rattle.cli_syntax.specs.Arguing.{Sorted, read}
+use Rattle.cli_syntax.specs.Arguing.{SortedWords, read}
 use Rattle.drm_words.specs.Asking.{request_of}
 use Rattle.drm_words.specs.Line.{IsLine}
 use Rattle.drm_words.specs.Whole.{line_of}
@@ -27,7 +27,7 @@ line_fits (command ∷ behind) r e =
       arguments = q.arguments;
       stands = refl;
       spelled = q.spells;
-      asks = subst (λ (s : Sorted). IsRequest r command s.texts s.options) (sym q.same) (request_fits command p.value.texts p.value.options r is);
+      asks = subst (λ (s : SortedWords). IsRequest r command s.texts s.options) (sym q.same) (request_fits command p.value.texts p.value.options r is);
     }
 
 pub line_is : (words : List (List ℕ)) (r : Request) → IsLine words r → line_of words ≡ Some r

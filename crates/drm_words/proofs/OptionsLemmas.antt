@@ -6,12 +6,12 @@ use Rattle.std.proofs.lemmas.Option.{same_Some}
 use Rattle.std.proofs.lemmas.Slice.Eq.{bytes_eq-Decides}
 use Rattle.drm_links.specs.declared.dock.Address.{Address}
 use Rattle.drm_words.specs.declared.request.Request.{Request}
-use Rattle.drm_words.specs.declared.options.Stretch.{Stretch}
-use Rattle.drm_words.specs.declared.options.Reading.{Reading}
+use Rattle.drm_words.specs.declared.options.PacketOptions.{PacketOptions}
+use Rattle.drm_words.specs.declared.options.ReadingOptions.{ReadingOptions}
 use Rattle.cli_syntax.specs.Reading.{within}
 use Rattle.cli_syntax.specs.Addressing.{address_of, addresses_of}
-use Rattle.drm_words.specs.Table.{Options, told, IsOneOf, AreOf, IsNumberOr, IsNumberOrNone, AreAddressesIfTold, AreStreamsIfTold, AreAddressesOrNone, IsAddressOrNone, IsStretch, IsReading}
-use Rattle.drm_words.specs.Asking.{is_one_of, are_of, number_or, number_or_none, addresses_if_told, live_if_told, addresses_or_none, address_or_none, with_options, window_of, reach_of, first_of, frames_of, stretch_of, reading_of, idle_of, limit_of, pace_of, from_of, to_of, live_told}
+use Rattle.drm_words.specs.Table.{CommandOptions, value_of, IsOneOf, AreOf, IsNumberOr, IsNumberOrNone, AreAddressesOrEmpty, AreStreamsOrEmpty, AreAddressesOrNone, IsAddressOrNone, IsStretch, IsReading}
+use Rattle.drm_words.specs.Asking.{is_one_of, are_of, number_or, number_or_none, addresses_or_empty, live_or_empty, addresses_or_none, address_or_none, with_options, window_of, reach_of, first_of, frames_of, packets_of, reading_of, idle_of, limit_of, pace_of, from_of, to_of, live_option}
 use Rattle.cli_syntax.proofs.OptionLemmas.{mapped, stepped}
 use Rattle.cli_syntax.proofs.NumberLemmas.{within_fits, within_is}
 use Rattle.cli_syntax.proofs.AddressLemmas.{address_fits, address_is, addresses_fit, addresses_are}
@@ -37,21 +37,21 @@ pub number_or_none_is : (least greatest : ℕ) (value : Option (List ℕ)) (n : 
 number_or_none_is least greatest None n h = ap Some (sym h)
 number_or_none_is least greatest (Some text) n h = ap (option_map Some) (within_is least greatest text h.0 h.2) ∙ ap Some (sym h.1)
 
-pub addresses_if_told_fit : (value : Option (List ℕ)) (addresses : List Address) → addresses_if_told value ≡ Some addresses → AreAddressesIfTold value addresses
-addresses_if_told_fit None addresses e = sym (same_Some [] addresses e)
-addresses_if_told_fit (Some text) addresses e = addresses_fit text addresses e
+pub addresses_or_empty_fit : (value : Option (List ℕ)) (addresses : List Address) → addresses_or_empty value ≡ Some addresses → AreAddressesOrEmpty value addresses
+addresses_or_empty_fit None addresses e = sym (same_Some [] addresses e)
+addresses_or_empty_fit (Some text) addresses e = addresses_fit text addresses e
 
-pub addresses_if_told_are : (value : Option (List ℕ)) (addresses : List Address) → AreAddressesIfTold value addresses → addresses_if_told value ≡ Some addresses
-addresses_if_told_are None addresses h = ap Some (sym h)
-addresses_if_told_are (Some text) addresses h = addresses_are text addresses h
+pub addresses_or_empty_are : (value : Option (List ℕ)) (addresses : List Address) → AreAddressesOrEmpty value addresses → addresses_or_empty value ≡ Some addresses
+addresses_or_empty_are None addresses h = ap Some (sym h)
+addresses_or_empty_are (Some text) addresses h = addresses_are text addresses h
 
-pub live_if_told_fits : (value : Option (List ℕ)) (streams : Live) → live_if_told value ≡ Some streams → AreStreamsIfTold value streams
-live_if_told_fits None streams e = sym (same_Some live.none streams e)
-live_if_told_fits (Some text) streams e = live_fits text streams e
+pub live_or_empty_fits : (value : Option (List ℕ)) (streams : Live) → live_or_empty value ≡ Some streams → AreStreamsOrEmpty value streams
+live_or_empty_fits None streams e = sym (same_Some live.none streams e)
+live_or_empty_fits (Some text) streams e = live_fits text streams e
 
-pub live_if_told_is : (value : Option (List ℕ)) (streams : Live) → AreStreamsIfTold value streams → live_if_told value ≡ Some streams
-live_if_told_is None streams h = ap Some (sym h)
-live_if_told_is (Some text) streams h = live_is text streams h
+pub live_or_empty_is : (value : Option (List ℕ)) (streams : Live) → AreStreamsOrEmpty value streams → live_or_empty value ≡ Some streams
+live_or_empty_is None streams h = ap Some (sym h)
+live_or_empty_is (Some text) streams h = live_is text streams h
 
 pub addresses_or_none_fit : (texts : List (List ℕ)) (addresses : Option (List Address)) → addresses_or_none texts ≡ Some addresses → AreAddressesOrNone texts addresses
 addresses_or_none_fit [] addresses e = sym (same_Some None addresses e)
@@ -104,140 +104,140 @@ both true true false e = absurd cc
 both true false c e = absurd cc
 both false b c e = absurd cc
 
-pub are_of_fits : (names : List (List ℕ)) (options : Options) → are_of names options ≡ true → AreOf names options
+pub are_of_fits : (names : List (List ℕ)) (options : CommandOptions) → are_of names options ≡ true → AreOf names options
 unfolding are_of
 are_of_fits names [] e = tt
 are_of_fits names (option ∷ others) e =
-    let p = both (is_one_of names option.0) (is_none (told option.0 others)) (are_of names others) e in
-    (one_fits names option.0 p.0, none_by (told option.0 others) p.1, are_of_fits names others p.2)
+    let p = both (is_one_of names option.0) (is_none (value_of option.0 others)) (are_of names others) e in
+    (one_fits names option.0 p.0, none_by (value_of option.0 others) p.1, are_of_fits names others p.2)
 
-pub are_of_is : (names : List (List ℕ)) (options : Options) → AreOf names options → are_of names options ≡ true
+pub are_of_is : (names : List (List ℕ)) (options : CommandOptions) → AreOf names options → are_of names options ≡ true
 unfolding are_of
 are_of_is names [] h = refl
 are_of_is names (option ∷ others) h = rw (one_is names option.0 h.0, h.1, are_of_is names others h.2) refl
 
 -- options that are given out with a request
-with_by : (names : List (List ℕ)) (options : Options) (t : Bool) (request : Option Request) (r : Request) → t ≡ are_of names options → cond t request None ≡ Some r → AreOf names options × (request ≡ Some r)
+with_by : (names : List (List ℕ)) (options : CommandOptions) (t : Bool) (request : Option Request) (r : Request) → t ≡ are_of names options → cond t request None ≡ Some r → AreOf names options × (request ≡ Some r)
 with_by names options true request r is e = (are_of_fits names options (sym is), e)
 with_by names options false request r is e = absurd cc
 
-pub with_fits : (names : List (List ℕ)) (options : Options) (request : Option Request) (r : Request) → with_options names options request ≡ Some r → AreOf names options × (request ≡ Some r)
+pub with_fits : (names : List (List ℕ)) (options : CommandOptions) (request : Option Request) (r : Request) → with_options names options request ≡ Some r → AreOf names options × (request ≡ Some r)
 with_fits names options request r e = with_by names options (are_of names options) request r refl e
 
-pub with_is : (names : List (List ℕ)) (options : Options) (request : Option Request) → AreOf names options → with_options names options request ≡ request
+pub with_is : (names : List (List ℕ)) (options : CommandOptions) (request : Option Request) → AreOf names options → with_options names options request ≡ request
 with_is names options request h = rw (are_of_is names options h) refl
 
-pub none_of : (options : Options) → AreOf [] options → options ≡ []
+pub none_of : (options : CommandOptions) → AreOf [] options → options ≡ []
 none_of [] h = refl
 none_of (option ∷ others) h = absurd h.0
 
 -- each option by itself
-module _ (options : Options) where
-  pub window_fits : (n : ℕ) → window_of options ≡ Some n → IsNumberOr 8 1 64 (told (codes "window") options) n
+module _ (options : CommandOptions) where
+  pub window_fits : (n : ℕ) → window_of options ≡ Some n → IsNumberOr 8 1 64 (value_of (codes "window") options) n
   unfolding window_of
-  window_fits n e = number_or_fits 8 1 64 (told (codes "window") options) n e
+  window_fits n e = number_or_fits 8 1 64 (value_of (codes "window") options) n e
 
-  pub window_is : (n : ℕ) → IsNumberOr 8 1 64 (told (codes "window") options) n → window_of options ≡ Some n
+  pub window_is : (n : ℕ) → IsNumberOr 8 1 64 (value_of (codes "window") options) n → window_of options ≡ Some n
   unfolding window_of
-  window_is n h = number_or_is 8 1 64 (told (codes "window") options) n h
+  window_is n h = number_or_is 8 1 64 (value_of (codes "window") options) n h
 
-  pub reach_fits : (n : ℕ) → reach_of options ≡ Some n → IsNumberOr 32767 1 32767 (told (codes "reach") options) n
+  pub reach_fits : (n : ℕ) → reach_of options ≡ Some n → IsNumberOr 32767 1 32767 (value_of (codes "reach") options) n
   unfolding reach_of
-  reach_fits n e = number_or_fits 32767 1 32767 (told (codes "reach") options) n e
+  reach_fits n e = number_or_fits 32767 1 32767 (value_of (codes "reach") options) n e
 
-  pub reach_is : (n : ℕ) → IsNumberOr 32767 1 32767 (told (codes "reach") options) n → reach_of options ≡ Some n
+  pub reach_is : (n : ℕ) → IsNumberOr 32767 1 32767 (value_of (codes "reach") options) n → reach_of options ≡ Some n
   unfolding reach_of
-  reach_is n h = number_or_is 32767 1 32767 (told (codes "reach") options) n h
+  reach_is n h = number_or_is 32767 1 32767 (value_of (codes "reach") options) n h
 
-  pub first_fits : (n : Option ℕ) → first_of options ≡ Some n → IsNumberOrNone 0 65535 (told (codes "first") options) n
+  pub first_fits : (n : Option ℕ) → first_of options ≡ Some n → IsNumberOrNone 0 65535 (value_of (codes "first") options) n
   unfolding first_of
-  first_fits n e = number_or_none_fits 0 65535 (told (codes "first") options) n e
+  first_fits n e = number_or_none_fits 0 65535 (value_of (codes "first") options) n e
 
-  pub first_is : (n : Option ℕ) → IsNumberOrNone 0 65535 (told (codes "first") options) n → first_of options ≡ Some n
+  pub first_is : (n : Option ℕ) → IsNumberOrNone 0 65535 (value_of (codes "first") options) n → first_of options ≡ Some n
   unfolding first_of
-  first_is n h = number_or_none_is 0 65535 (told (codes "first") options) n h
+  first_is n h = number_or_none_is 0 65535 (value_of (codes "first") options) n h
 
-  pub frames_fit : (n : Option ℕ) → frames_of options ≡ Some n → IsNumberOrNone 1 3000000 (told (codes "frames") options) n
+  pub frames_fit : (n : Option ℕ) → frames_of options ≡ Some n → IsNumberOrNone 1 3000000 (value_of (codes "frames") options) n
   unfolding frames_of
-  frames_fit n e = number_or_none_fits 1 3000000 (told (codes "frames") options) n e
+  frames_fit n e = number_or_none_fits 1 3000000 (value_of (codes "frames") options) n e
 
-  pub frames_are : (n : Option ℕ) → IsNumberOrNone 1 3000000 (told (codes "frames") options) n → frames_of options ≡ Some n
+  pub frames_are : (n : Option ℕ) → IsNumberOrNone 1 3000000 (value_of (codes "frames") options) n → frames_of options ≡ Some n
   unfolding frames_of
-  frames_are n h = number_or_none_is 1 3000000 (told (codes "frames") options) n h
+  frames_are n h = number_or_none_is 1 3000000 (value_of (codes "frames") options) n h
 
-  pub idle_fits : (n : ℕ) → idle_of options ≡ Some n → IsNumberOr 50 1 1000000 (told (codes "idle") options) n
+  pub idle_fits : (n : ℕ) → idle_of options ≡ Some n → IsNumberOr 50 1 1000000 (value_of (codes "idle") options) n
   unfolding idle_of
-  idle_fits n e = number_or_fits 50 1 1000000 (told (codes "idle") options) n e
+  idle_fits n e = number_or_fits 50 1 1000000 (value_of (codes "idle") options) n e
 
-  pub idle_is : (n : ℕ) → IsNumberOr 50 1 1000000 (told (codes "idle") options) n → idle_of options ≡ Some n
+  pub idle_is : (n : ℕ) → IsNumberOr 50 1 1000000 (value_of (codes "idle") options) n → idle_of options ≡ Some n
   unfolding idle_of
-  idle_is n h = number_or_is 50 1 1000000 (told (codes "idle") options) n h
+  idle_is n h = number_or_is 50 1 1000000 (value_of (codes "idle") options) n h
 
-  pub limit_fits : (n : ℕ) → limit_of options ≡ Some n → IsNumberOr 4294967295 1 4294967295 (told (codes "limit") options) n
+  pub limit_fits : (n : ℕ) → limit_of options ≡ Some n → IsNumberOr 4294967295 1 4294967295 (value_of (codes "limit") options) n
   unfolding limit_of
-  limit_fits n e = number_or_fits 4294967295 1 4294967295 (told (codes "limit") options) n e
+  limit_fits n e = number_or_fits 4294967295 1 4294967295 (value_of (codes "limit") options) n e
 
-  pub limit_is : (n : ℕ) → IsNumberOr 4294967295 1 4294967295 (told (codes "limit") options) n → limit_of options ≡ Some n
+  pub limit_is : (n : ℕ) → IsNumberOr 4294967295 1 4294967295 (value_of (codes "limit") options) n → limit_of options ≡ Some n
   unfolding limit_of
-  limit_is n h = number_or_is 4294967295 1 4294967295 (told (codes "limit") options) n h
+  limit_is n h = number_or_is 4294967295 1 4294967295 (value_of (codes "limit") options) n h
 
-  pub stretch_fits : (s : Stretch) → stretch_of options ≡ Some s → IsStretch options s.window s.reach s.first s.frames
-  unfolding stretch_of
+  pub stretch_fits : (s : PacketOptions) → packets_of options ≡ Some s → IsStretch options s.window s.reach s.first s.frames
+  unfolding packets_of
   stretch_fits s e =
       let window = stepped (window_of options) _ s e in
       let reach = stepped (reach_of options) _ s window.rest in
       let first = stepped (first_of options) _ s reach.rest in
       let frames = stepped (frames_of options) _ s first.rest in
-      subst (λ (x : Stretch). IsStretch options x.window x.reach x.first x.frames) (same_Some (record { window = window.value; reach = reach.value; first = first.value; frames = frames.value }) s frames.rest)
+      subst (λ (x : PacketOptions). IsStretch options x.window x.reach x.first x.frames) (same_Some (record { window = window.value; reach = reach.value; first = first.value; frames = frames.value }) s frames.rest)
       (record { has_window = window_fits window.value window.is; has_reach = reach_fits reach.value reach.is; has_first = first_fits first.value first.is; has_frames = frames_fit frames.value frames.is })
 
-  pub stretch_is : (window reach : ℕ) (first frames : Option ℕ) → IsStretch options window reach first frames → stretch_of options ≡ Some (record { window = window; reach = reach; first = first; frames = frames })
-  unfolding stretch_of
+  pub stretch_is : (window reach : ℕ) (first frames : Option ℕ) → IsStretch options window reach first frames → packets_of options ≡ Some (record { window = window; reach = reach; first = first; frames = frames })
+  unfolding packets_of
   stretch_is window reach first frames h = rw (window_is window h.has_window, reach_is reach h.has_reach, first_is first h.has_first, frames_are frames h.has_frames) refl
 
-  pub reading_fits : (r : Reading) → reading_of options ≡ Some r → IsReading options r.stretch.window r.stretch.reach r.stretch.first r.stretch.frames r.idle r.limit
+  pub reading_fits : (r : ReadingOptions) → reading_of options ≡ Some r → IsReading options r.packets.window r.packets.reach r.packets.first r.packets.frames r.idle r.limit
   unfolding reading_of
   reading_fits r e =
-      let stretch = stepped (stretch_of options) _ r e in
-      let idle = stepped (idle_of options) _ r stretch.rest in
+      let packets = stepped (packets_of options) _ r e in
+      let idle = stepped (idle_of options) _ r packets.rest in
       let limit = stepped (limit_of options) _ r idle.rest in
-      subst (λ (x : Reading). IsReading options x.stretch.window x.stretch.reach x.stretch.first x.stretch.frames x.idle x.limit)
-      (same_Some (record { stretch = stretch.value; idle = idle.value; limit = limit.value }) r limit.rest)
-      (record { stretch = stretch_fits stretch.value stretch.is; has_idle = idle_fits idle.value idle.is; has_limit = limit_fits limit.value limit.is })
+      subst (λ (x : ReadingOptions). IsReading options x.packets.window x.packets.reach x.packets.first x.packets.frames x.idle x.limit)
+      (same_Some (record { packets = packets.value; idle = idle.value; limit = limit.value }) r limit.rest)
+      (record { packets = stretch_fits packets.value packets.is; has_idle = idle_fits idle.value idle.is; has_limit = limit_fits limit.value limit.is })
 
   pub reading_is : (window reach : ℕ) (first frames : Option ℕ) (idle limit : ℕ) → IsReading options window reach first frames idle limit
-      → reading_of options ≡ Some (record { stretch = record { window = window; reach = reach; first = first; frames = frames }; idle = idle; limit = limit })
+      → reading_of options ≡ Some (record { packets = record { window = window; reach = reach; first = first; frames = frames }; idle = idle; limit = limit })
   unfolding reading_of
-  reading_is window reach first frames idle limit h = rw (stretch_is window reach first frames h.stretch, idle_is idle h.has_idle, limit_is limit h.has_limit) refl
+  reading_is window reach first frames idle limit h = rw (stretch_is window reach first frames h.packets, idle_is idle h.has_idle, limit_is limit h.has_limit) refl
 
-  pub pace_fits : (n : ℕ) → pace_of options ≡ Some n → IsNumberOr 0 0 10000 (told (codes "pace") options) n
+  pub pace_fits : (n : ℕ) → pace_of options ≡ Some n → IsNumberOr 0 0 10000 (value_of (codes "pace") options) n
   unfolding pace_of
-  pace_fits n e = number_or_fits 0 0 10000 (told (codes "pace") options) n e
+  pace_fits n e = number_or_fits 0 0 10000 (value_of (codes "pace") options) n e
 
-  pub pace_is : (n : ℕ) → IsNumberOr 0 0 10000 (told (codes "pace") options) n → pace_of options ≡ Some n
+  pub pace_is : (n : ℕ) → IsNumberOr 0 0 10000 (value_of (codes "pace") options) n → pace_of options ≡ Some n
   unfolding pace_of
-  pace_is n h = number_or_is 0 0 10000 (told (codes "pace") options) n h
+  pace_is n h = number_or_is 0 0 10000 (value_of (codes "pace") options) n h
 
-  pub from_fits : (n : ℕ) → from_of options ≡ Some n → IsNumberOr 0 0 1000000 (told (codes "from") options) n
+  pub from_fits : (n : ℕ) → from_of options ≡ Some n → IsNumberOr 0 0 1000000 (value_of (codes "from") options) n
   unfolding from_of
-  from_fits n e = number_or_fits 0 0 1000000 (told (codes "from") options) n e
+  from_fits n e = number_or_fits 0 0 1000000 (value_of (codes "from") options) n e
 
-  pub from_is : (n : ℕ) → IsNumberOr 0 0 1000000 (told (codes "from") options) n → from_of options ≡ Some n
+  pub from_is : (n : ℕ) → IsNumberOr 0 0 1000000 (value_of (codes "from") options) n → from_of options ≡ Some n
   unfolding from_of
-  from_is n h = number_or_is 0 0 1000000 (told (codes "from") options) n h
+  from_is n h = number_or_is 0 0 1000000 (value_of (codes "from") options) n h
 
-  pub to_fits : (at : List Address) → to_of options ≡ Some at → AreAddressesIfTold (told (codes "to") options) at
+  pub to_fits : (at : List Address) → to_of options ≡ Some at → AreAddressesOrEmpty (value_of (codes "to") options) at
   unfolding to_of
-  to_fits at e = addresses_if_told_fit (told (codes "to") options) at e
+  to_fits at e = addresses_or_empty_fit (value_of (codes "to") options) at e
 
-  pub to_is : (at : List Address) → AreAddressesIfTold (told (codes "to") options) at → to_of options ≡ Some at
+  pub to_is : (at : List Address) → AreAddressesOrEmpty (value_of (codes "to") options) at → to_of options ≡ Some at
   unfolding to_of
-  to_is at h = addresses_if_told_are (told (codes "to") options) at h
+  to_is at h = addresses_or_empty_are (value_of (codes "to") options) at h
 
-  pub live_told_fits : (streams : Live) → live_told options ≡ Some streams → AreStreamsIfTold (told (codes "live") options) streams
-  unfolding live_told
-  live_told_fits streams e = live_if_told_fits (told (codes "live") options) streams e
+  pub live_option_fits : (streams : Live) → live_option options ≡ Some streams → AreStreamsOrEmpty (value_of (codes "live") options) streams
+  unfolding live_option
+  live_option_fits streams e = live_or_empty_fits (value_of (codes "live") options) streams e
 
-  pub live_told_is : (streams : Live) → AreStreamsIfTold (told (codes "live") options) streams → live_told options ≡ Some streams
-  unfolding live_told
-  live_told_is streams h = live_if_told_is (told (codes "live") options) streams h
+  pub live_option_is : (streams : Live) → AreStreamsOrEmpty (value_of (codes "live") options) streams → live_option options ≡ Some streams
+  unfolding live_option
+  live_option_is streams h = live_or_empty_is (value_of (codes "live") options) streams h

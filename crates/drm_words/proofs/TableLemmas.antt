@@ -13,17 +13,17 @@ use Rattle.drm_words.specs.declared.request.Request.{Request}
 use Rattle.drm_words.specs.declared.request.Request.TheVariants.{Fac, Check, Serve, Receive, Count, Air, Show, Convert, Exercise, Gate, Pack, Unpack, Texts}
 use Rattle.cli_syntax.specs.Reading.{within}
 use Rattle.cli_syntax.specs.Addressing.{address_of, addresses_of, carry_of}
-use Rattle.drm_words.specs.declared.options.Stretch.{Stretch}
-use Rattle.drm_words.specs.declared.options.Reading.{Reading}
-use Rattle.drm_words.specs.Table.{Options, AreOf, IsRequest, serve_names, stretch_names, reading_names}
-use Rattle.drm_words.specs.Asking.{addresses_or_none, address_or_none, window_of, stretch_of, reading_of, pace_of, from_of, to_of, live_told, is_bare, bare_of, check_of, serve_asked, serve_of, receive_with, receive_of, count_with, count_of, air_with, air_of, convert_with, convert_of, exercise_with, exercise_of, gate_with, gate_of, pack_with, pack_of, unpack_with, unpack_of, texts_with, texts_of, request_of}
+use Rattle.drm_words.specs.declared.options.PacketOptions.{PacketOptions}
+use Rattle.drm_words.specs.declared.options.ReadingOptions.{ReadingOptions}
+use Rattle.drm_words.specs.Table.{CommandOptions, AreOf, IsRequest, serve_names, packet_names, reading_names}
+use Rattle.drm_words.specs.Asking.{addresses_or_none, address_or_none, window_of, packets_of, reading_of, pace_of, from_of, to_of, live_option, is_bare, bare_of, check_of, serve_asked, serve_of, receive_with, receive_of, count_with, count_of, air_with, air_of, convert_with, convert_of, exercise_with, exercise_of, gate_with, gate_of, pack_with, pack_of, unpack_with, unpack_of, texts_with, texts_of, request_of}
 use Rattle.cli_syntax.proofs.OptionLemmas.{stepped}
 use Rattle.cli_syntax.proofs.NumberLemmas.{within_fits, within_is}
 use Rattle.cli_syntax.proofs.CarryLemmas.{carry_fits, carry_is}
 use Rattle.cli_syntax.proofs.AddressLemmas.{address_fits, address_is, addresses_fit, addresses_are}
-use Rattle.drm_words.proofs.OptionsLemmas.{addresses_or_none_fit, addresses_or_none_are, address_or_none_fits, address_or_none_is, with_fits, with_is, none_of, window_fits, window_is, stretch_fits, stretch_is, reading_fits, reading_is, pace_fits, pace_is, from_fits, from_is, to_fits, to_is, live_told_fits, live_told_is}
+use Rattle.drm_words.proofs.OptionsLemmas.{addresses_or_none_fit, addresses_or_none_are, address_or_none_fits, address_or_none_is, with_fits, with_is, none_of, window_fits, window_is, stretch_fits, stretch_is, reading_fits, reading_is, pace_fits, pace_is, from_fits, from_is, to_fits, to_is, live_option_fits, live_option_is}
 
-bare_fits : (asked : Request) (texts : List (List ℕ)) (options : Options) (r : Request) → bare_of asked texts options ≡ Some r → (texts ≡ []) × (options ≡ []) × (asked ≡ r)
+bare_fits : (asked : Request) (texts : List (List ℕ)) (options : CommandOptions) (r : Request) → bare_of asked texts options ≡ Some r → (texts ≡ []) × (options ≡ []) × (asked ≡ r)
 bare_fits asked texts options r e =
     let p = cond_some (is_bare texts options) asked r e in
     let t = p.0 in
@@ -31,17 +31,17 @@ bare_fits asked texts options r e =
     let no_options : length options ≡ 0 = grind (arith, nat_tests) in
     (nil_from_length texts no_texts, nil_from_length options no_options, p.1)
 
-fac_fits : (texts : List (List ℕ)) (options : Options) (r : Request) → bare_of Fac texts options ≡ Some r → IsRequest r (codes "fac") texts options
+fac_fits : (texts : List (List ℕ)) (options : CommandOptions) (r : Request) → bare_of Fac texts options ≡ Some r → IsRequest r (codes "fac") texts options
 fac_fits texts options r e =
     let p = bare_fits Fac texts options r e in
-    subst (λ (x : Request). IsRequest x (codes "fac") texts options) p.2 (refl, p.0, subst (λ (o : Options). AreOf [] o) (sym p.1) tt)
+    subst (λ (x : Request). IsRequest x (codes "fac") texts options) p.2 (refl, p.0, subst (λ (o : CommandOptions). AreOf [] o) (sym p.1) tt)
 
-show_fits : (texts : List (List ℕ)) (options : Options) (r : Request) → bare_of Show texts options ≡ Some r → IsRequest r (codes "show") texts options
+show_fits : (texts : List (List ℕ)) (options : CommandOptions) (r : Request) → bare_of Show texts options ≡ Some r → IsRequest r (codes "show") texts options
 show_fits texts options r e =
     let p = bare_fits Show texts options r e in
-    subst (λ (x : Request). IsRequest x (codes "show") texts options) p.2 (refl, p.0, subst (λ (o : Options). AreOf [] o) (sym p.1) tt)
+    subst (λ (x : Request). IsRequest x (codes "show") texts options) p.2 (refl, p.0, subst (λ (o : CommandOptions). AreOf [] o) (sym p.1) tt)
 
-check_fits : (texts : List (List ℕ)) (options : Options) (r : Request) → check_of texts options ≡ Some r → IsRequest r (codes "check") texts options
+check_fits : (texts : List (List ℕ)) (options : CommandOptions) (r : Request) → check_of texts options ≡ Some r → IsRequest r (codes "check") texts options
 unfolding check_of
 check_fits [] options r e = absurd cc
 check_fits (name ∷ []) options r e =
@@ -49,42 +49,42 @@ check_fits (name ∷ []) options r e =
     subst (λ (x : Request). IsRequest x (codes "check") (name ∷ []) options) (same_Some (Check name) r w.1) (refl, refl, w.0)
 check_fits (name ∷ other ∷ more) options r e = absurd cc
 
-serve_fits : (texts : List (List ℕ)) (options : Options) (r : Request) → serve_of texts options ≡ Some r → IsRequest r (codes "serve") texts options
+serve_fits : (texts : List (List ℕ)) (options : CommandOptions) (r : Request) → serve_of texts options ≡ Some r → IsRequest r (codes "serve") texts options
 unfolding serve_of
 serve_fits [] options r e = absurd cc
 serve_fits (name ∷ []) options r e =
     let w = with_fits serve_names options (serve_asked name options) r e in
     let to = stepped (to_of options) _ r w.1 in
-    let live = stepped (live_told options) _ r to.rest in
+    let live = stepped (live_option options) _ r to.rest in
     let pace = stepped (pace_of options) _ r live.rest in
     let from = stepped (from_of options) _ r pace.rest in
     subst (λ (x : Request). IsRequest x (codes "serve") (name ∷ []) options) (same_Some (Serve name to.value pace.value from.value live.value) r from.rest)
-    (refl, refl, w.0, to_fits options to.value to.is, pace_fits options pace.value pace.is, from_fits options from.value from.is, live_told_fits options live.value live.is)
+    (refl, refl, w.0, to_fits options to.value to.is, pace_fits options pace.value pace.is, from_fits options from.value from.is, live_option_fits options live.value live.is)
 serve_fits (name ∷ other ∷ more) options r e = absurd cc
 
-receive_fits : (texts : List (List ℕ)) (options : Options) (r : Request) → receive_of texts options ≡ Some r → IsRequest r (codes "receive") texts options
+receive_fits : (texts : List (List ℕ)) (options : CommandOptions) (r : Request) → receive_of texts options ≡ Some r → IsRequest r (codes "receive") texts options
 unfolding receive_of
 receive_fits texts options r e =
     let w = with_fits reading_names options _ r e in
     let addresses = stepped (addresses_or_none texts) (receive_with options) r w.1 in
     let reading = stepped (reading_of options) _ r addresses.rest in
-    let taken : Reading = reading.value in
+    let taken : ReadingOptions = reading.value in
     subst (λ (x : Request). IsRequest x (codes "receive") texts options)
-    (same_Some (Receive addresses.value taken.stretch.window taken.stretch.reach taken.stretch.first taken.stretch.frames taken.idle taken.limit) r reading.rest)
+    (same_Some (Receive addresses.value taken.packets.window taken.packets.reach taken.packets.first taken.packets.frames taken.idle taken.limit) r reading.rest)
     (refl, addresses_or_none_fit texts addresses.value addresses.is, w.0, reading_fits options taken reading.is)
 
-count_fits : (texts : List (List ℕ)) (options : Options) (r : Request) → count_of texts options ≡ Some r → IsRequest r (codes "count") texts options
+count_fits : (texts : List (List ℕ)) (options : CommandOptions) (r : Request) → count_of texts options ≡ Some r → IsRequest r (codes "count") texts options
 unfolding count_of
 count_fits texts options r e =
     let w = with_fits reading_names options _ r e in
     let address = stepped (address_or_none texts) (count_with options) r w.1 in
     let reading = stepped (reading_of options) _ r address.rest in
-    let taken : Reading = reading.value in
+    let taken : ReadingOptions = reading.value in
     subst (λ (x : Request). IsRequest x (codes "count") texts options)
-    (same_Some (Count address.value taken.stretch.window taken.stretch.reach taken.stretch.first taken.stretch.frames taken.idle taken.limit) r reading.rest)
+    (same_Some (Count address.value taken.packets.window taken.packets.reach taken.packets.first taken.packets.frames taken.idle taken.limit) r reading.rest)
     (refl, address_or_none_fits texts address.value address.is, w.0, reading_fits options taken reading.is)
 
-air_fits : (texts : List (List ℕ)) (options : Options) (r : Request) → air_of texts options ≡ Some r → IsRequest r (codes "air") texts options
+air_fits : (texts : List (List ℕ)) (options : CommandOptions) (r : Request) → air_of texts options ≡ Some r → IsRequest r (codes "air") texts options
 unfolding air_of
 air_fits [] options r e = absurd cc
 air_fits (name ∷ []) options r e = absurd cc
@@ -95,19 +95,19 @@ air_fits (name ∷ script ∷ []) options r e =
     (refl, refl, w.0, window_fits options window.value window.is)
 air_fits (name ∷ script ∷ other ∷ more) options r e = absurd cc
 
-convert_fits : (texts : List (List ℕ)) (options : Options) (r : Request) → convert_of texts options ≡ Some r → IsRequest r (codes "convert") texts options
+convert_fits : (texts : List (List ℕ)) (options : CommandOptions) (r : Request) → convert_of texts options ≡ Some r → IsRequest r (codes "convert") texts options
 unfolding convert_of
 convert_fits [] options r e = absurd cc
 convert_fits (text ∷ []) options r e =
-    let w = with_fits stretch_names options (convert_with text options) r e in
+    let w = with_fits packet_names options (convert_with text options) r e in
     let carry = stepped (carry_of text) _ r w.1 in
-    let stretch = stepped (stretch_of options) _ r carry.rest in
-    let taken : Stretch = stretch.value in
-    subst (λ (x : Request). IsRequest x (codes "convert") (text ∷ []) options) (same_Some (Convert carry.value taken.window taken.reach taken.first taken.frames) r stretch.rest)
-    (refl, text, refl, carry_fits text carry.value carry.is, w.0, stretch_fits options taken stretch.is)
+    let packets = stepped (packets_of options) _ r carry.rest in
+    let taken : PacketOptions = packets.value in
+    subst (λ (x : Request). IsRequest x (codes "convert") (text ∷ []) options) (same_Some (Convert carry.value taken.window taken.reach taken.first taken.frames) r packets.rest)
+    (refl, text, refl, carry_fits text carry.value carry.is, w.0, stretch_fits options taken packets.is)
 convert_fits (text ∷ other ∷ more) options r e = absurd cc
 
-exercise_fits : (texts : List (List ℕ)) (options : Options) (r : Request) → exercise_of texts options ≡ Some r → IsRequest r (codes "exercise") texts options
+exercise_fits : (texts : List (List ℕ)) (options : CommandOptions) (r : Request) → exercise_of texts options ≡ Some r → IsRequest r (codes "exercise") texts options
 unfolding exercise_of
 exercise_fits [] options r e = absurd cc
 exercise_fits (text ∷ []) options r e =
@@ -117,7 +117,7 @@ exercise_fits (text ∷ []) options r e =
     (refl, text, refl, within_fits 1 1000 text n.value n.is, w.0)
 exercise_fits (text ∷ other ∷ more) options r e = absurd cc
 
-gate_fits : (texts : List (List ℕ)) (options : Options) (r : Request) → gate_of texts options ≡ Some r → IsRequest r (codes "gate") texts options
+gate_fits : (texts : List (List ℕ)) (options : CommandOptions) (r : Request) → gate_of texts options ≡ Some r → IsRequest r (codes "gate") texts options
 unfolding gate_of
 gate_fits [] options r e = absurd cc
 gate_fits (source ∷ []) options r e = absurd cc
@@ -128,9 +128,9 @@ gate_fits (source ∷ target ∷ text ∷ []) options r e =
     let from = stepped (address_of source) _ r to.rest in
     let carry = stepped (carry_of text) _ r from.rest in
     let reading = stepped (reading_of options) _ r carry.rest in
-    let taken : Reading = reading.value in
+    let taken : ReadingOptions = reading.value in
     subst (λ (x : Request). IsRequest x (codes "gate") (source ∷ target ∷ text ∷ []) options)
-    (same_Some (Gate from.value to.value carry.value taken.stretch.window taken.stretch.reach taken.stretch.first taken.stretch.frames taken.idle taken.limit) r reading.rest) (
+    (same_Some (Gate from.value to.value carry.value taken.packets.window taken.packets.reach taken.packets.first taken.packets.frames taken.idle taken.limit) r reading.rest) (
       refl,
       source,
       target,
@@ -144,7 +144,7 @@ gate_fits (source ∷ target ∷ text ∷ []) options r e =
     )
 gate_fits (source ∷ target ∷ text ∷ other ∷ more) options r e = absurd cc
 
-pack_fits : (texts : List (List ℕ)) (options : Options) (r : Request) → pack_of texts options ≡ Some r → IsRequest r (codes "pack") texts options
+pack_fits : (texts : List (List ℕ)) (options : CommandOptions) (r : Request) → pack_of texts options ≡ Some r → IsRequest r (codes "pack") texts options
 unfolding pack_of
 pack_fits [] options r e = absurd cc
 pack_fits (first ∷ []) options r e = absurd cc
@@ -156,20 +156,20 @@ pack_fits (first ∷ second ∷ []) options r e =
     (refl, first, second, refl, within_fits 0 3 first pid.value pid.is, within_fits 1 255 second length.value length.is, w.0)
 pack_fits (first ∷ second ∷ other ∷ more) options r e = absurd cc
 
-unpack_fits : (texts : List (List ℕ)) (options : Options) (r : Request) → unpack_of texts options ≡ Some r → IsRequest r (codes "unpack") texts options
+unpack_fits : (texts : List (List ℕ)) (options : CommandOptions) (r : Request) → unpack_of texts options ≡ Some r → IsRequest r (codes "unpack") texts options
 unfolding unpack_of
 unpack_fits [] options r e = absurd cc
 unpack_fits (a ∷ []) options r e = absurd cc
 unpack_fits (a ∷ b ∷ []) options r e = absurd cc
 unpack_fits (a ∷ b ∷ c ∷ []) options r e =
-    let w = with_fits stretch_names options (unpack_with a b c options) r e in
+    let w = with_fits packet_names options (unpack_with a b c options) r e in
     let stream = stepped (within 0 3 a) _ r w.1 in
     let pid = stepped (within 0 3 b) _ r stream.rest in
     let length = stepped (within 1 255 c) _ r pid.rest in
-    let stretch = stepped (stretch_of options) _ r length.rest in
-    let taken : Stretch = stretch.value in
+    let packets = stepped (packets_of options) _ r length.rest in
+    let taken : PacketOptions = packets.value in
     subst (λ (x : Request). IsRequest x (codes "unpack") (a ∷ b ∷ c ∷ []) options)
-    (same_Some (Unpack stream.value pid.value length.value taken.window taken.reach taken.first taken.frames) r stretch.rest) (
+    (same_Some (Unpack stream.value pid.value length.value taken.window taken.reach taken.first taken.frames) r packets.rest) (
       refl,
       a,
       b,
@@ -179,21 +179,21 @@ unpack_fits (a ∷ b ∷ c ∷ []) options r e =
       within_fits 0 3 b pid.value pid.is,
       within_fits 1 255 c length.value length.is,
       w.0,
-      stretch_fits options taken stretch.is,
+      stretch_fits options taken packets.is,
     )
 unpack_fits (a ∷ b ∷ c ∷ other ∷ more) options r e = absurd cc
 
-texts_fits : (texts : List (List ℕ)) (options : Options) (r : Request) → texts_of texts options ≡ Some r → IsRequest r (codes "texts") texts options
+texts_fits : (texts : List (List ℕ)) (options : CommandOptions) (r : Request) → texts_of texts options ≡ Some r → IsRequest r (codes "texts") texts options
 unfolding texts_of
 texts_fits [] options r e = absurd cc
 texts_fits (text ∷ []) options r e =
-    let w = with_fits stretch_names options (texts_with text options) r e in
+    let w = with_fits packet_names options (texts_with text options) r e in
     let stream = stepped (within 0 3 text) _ r w.1 in
-    let stretch = stepped (stretch_of options) _ r stream.rest in
-    let taken : Stretch = stretch.value in
+    let packets = stepped (packets_of options) _ r stream.rest in
+    let taken : PacketOptions = packets.value in
     subst (λ (x : Request). IsRequest x (codes "texts") (text ∷ []) options)
-    (same_Some (Texts stream.value taken.window taken.reach taken.first taken.frames) r stretch.rest)
-    (refl, text, refl, within_fits 0 3 text stream.value stream.is, w.0, stretch_fits options taken stretch.is)
+    (same_Some (Texts stream.value taken.window taken.reach taken.first taken.frames) r packets.rest)
+    (refl, text, refl, within_fits 0 3 text stream.value stream.is, w.0, stretch_fits options taken packets.is)
 texts_fits (text ∷ other ∷ more) options r e = absurd cc
 
 -- a command, or another one
@@ -201,7 +201,7 @@ chosen : (command name : List ℕ) (t : Bool) (taken other : Option Request) (r 
 chosen command name true taken other r P is f g e = f (sym ((bytes_eq-Decides command name).0 (sym is))) e
 chosen command name false taken other r P is f g e = g e
 
-pub request_fits : (command : List ℕ) (texts : List (List ℕ)) (options : Options) (r : Request) → request_of command texts options ≡ Some r → IsRequest r command texts options
+pub request_fits : (command : List ℕ) (texts : List (List ℕ)) (options : CommandOptions) (r : Request) → request_of command texts options ≡ Some r → IsRequest r command texts options
 unfolding request_of
 request_fits command texts options r e =
     let P : Type 0 = IsRequest r command texts options in
@@ -221,72 +221,72 @@ request_fits command texts options r e =
     chosen command (codes "texts") _ _ _ r P refl (λ same f. at (codes "texts") same (texts_fits texts options r f)) (λ e. absurd cc)
     e) e) e) e) e) e) e) e) e) e) e) e) e
 
-bare_is : (r : Request) (texts : List (List ℕ)) (options : Options) → texts ≡ [] → options ≡ [] → bare_of r texts options ≡ Some r
+bare_is : (r : Request) (texts : List (List ℕ)) (options : CommandOptions) → texts ≡ [] → options ≡ [] → bare_of r texts options ≡ Some r
 bare_is r texts options e f = rw (e, f) refl
 
-check_is : (name : List ℕ) (texts : List (List ℕ)) (options : Options) → IsRequest (Check name) (codes "check") texts options → check_of texts options ≡ Some (Check name)
+check_is : (name : List ℕ) (texts : List (List ℕ)) (options : CommandOptions) → IsRequest (Check name) (codes "check") texts options → check_of texts options ≡ Some (Check name)
 unfolding check_of
 check_is name texts options h = rw h.1 (with_is [] options (Some (Check name)) h.2)
 
-serve_is : (name : List ℕ) (to : List Address) (pace from : ℕ) (live : Live) (texts : List (List ℕ)) (options : Options) → IsRequest (Serve name to pace from live) (codes "serve") texts options
+serve_is : (name : List ℕ) (to : List Address) (pace from : ℕ) (live : Live) (texts : List (List ℕ)) (options : CommandOptions) → IsRequest (Serve name to pace from live) (codes "serve") texts options
     → serve_of texts options ≡ Some (Serve name to pace from live)
 unfolding serve_of
 serve_is name to pace from live texts options h =
-    rw h.1 (with_is serve_names options (serve_asked name options) h.2 ∙ rw (to_is options to h.3, live_told_is options live h.6, pace_is options pace h.4, from_is options from h.5) refl)
+    rw h.1 (with_is serve_names options (serve_asked name options) h.2 ∙ rw (to_is options to h.3, live_option_is options live h.6, pace_is options pace h.4, from_is options from h.5) refl)
 
-receive_is : (addresses : Option (List Address)) (window reach : ℕ) (first frames : Option ℕ) (idle limit : ℕ) (texts : List (List ℕ)) (options : Options)
+receive_is : (addresses : Option (List Address)) (window reach : ℕ) (first frames : Option ℕ) (idle limit : ℕ) (texts : List (List ℕ)) (options : CommandOptions)
     → IsRequest (Receive addresses window reach first frames idle limit) (codes "receive") texts options → receive_of texts options ≡ Some (Receive addresses window reach first frames idle limit)
 unfolding receive_of
 receive_is addresses window reach first frames idle limit texts options h =
     with_is reading_names options _ h.2 ∙ rw (addresses_or_none_are texts addresses h.1, reading_is options window reach first frames idle limit h.3) refl
 
-count_is : (address : Option Address) (window reach : ℕ) (first frames : Option ℕ) (idle limit : ℕ) (texts : List (List ℕ)) (options : Options)
+count_is : (address : Option Address) (window reach : ℕ) (first frames : Option ℕ) (idle limit : ℕ) (texts : List (List ℕ)) (options : CommandOptions)
     → IsRequest (Count address window reach first frames idle limit) (codes "count") texts options → count_of texts options ≡ Some (Count address window reach first frames idle limit)
 unfolding count_of
 count_is address window reach first frames idle limit texts options h =
     with_is reading_names options _ h.2 ∙ rw (address_or_none_is texts address h.1, reading_is options window reach first frames idle limit h.3) refl
 
-air_is : (name script : List ℕ) (window : ℕ) (texts : List (List ℕ)) (options : Options) → IsRequest (Air name script window) (codes "air") texts options → air_of texts options ≡ Some (Air name script window)
+air_is : (name script : List ℕ) (window : ℕ) (texts : List (List ℕ)) (options : CommandOptions) → IsRequest (Air name script window) (codes "air") texts options → air_of texts options ≡ Some (Air name script window)
 unfolding air_of
 air_is name script window texts options h =
     rw h.1 (with_is (codes "window" ∷ []) options (air_with name script options) h.2 ∙ rw (window_is options window h.3) refl)
 
-convert_is : (carry : Carry) (window reach : ℕ) (first frames : Option ℕ) (texts : List (List ℕ)) (options : Options)
+convert_is : (carry : Carry) (window reach : ℕ) (first frames : Option ℕ) (texts : List (List ℕ)) (options : CommandOptions)
     → IsRequest (Convert carry window reach first frames) (codes "convert") texts options → convert_of texts options ≡ Some (Convert carry window reach first frames)
 unfolding convert_of
 convert_is carry window reach first frames texts options h =
-    rw h.2 (with_is stretch_names options (convert_with h.1 options) h.4 ∙ rw (carry_is h.1 carry h.3, stretch_is options window reach first frames h.5) refl)
+    rw h.2 (with_is packet_names options (convert_with h.1 options) h.4 ∙ rw (carry_is h.1 carry h.3, stretch_is options window reach first frames h.5) refl)
 
-exercise_is : (n : ℕ) (texts : List (List ℕ)) (options : Options) → IsRequest (Exercise n) (codes "exercise") texts options → exercise_of texts options ≡ Some (Exercise n)
+exercise_is : (n : ℕ) (texts : List (List ℕ)) (options : CommandOptions) → IsRequest (Exercise n) (codes "exercise") texts options → exercise_of texts options ≡ Some (Exercise n)
 unfolding exercise_of
 exercise_is n texts options h = rw h.2 (with_is [] options (exercise_with h.1) h.4 ∙ rw (within_is 1 1000 h.1 n h.3) refl)
 
-gate_is : (from : Address) (to : List Address) (carry : Carry) (window reach : ℕ) (first frames : Option ℕ) (idle limit : ℕ) (texts : List (List ℕ)) (options : Options)
+gate_is : (from : Address) (to : List Address) (carry : Carry) (window reach : ℕ) (first frames : Option ℕ) (idle limit : ℕ) (texts : List (List ℕ)) (options : CommandOptions)
     → IsRequest (Gate from to carry window reach first frames idle limit) (codes "gate") texts options → gate_of texts options ≡ Some (Gate from to carry window reach first frames idle limit)
 unfolding gate_of
 gate_is from to carry window reach first frames idle limit texts options h =
     rw h.4 (with_is reading_names options (option_and_then (λ to. gate_with h.1 to h.3 options) (addresses_of h.2)) h.8
     ∙ rw (addresses_are h.2 to h.6, address_is h.1 from h.5, carry_is h.3 carry h.7, reading_is options window reach first frames idle limit h.9) refl)
 
-pack_is : (pid length : ℕ) (texts : List (List ℕ)) (options : Options) → IsRequest (Pack pid length) (codes "pack") texts options → pack_of texts options ≡ Some (Pack pid length)
+pack_is : (pid length : ℕ) (texts : List (List ℕ)) (options : CommandOptions) → IsRequest (Pack pid length) (codes "pack") texts options → pack_of texts options ≡ Some (Pack pid length)
 unfolding pack_of
 pack_is pid length texts options h =
     rw h.3 (with_is [] options (pack_with h.1 h.2) h.6 ∙ rw (within_is 0 3 h.1 pid h.4, within_is 1 255 h.2 length h.5) refl)
 
-unpack_is : (stream pid length window reach : ℕ) (first frames : Option ℕ) (texts : List (List ℕ)) (options : Options)
+unpack_is : (stream pid length window reach : ℕ) (first frames : Option ℕ) (texts : List (List ℕ)) (options : CommandOptions)
     → IsRequest (Unpack stream pid length window reach first frames) (codes "unpack") texts options → unpack_of texts options ≡ Some (Unpack stream pid length window reach first frames)
 unfolding unpack_of
 unpack_is stream pid length window reach first frames texts options h =
-    rw h.4 (with_is stretch_names options (unpack_with h.1 h.2 h.3 options) h.8
+    rw h.4 (with_is packet_names options (unpack_with h.1 h.2 h.3 options) h.8
     ∙ rw (within_is 0 3 h.1 stream h.5, within_is 0 3 h.2 pid h.6, within_is 1 255 h.3 length h.7, stretch_is options window reach first frames h.9) refl)
 
-texts_is : (stream window reach : ℕ) (first frames : Option ℕ) (texts : List (List ℕ)) (options : Options)
+texts_is : (stream window reach : ℕ) (first frames : Option ℕ) (texts : List (List ℕ)) (options : CommandOptions)
     → IsRequest (Texts stream window reach first frames) (codes "texts") texts options → texts_of texts options ≡ Some (Texts stream window reach first frames)
 unfolding texts_of
 texts_is stream window reach first frames texts options h =
-    rw h.2 (with_is stretch_names options (texts_with h.1 options) h.4 ∙ rw (within_is 0 3 h.1 stream h.3, stretch_is options window reach first frames h.5) refl)
+    rw h.2 (with_is packet_names options (texts_with h.1 options) h.4 ∙ rw (within_is 0 3 h.1 stream h.3, stretch_is options window reach first frames h.5) refl)
 
-pub request_is : (r : Request) (command : List ℕ) (texts : List (List ℕ)) (options : Options) → IsRequest r command texts options → request_of command texts options ≡ Some r
+pub request_is : (r : Request) (command : List ℕ) (texts : List (List ℕ)) (options : CommandOptions) → IsRequest r command texts options → request_of command texts options ≡ Some r
 unfolding request_of
 request_is Fac command texts options h = rw h.0 (bare_is Fac texts options h.1 (none_of options h.2))
 request_is (Check name) command texts options h = rw h.0 (check_is name texts options (refl, h.1, h.2))

@@ -8,8 +8,7 @@ ghost use Rattle.drm_words.specs.Table.{HasTextNames};
 ghost use Rattle.cli_syntax.specs.declared.fault.WordsFault.TheVariants as faults;
 
 use crate::options::{
-    are_of, are_of_reading, are_of_stretch, from, live, pace, to, told_reading, told_stretch,
-    window,
+    are_of, are_of_reading, are_of_stretch, from, live, pace, packets_of, reading_of, to, window,
 };
 use crate::request::Request;
 use cli_syntax::{Named, WordsFault, address, carry, read_addresses, within};
@@ -126,13 +125,13 @@ fn receive_with(options: &[Named<'_>], addresses: Option<Addresses>) -> Option<R
     ensures value { result ≡ receive_with (map option_said options.now) addresses }
     ensures text { IfSome result HasTextNames }
 {
-    let reading = told_reading(options)?;
+    let reading = reading_of(options)?;
     Some(Request::Receive {
         addresses,
-        window: reading.stretch.window,
-        reach: reading.stretch.reach,
-        first: reading.stretch.first,
-        frames: reading.stretch.frames,
+        window: reading.packets.window,
+        reach: reading.packets.reach,
+        first: reading.packets.first,
+        frames: reading.packets.frames,
         idle: reading.idle,
         limit: reading.limit,
     })
@@ -169,13 +168,13 @@ fn count_with(options: &[Named<'_>], address: Option<Address>) -> Option<Request
     ensures value { result ≡ count_with (map option_said options.now) address }
     ensures text { IfSome result HasTextNames }
 {
-    let reading = told_reading(options)?;
+    let reading = reading_of(options)?;
     Some(Request::Count {
         address,
-        window: reading.stretch.window,
-        reach: reading.stretch.reach,
-        first: reading.stretch.first,
-        frames: reading.stretch.frames,
+        window: reading.packets.window,
+        reach: reading.packets.reach,
+        first: reading.packets.first,
+        frames: reading.packets.frames,
         idle: reading.idle,
         limit: reading.limit,
     })
@@ -232,13 +231,13 @@ fn convert_with(text: &str, options: &[Named<'_>]) -> Option<Request>
     ensures text { IfSome result HasTextNames }
 {
     let carry = carry(text)?;
-    let stretch = told_stretch(options)?;
+    let packets = packets_of(options)?;
     Some(Request::Convert {
         carry,
-        window: stretch.window,
-        reach: stretch.reach,
-        first: stretch.first,
-        frames: stretch.frames,
+        window: packets.window,
+        reach: packets.reach,
+        first: packets.first,
+        frames: packets.frames,
     })
 }
 
@@ -286,15 +285,15 @@ fn gate_with(from: &str, to: Addresses, text: &str, options: &[Named<'_>]) -> Op
 {
     let from = address(from)?;
     let carry = carry(text)?;
-    let reading = told_reading(options)?;
+    let reading = reading_of(options)?;
     Some(Request::Gate {
         from,
         to,
         carry,
-        window: reading.stretch.window,
-        reach: reading.stretch.reach,
-        first: reading.stretch.first,
-        frames: reading.stretch.frames,
+        window: reading.packets.window,
+        reach: reading.packets.reach,
+        first: reading.packets.first,
+        frames: reading.packets.frames,
         idle: reading.idle,
         limit: reading.limit,
     })
@@ -347,15 +346,15 @@ fn unpack_with(stream: &str, pid: &str, length: &str, options: &[Named<'_>]) -> 
     let stream = within(stream, 0, 3)? as u8;
     let pid = within(pid, 0, 3)? as u8;
     let length = within(length, 1, 255)? as u8;
-    let stretch = told_stretch(options)?;
+    let packets = packets_of(options)?;
     Some(Request::Unpack {
         stream,
         pid,
         length,
-        window: stretch.window,
-        reach: stretch.reach,
-        first: stretch.first,
-        frames: stretch.frames,
+        window: packets.window,
+        reach: packets.reach,
+        first: packets.first,
+        frames: packets.frames,
     })
 }
 
@@ -379,13 +378,13 @@ fn texts_with(stream: &str, options: &[Named<'_>]) -> Option<Request>
     ensures text { IfSome result HasTextNames }
 {
     let stream = within(stream, 0, 3)? as u8;
-    let stretch = told_stretch(options)?;
+    let packets = packets_of(options)?;
     Some(Request::Texts {
         stream,
-        window: stretch.window,
-        reach: stretch.reach,
-        first: stretch.first,
-        frames: stretch.frames,
+        window: packets.window,
+        reach: packets.reach,
+        first: packets.first,
+        frames: packets.frames,
     })
 }
 

@@ -3,8 +3,8 @@
 ghost use Rattle.std.specs.Prelude.{◌≡◌, ◌≤◌, IfSome, map, option_map, codes};
 ghost use Rattle.cli_syntax.specs.Arguing.{option_said};
 ghost use Rattle.cli_syntax.specs.Gives.{ParserGives};
-ghost use Rattle.drm_words.specs.Table.{told, stretch_names, reading_names};
-ghost use Rattle.drm_words.specs.Asking.{is_one_of, are_of, number_or, number_or_none, window_of, reach_of, first_of, frames_of, stretch_of, reading_of, idle_of, limit_of, pace_of, from_of, to_of, live_told};
+ghost use Rattle.drm_words.specs.Table.{value_of, packet_names, reading_names};
+ghost use Rattle.drm_words.specs.Asking.{is_one_of, are_of, number_or, number_or_none, window_of, reach_of, first_of, frames_of, packets_of, reading_of, idle_of, limit_of, pace_of, from_of, to_of, live_option};
 
 use cli_syntax::{Named, WordsFault, read_addresses, read_live, within};
 use drm_links::Addresses;
@@ -13,7 +13,7 @@ use std::alloc::Global;
 
 /// Which packets are read, and how many frames of them.
 #[derive(Clone, Copy)]
-pub(crate) struct Stretch {
+pub(crate) struct PacketOptions {
     /// In packets.
     pub(crate) window: u8,
     /// How far one may be ahead of the newest packet.
@@ -25,8 +25,8 @@ pub(crate) struct Stretch {
 
 /// A stretch, and when a link has brought enough of it.
 #[derive(Clone, Copy)]
-pub(crate) struct Reading {
-    pub(crate) stretch: Stretch,
+pub(crate) struct ReadingOptions {
+    pub(crate) packets: PacketOptions,
     /// How many idle answers in a row end a report.
     pub(crate) idle: u32,
     /// The most datagrams.
@@ -34,8 +34,8 @@ pub(crate) struct Reading {
 }
 
 // The value of an option, where it is told.
-fn told<'a>(options: &[Named<'a>], name: &str) -> Option<&'a str>
-    ensures { option_map (λ value. value.now) result ≡ told name.now (map option_said options.now) }
+fn value_of<'a>(options: &[Named<'a>], name: &str) -> Option<&'a str>
+    ensures { option_map (λ value. value.now) result ≡ value_of name.now (map option_said options.now) }
 {
     for option in options {
         if option.name == name {
@@ -64,12 +64,14 @@ pub(crate) fn are_of(names: &[&str], options: &[Named<'_>]) -> bool
     let Some((option, others)) = options.split_first() else {
         return true;
     };
-    is_one_of(names, option.name) && told(others, option.name).is_none() && are_of(names, others)
+    is_one_of(names, option.name)
+        && value_of(others, option.name).is_none()
+        && are_of(names, others)
 }
 
 /// Whether these are options of a stretch, none twice.
 pub(crate) fn are_of_stretch(options: &[Named<'_>]) -> bool
-    ensures { result ≡ are_of stretch_names (map option_said options.now) }
+    ensures { result ≡ are_of packet_names (map option_said options.now) }
 {
     are_of(&["window", "reach", "first", "frames"], options)
 }
@@ -100,7 +102,7 @@ fn number_or(default: u64, least: u64, greatest: u64, value: Option<&str>) -> Op
 pub(crate) fn window(options: &[Named<'_>]) -> Option<u8>
     ensures { result ≡ window_of (map option_said options.now) }
 {
-    let number = number_or(8, 1, 64, told(options, "window"))?;
+    let number = number_or(8, 1, 64, value_of(options, "window"))?;
     Some(number as u8)
 }
 
@@ -109,7 +111,7 @@ pub(crate) fn window(options: &[Named<'_>]) -> Option<u8>
 fn reach(options: &[Named<'_>]) -> Option<u16>
     ensures { result ≡ reach_of (map option_said options.now) }
 {
-    let number = number_or(32_767, 1, 32_767, told(options, "reach"))?;
+    let number = number_or(32_767, 1, 32_767, value_of(options, "reach"))?;
     Some(number as u16)
 }
 
@@ -118,7 +120,7 @@ fn reach(options: &[Named<'_>]) -> Option<u16>
 fn first(options: &[Named<'_>]) -> Option<Option<u16>>
     ensures { result ≡ first_of (map option_said options.now) }
 {
-    let Some(text) = told(options, "first") else {
+    let Some(text) = value_of(options, "first") else {
         return Some(None);
     };
     let number = within(text, 0, 65_535)?;
@@ -130,7 +132,7 @@ fn first(options: &[Named<'_>]) -> Option<Option<u16>>
 fn frames(options: &[Named<'_>]) -> Option<Option<u64>>
     ensures { result ≡ frames_of (map option_said options.now) }
 {
-    let Some(text) = told(options, "frames") else {
+    let Some(text) = value_of(options, "frames") else {
         return Some(None);
     };
     let number = within(text, 1, MOST_FRAMES)?;
@@ -142,7 +144,7 @@ fn frames(options: &[Named<'_>]) -> Option<Option<u64>>
 fn idle(options: &[Named<'_>]) -> Option<u32>
     ensures { result ≡ idle_of (map option_said options.now) }
 {
-    let number = number_or(50, 1, 1_000_000, told(options, "idle"))?;
+    let number = number_or(50, 1, 1_000_000, value_of(options, "idle"))?;
     Some(number as u32)
 }
 
@@ -151,20 +153,20 @@ fn idle(options: &[Named<'_>]) -> Option<u32>
 fn limit(options: &[Named<'_>]) -> Option<u32>
     ensures { result ≡ limit_of (map option_said options.now) }
 {
-    let number = number_or(4_294_967_295, 1, 4_294_967_295, told(options, "limit"))?;
+    let number = number_or(4_294_967_295, 1, 4_294_967_295, value_of(options, "limit"))?;
     Some(number as u32)
 }
 
 /// Which packets are read, for each command that reads packets.
-#[tactic(auto, unfolding(crate::specs::Asking::stretch_of))]
-pub(crate) fn told_stretch(options: &[Named<'_>]) -> Option<Stretch>
-    ensures { result ≡ stretch_of (map option_said options.now) }
+#[tactic(auto, unfolding(crate::specs::Asking::packets_of))]
+pub(crate) fn packets_of(options: &[Named<'_>]) -> Option<PacketOptions>
+    ensures { result ≡ packets_of (map option_said options.now) }
 {
     let window = window(options)?;
     let reach = reach(options)?;
     let first = first(options)?;
     let frames = frames(options)?;
-    Some(Stretch {
+    Some(PacketOptions {
         window,
         reach,
         first,
@@ -174,14 +176,14 @@ pub(crate) fn told_stretch(options: &[Named<'_>]) -> Option<Stretch>
 
 /// The same, and when a link has brought enough.
 #[tactic(auto, unfolding(crate::specs::Asking::reading_of))]
-pub(crate) fn told_reading(options: &[Named<'_>]) -> Option<Reading>
+pub(crate) fn reading_of(options: &[Named<'_>]) -> Option<ReadingOptions>
     ensures { result ≡ reading_of (map option_said options.now) }
 {
-    let stretch = told_stretch(options)?;
+    let packets = packets_of(options)?;
     let idle = idle(options)?;
     let limit = limit(options)?;
-    Some(Reading {
-        stretch,
+    Some(ReadingOptions {
+        packets,
         idle,
         limit,
     })
@@ -192,7 +194,7 @@ pub(crate) fn told_reading(options: &[Named<'_>]) -> Option<Reading>
 pub(crate) fn pace(options: &[Named<'_>]) -> Option<u32>
     ensures { result ≡ pace_of (map option_said options.now) }
 {
-    let number = number_or(0, 0, 10_000, told(options, "pace"))?;
+    let number = number_or(0, 0, 10_000, value_of(options, "pace"))?;
     Some(number as u32)
 }
 
@@ -201,7 +203,7 @@ pub(crate) fn pace(options: &[Named<'_>]) -> Option<u32>
 pub(crate) fn from(options: &[Named<'_>]) -> Option<u32>
     ensures { result ≡ from_of (map option_said options.now) }
 {
-    let number = number_or(0, 0, 1_000_000, told(options, "from"))?;
+    let number = number_or(0, 0, 1_000_000, value_of(options, "from"))?;
     Some(number as u32)
 }
 
@@ -210,18 +212,18 @@ pub(crate) fn from(options: &[Named<'_>]) -> Option<u32>
 pub(crate) fn to(alloc: Global, options: &[Named<'_>]) -> Result<Addresses, WordsFault>
     ensures { ParserGives result (to_of (map option_said options.now)) }
 {
-    match told(options, "to") {
+    match value_of(options, "to") {
         Some(text) => read_addresses(alloc, text),
         None => Ok(Addresses::new(alloc)),
     }
 }
 
 /// The streams that take their bytes from input.
-#[tactic(auto, unfolding(crate::specs::Asking::live_told))]
+#[tactic(auto, unfolding(crate::specs::Asking::live_option))]
 pub(crate) fn live(alloc: Global, options: &[Named<'_>]) -> Result<Live, WordsFault>
-    ensures { ParserGives result (live_told (map option_said options.now)) }
+    ensures { ParserGives result (live_option (map option_said options.now)) }
 {
-    match told(options, "live") {
+    match value_of(options, "live") {
         Some(text) => read_live(alloc, text),
         None => Ok(Live::none()),
     }

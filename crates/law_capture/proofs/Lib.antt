@@ -1,1 +1,1 @@
-pub mod CaptureFronts
+pub mod CapturePrefixes

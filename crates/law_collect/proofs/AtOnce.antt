@@ -8,10 +8,10 @@ use Rattle.dcp_collect.specs.declared.taken.Field.TheVariants.{Far}
 use Rattle.dcp_collect.specs.declared.taken.Taken.{Taken}
 use Rattle.dcp_collect.specs.declared.taken.Taken.TheVariants.{Kept, Repeated, Late, Refused, Inconsistent}
 use Rattle.dcp_collect.specs.Fragments.{suffice, of_packet}
-use Rattle.dcp_collect.specs.Reading.{Incoming, Read, Unread, Brings}
-use Rattle.dcp_collect.specs.State.{State, made, ready, ready_by, is_above, is_far, reached, answer_within, answer_at, answer, number_of, after_answer, after_take, after_item}
+use Rattle.dcp_collect.specs.Reading.{Incoming, DatagramContent, Unread, Brings}
+use Rattle.dcp_collect.specs.CollectorState.{CollectorState, made, ready, ready_by, is_above, is_far, reached, answer_within, answer_at, answer, number_of, after_answer, after_take, after_item}
 use Rattle.dcp_collect.specs.Numbers.{newer, end_of}
-use Rattle.dcp_collect.specs.Runs.{Item, CollectorGives, CollectorSteps}
+use Rattle.dcp_collect.specs.Runs.{CollectorItem, CollectorGives, CollectorSteps}
 use Rattle.dcp_collect.proofs.Lists.{all_insert, all_filter, all_weaker}
 use Rattle.law_collect.specs.Laws.{FewAtOnce}
 use Rattle.law_collect.proofs.Numbers.{one_nearest}
@@ -20,7 +20,7 @@ use Rattle.law_collect.proofs.Stays.{after_by, take_next}
 use Rattle.law_collect.proofs.Runs.{gives_given, gives_count, steps_reach}
 
 -- no number above the newest is kept, or was given
-pub record IsReached (window : ℕ) (c : State) : Type 0 where
+pub record IsReached (window : ℕ) (c : CollectorState) : Type 0 where
   pub window_is : c.window ≡ window
   pub no_end : c.end ≡ None
   pub below : c.next ≤ end_of None c.newest
@@ -28,7 +28,7 @@ pub record IsReached (window : ℕ) (c : State) : Type 0 where
 
 -- ---- it stays so
 
-reached_kept : (window : ℕ) (c : State) (n : ℤ) (incoming : Incoming) (a : Taken) → IsReached window c → IsReached window (after_answer c n incoming a)
+reached_kept : (window : ℕ) (c : CollectorState) (n : ℤ) (incoming : Incoming) (a : Taken) → IsReached window c → IsReached window (after_answer c n incoming a)
 reached_kept window c n incoming a h =
     after_by (IsReached window) c n incoming a h
     (λ m. record {
@@ -40,12 +40,12 @@ reached_kept window c n incoming a h =
           (all_weaker (λ f. reached c.newest f.number ≡ true) (λ f. reached (newer c.newest m) f.number ≡ true) (λ f r. reached_more c.newest m f.number r) c.kept h.kept);
     })
 
-pub reached_take : (window : ℕ) (c : State) (read : Read) → IsReached window c → IsReached window (after_take c read)
+pub reached_take : (window : ℕ) (c : CollectorState) (read : DatagramContent) → IsReached window c → IsReached window (after_take c read)
 reached_take window c (Unread field) h = h
 reached_take window c (Brings incoming) h = reached_kept window c (number_of c incoming) incoming (answer c (Brings incoming)) h
 
 -- what is given next is reached
-reached_next : (window : ℕ) (c : State) → IsReached window c → ready c ≡ true → reached c.newest c.next ≡ true
+reached_next : (window : ℕ) (c : CollectorState) → IsReached window c → ready c ≡ true → reached c.newest c.next ≡ true
 reached_next window c h r =
     ⊎_elim
     (λ t. numbered (λ f. reached c.newest f.number ≡ true) c.newest c.next (of_packet c.next c.kept) (λ f k. k)
@@ -53,7 +53,7 @@ reached_next window c h r =
     (λ k. reached_less c.newest c.next c.window k)
     (ready_why c h.no_end r)
 
-reached_item : (window : ℕ) (c : State) → IsReached window c → ready c ≡ true → IsReached window (after_item c)
+reached_item : (window : ℕ) (c : CollectorState) → IsReached window c → ready c ≡ true → IsReached window (after_item c)
 reached_item window c h r = record {
   window_is = h.window_is;
   no_end = h.no_end;
@@ -62,11 +62,11 @@ reached_item window c h r = record {
       (all_filter (λ f. reached c.newest f.number ≡ true) (λ f. not (eqb f.number c.next)) c.kept h.kept);
 }
 
-pub reached_gives : (window : ℕ) (items : List Item) (c d : State) → IsReached window c → CollectorGives c items d → IsReached window d
+pub reached_gives : (window : ℕ) (items : List CollectorItem) (c d : CollectorState) → IsReached window c → CollectorGives c items d → IsReached window d
 reached_gives window [] c d h g = subst (IsReached window) (sym g.1) h
 reached_gives window (item ∷ items) c d h g = reached_gives window items (after_item c) d (reached_item window c h g.0) g.2
 
-reached_steps : (window : ℕ) (datagrams : List (List ℕ)) (answers : List Taken) (given : List Item) (c d : State)
+reached_steps : (window : ℕ) (datagrams : List (List ℕ)) (answers : List Taken) (given : List CollectorItem) (c d : CollectorState)
     → IsReached window c → ready c ≡ false → CollectorSteps c datagrams answers given d → IsReached window d × (ready d ≡ false)
 reached_steps window [] [] given c d h quiet s = (subst (IsReached window) (sym s.1) h, ap ready s.1 ∙ quiet)
 reached_steps window [] (a ∷ answers) given c d h quiet s = absurd s
@@ -88,7 +88,7 @@ most_newer : (m : Option ℕ) (n : ℕ) → pos n <ℤ (pos (unwrap_or m 0) +ℤ
 most_newer None n l = omega (arith, ints, l)
 most_newer (Some m) n l = omega (arith, ints, l)
 
-most_after : (c : State) (n : ℤ) (incoming : Incoming) (a : Taken) → n <ℤ (pos (unwrap_or c.newest 0) +ℤ pos 32768)
+most_after : (c : CollectorState) (n : ℤ) (incoming : Incoming) (a : Taken) → n <ℤ (pos (unwrap_or c.newest 0) +ℤ pos 32768)
     → end_of None (after_answer c n incoming a).newest ≤ unwrap_or c.newest 0 + 32768
 most_after c (pos n) incoming Kept l = most_newer c.newest n l
 most_after c (negsuc n) incoming Kept l = most_same c.newest
@@ -97,7 +97,7 @@ most_after c n incoming Late l = most_same c.newest
 most_after c n incoming (Refused field) l = most_same c.newest
 most_after c n incoming (Inconsistent kept came) l = most_same c.newest
 
-most_take : (c : State) (read : Read) → end_of None (after_take c read).newest ≤ unwrap_or c.newest 0 + 32768
+most_take : (c : CollectorState) (read : DatagramContent) → end_of None (after_take c read).newest ≤ unwrap_or c.newest 0 + 32768
 most_take c (Unread field) = most_same c.newest
 most_take c (Brings incoming) =
     most_after c (number_of c incoming) incoming (answer c (Brings incoming))
@@ -105,7 +105,7 @@ most_take c (Brings incoming) =
 
 -- by the reach, where there is a newest number
 
-near_after : (c : State) (n : ℤ) (incoming : Incoming) (a : Taken) (m : ℕ) → c.newest ≡ Some m → n ≤ℤ pos (m + c.reach)
+near_after : (c : CollectorState) (n : ℤ) (incoming : Incoming) (a : Taken) (m : ℕ) → c.newest ≡ Some m → n ≤ℤ pos (m + c.reach)
     → end_of None (after_answer c n incoming a).newest ≤ m + c.reach + 1
 near_after c (pos n) incoming Kept m e l = subst (λ o. end_of None (newer o n) ≤ m + c.reach + 1) (sym e) (omega (arith, ints, l))
 near_after c (negsuc n) incoming Kept m e l = subst (λ o. end_of None o ≤ m + c.reach + 1) (sym e) (omega arith)
@@ -114,12 +114,12 @@ near_after c n incoming Late m e l = subst (λ o. end_of None o ≤ m + c.reach 
 near_after c n incoming (Refused field) m e l = subst (λ o. end_of None o ≤ m + c.reach + 1) (sym e) (omega arith)
 near_after c n incoming (Inconsistent kept came) m e l = subst (λ o. end_of None o ≤ m + c.reach + 1) (sym e) (omega arith)
 
-near_of : (c : State) (n : ℤ) (m : ℕ) → c.newest ≡ Some m → is_far c n ≡ false → n ≤ℤ pos (m + c.reach)
+near_of : (c : CollectorState) (n : ℤ) (m : ℕ) → c.newest ≡ Some m → is_far c n ≡ false → n ≤ℤ pos (m + c.reach)
 near_of c (negsuc n) m e near = omega (arith, ints)
 near_of c (pos n) m e near =
     let l = ltb-false (m + c.reach) n (subst (λ o. is_above o c.reach n ≡ false) e near) in omega (arith, ints, l)
 
-near_by : (c : State) (n : ℤ) (incoming : Incoming) (m : ℕ) (b : Bool) → is_far c n ≡ b → c.newest ≡ Some m
+near_by : (c : CollectorState) (n : ℤ) (incoming : Incoming) (m : ℕ) (b : Bool) → is_far c n ≡ b → c.newest ≡ Some m
     → end_of None (after_answer c n incoming (answer_at c n incoming.head)).newest ≤ m + c.reach + 1
 near_by c n incoming m true far e =
     subst (λ a. end_of None (after_answer c n incoming a).newest ≤ m + c.reach + 1)
@@ -127,11 +127,11 @@ near_by c n incoming m true far e =
     (subst (λ o. end_of None o ≤ m + c.reach + 1) (sym e) (omega arith))
 near_by c n incoming m false near e = near_after c n incoming (answer_at c n incoming.head) m e (near_of c n m e near)
 
-near_take : (c : State) (read : Read) (m : ℕ) → c.newest ≡ Some m → end_of None (after_take c read).newest ≤ m + c.reach + 1
+near_take : (c : CollectorState) (read : DatagramContent) (m : ℕ) → c.newest ≡ Some m → end_of None (after_take c read).newest ≤ m + c.reach + 1
 near_take c (Unread field) m e = subst (λ o. end_of None o ≤ m + c.reach + 1) (sym e) (omega arith)
 near_take c (Brings incoming) m e = near_by c (number_of c incoming) incoming m (is_far c (number_of c incoming)) refl e
 
-pub gives_newest : (items : List Item) (c d : State) → CollectorGives c items d → d.newest ≡ c.newest
+pub gives_newest : (items : List CollectorItem) (c d : CollectorState) → CollectorGives c items d → d.newest ≡ c.newest
 gives_newest [] c d g = ap (λ m. m.newest) g.1
 gives_newest (item ∷ items) c d g = gives_newest items (after_item c) d g.2
 
@@ -140,7 +140,7 @@ near : (m : Option ℕ) (n : ℕ) → 1 ≤ n → reached m n ≡ false → unwr
 near None n some e = some
 near (Some m) n some e = (let l = leb-false n m e in omega (arith, l))
 
-within : (window : ℕ) (c : State) → 1 ≤ window → IsReached window c → ready c ≡ false → unwrap_or c.newest 0 + 1 ≤ c.next + window
+within : (window : ℕ) (c : CollectorState) → 1 ≤ window → IsReached window c → ready c ≡ false → unwrap_or c.newest 0 + 1 ≤ c.next + window
 within window c some h quiet =
     subst (λ w. unwrap_or c.newest 0 + 1 ≤ c.next + w) h.window_is
     (near c.newest (c.next + c.window) (let w = h.window_is in omega (arith, w, some))

@@ -9,7 +9,7 @@ use Rattle.dcp_pft.specs.Head.{PftFragment, fragment_of as fragment_of_packet}
 use Rattle.dcp_pft.specs.Reading.{IsPft}
 use Rattle.dcp_pft.proofs.Fragments.{with_rs}
 use Rattle.dcp_pft.proofs.Payloads.{coded_payload_length, plain_payload_length, is_read_as_written}
-use Rattle.dcp_collect.specs.Reading.{Brings, IsRead, whole_packet, fragment_of}
+use Rattle.dcp_collect.specs.Reading.{Brings, IsReadAs, whole_packet, fragment_of}
 use Rattle.dcp_pft.specs.declared.carry.Carry.{Carry}
 use Rattle.dcp_pft.specs.declared.carry.Carry.TheVariants.{Plain, Pft}
 use Rattle.law_collect.specs.Delivery.{IsPacketWith, AreSent, sequence_at, IsDatagramAt, AreDelivered}
@@ -43,7 +43,7 @@ module _ (sequence0 : ℕ) (packets : List (List ℕ)) (pair : ℕ × ℕ) (data
         at = is.at;
         within = is.within;
         incoming = whole_packet packet.af is.packet;
-        is_read = subst (λ d. IsRead (Brings (whole_packet packet.af is.packet)) d) (sym is.carries) (inl (packet.af, packet.is_af, omega (arith, packet.small), refl));
+        is_read = subst (λ d. IsReadAs (Brings (whole_packet packet.af is.packet)) d) (sym is.carries) (inl (packet.af, packet.is_af, omega (arith, packet.small), refl));
         sequence = packet.seq;
         head = ap (head_of Plain is.packet) first;
         payload = refl;

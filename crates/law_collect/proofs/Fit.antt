@@ -6,11 +6,11 @@ use Rattle.std.proofs.Math.Seq.{drop-append_seam}
 use Rattle.drm_bits.specs.Bits.{IsBytes}
 use Rattle.dcp_pft.specs.Head.{head}
 use Rattle.dcp_collect.specs.declared.taken.Taken.{Taken}
-use Rattle.dcp_collect.specs.Reading.{Incoming, Read, Unread, Brings, IsIncoming, IsRead}
-use Rattle.dcp_collect.specs.State.{State, number_of, answer, after_take, ready, after_item, after_next}
-use Rattle.dcp_collect.specs.Runs.{Item, CollectorTakes, CollectorGives}
+use Rattle.dcp_collect.specs.Reading.{Incoming, DatagramContent, Unread, Brings, IsIncoming, IsReadAs}
+use Rattle.dcp_collect.specs.CollectorState.{CollectorState, number_of, answer, after_take, ready, after_item, after_next}
+use Rattle.dcp_collect.specs.Runs.{CollectorItem, CollectorTakes, CollectorGives}
 use Rattle.dcp_collect.proofs.Lists.{all_insert}
-use Rattle.law_collect.specs.Laws.{IsFit}
+use Rattle.law_collect.specs.Laws.{CollectorInvariant}
 use Rattle.law_collect.proofs.Stays.{after_by}
 use Rattle.law_collect.proofs.Ending.{bytes_filter}
 
@@ -28,33 +28,33 @@ payload_bytes incoming bytes are (inr (f, is, same)) =
     (bytes_behind (head f ++ to_be_bytes w16 is.spells.check) f.payload
     (subst IsBytes (is.spells.spelled) are))
 
-pub fit_after : (c : State) (incoming : Incoming) → IsFit c → IsBytes incoming.payload → IsFit (after_take c (Brings incoming))
+pub fit_after : (c : CollectorState) (incoming : Incoming) → CollectorInvariant c → IsBytes incoming.payload → CollectorInvariant (after_take c (Brings incoming))
 fit_after c incoming fit bytes =
-    after_by IsFit c (number_of c incoming) incoming (answer c (Brings incoming)) fit
+    after_by CollectorInvariant c (number_of c incoming) incoming (answer c (Brings incoming)) fit
     (λ m. (
       fit.0,
       all_insert (λ f. IsBytes f.payload) (record { number = m; head = incoming.head; payload = incoming.payload }) c.kept bytes fit.1,
     ))
 
-fit_read : (c : State) (read : Read) (bytes : List ℕ) → IsBytes bytes → IsRead read bytes → IsFit c → IsFit (after_take c read)
+fit_read : (c : CollectorState) (read : DatagramContent) (bytes : List ℕ) → IsBytes bytes → IsReadAs read bytes → CollectorInvariant c → CollectorInvariant (after_take c read)
 fit_read c (Unread field) bytes are is fit = fit
 fit_read c (Brings incoming) bytes are is fit = fit_after c incoming fit (payload_bytes incoming bytes are is)
 
 -- after a datagram
-pub fit_taken : (c d : State) (bytes : List ℕ) (a : Taken) → IsBytes bytes → CollectorTakes c bytes a d → IsFit c → IsFit d
-fit_taken c d bytes a are takes fit = subst IsFit (sym takes.after_is) (fit_read c takes.read bytes are takes.is_read fit)
+pub fit_taken : (c d : CollectorState) (bytes : List ℕ) (a : Taken) → IsBytes bytes → CollectorTakes c bytes a d → CollectorInvariant c → CollectorInvariant d
+fit_taken c d bytes a are takes fit = subst CollectorInvariant (sym takes.after_is) (fit_read c takes.read bytes are takes.is_read fit)
 
-fit_item : (c : State) → IsFit c → IsFit (after_item c)
+fit_item : (c : CollectorState) → CollectorInvariant c → CollectorInvariant (after_item c)
 fit_item c fit = (fit.0, bytes_filter (λ f. not (eqb f.number c.next)) c.kept fit.1)
 
-fit_by : (b : Bool) (c : State) → IsFit c → IsFit (if b then after_item c else c)
+fit_by : (b : Bool) (c : CollectorState) → CollectorInvariant c → CollectorInvariant (if b then after_item c else c)
 fit_by true c fit = fit_item c fit
 fit_by false c fit = fit
 
-pub fit_next : (c : State) → IsFit c → IsFit (after_next c)
+pub fit_next : (c : CollectorState) → CollectorInvariant c → CollectorInvariant (after_next c)
 fit_next c fit = fit_by (ready c) c fit
 
 -- after all that were ready
-pub fit_given : (items : List Item) (c d : State) → CollectorGives c items d → IsFit c → IsFit d
-fit_given [] c d gives fit = subst IsFit (sym gives.1) fit
+pub fit_given : (items : List CollectorItem) (c d : CollectorState) → CollectorGives c items d → CollectorInvariant c → CollectorInvariant d
+fit_given [] c d gives fit = subst CollectorInvariant (sym gives.1) fit
 fit_given (item ∷ items) c d gives fit = fit_given items (after_item c) d gives.2 (fit_item c fit)

@@ -9,7 +9,7 @@ pub mod After
 pub mod Take
 pub mod Next
 pub mod Going
-pub mod Based
+pub mod FirstPackets
 pub mod Whole
 pub mod Runs
 pub mod Unique

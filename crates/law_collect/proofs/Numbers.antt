@@ -2,7 +2,7 @@
 use Rattle.std.proofs.Common.{ℕ, ◌≡◌, ◌+◌, ◌*◌, ◌/◌, ◌%◌, refl, sym, ap, ◌∙◌, arith}
 use Rattle.std.specs.Prelude.{ℤ, pos, ◌+ℤ◌, ◌-ℤ◌, ◌*ℤ◌, ◌<ℤ◌}
 use Rattle.std.proofs.lemmas.Int.{ints, int_rem_euclid_is}
-use Rattle.dcp_collect.specs.State.{nearest}
+use Rattle.dcp_collect.specs.CollectorState.{nearest}
 use Rattle.law_collect.specs.Laws.{OneNearest}
 
 residue_is : (m : ℕ) (t k : ℤ) → pos m ≡ (t +ℤ (k *ℤ pos 65536)) → pos 0 <ℤ (t +ℤ pos 1) → t <ℤ pos 65536 → pos (m % 65536) ≡ t

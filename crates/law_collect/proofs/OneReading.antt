@@ -10,7 +10,7 @@ use Rattle.dcp_pft.proofs.Table.{one_first, none_first}
 use Rattle.dcp_pft.proofs.Answered.{none_holds, is_fragment_at, placed_at}
 use Rattle.dcp_collect.specs.declared.taken.Field.{Field}
 use Rattle.dcp_collect.specs.declared.taken.Field.TheVariants.{Sync, Af, Pft, Large, Far}
-use Rattle.dcp_collect.specs.Reading.{Incoming, Unread, Brings, whole_packet, fragment_of, IsIncoming, IsRead}
+use Rattle.dcp_collect.specs.Reading.{Incoming, Unread, Brings, whole_packet, fragment_of, IsIncoming, IsReadAs}
 use Rattle.law_collect.specs.Laws.{OneReading}
 
 -- a packet begins with AF
@@ -39,7 +39,7 @@ one_incoming a b bytes (inr (f, is, e)) (inl (af, is', few, e')) = absurd (apart
 one_incoming a b bytes (inr (f, is, e)) (inr (g, is', e')) = e' ∙ ap fragment_of (one_fragment f g bytes is is') ∙ sym e
 
 -- what brings a fragment or a packet is not refused
-no_refusal : (a : Incoming) (field : Field) (bytes : List ℕ) → IsIncoming a bytes → IsRead (Unread field) bytes → ⊥
+no_refusal : (a : Incoming) (field : Field) (bytes : List ℕ) → IsIncoming a bytes → IsReadAs (Unread field) bytes → ⊥
 no_refusal a Sync bytes (inl (af, is, few, e)) k = k.0 (af_begins af bytes is)
 no_refusal a Sync bytes (inr (f, is, e)) k = k.1 (pft_begins f bytes is)
 no_refusal a (Af fault) bytes (inl (af, is, few, e)) k = no_fault af fault bytes is k.1
@@ -50,7 +50,7 @@ no_refusal a Large bytes (inl (af, is, few, e)) k = absurd (omega (arith, few, k
 no_refusal a Large bytes (inr (f, is, e)) k = apart bytes (af_begins k.0 bytes k.1) (pft_begins f bytes is)
 no_refusal a Far bytes is k = k
 
-one_refusal : (a b : Field) (bytes : List ℕ) → IsRead (Unread a) bytes → IsRead (Unread b) bytes → b ≡ a
+one_refusal : (a b : Field) (bytes : List ℕ) → IsReadAs (Unread a) bytes → IsReadAs (Unread b) bytes → b ≡ a
 one_refusal Sync Sync bytes h k = refl
 one_refusal Sync (Af g) bytes h k = absurd (h.0 k.0)
 one_refusal Sync (Pft g) bytes h k = absurd (h.1 k.0)

@@ -2,29 +2,29 @@
 use Rattle.std.proofs.Common.{ℕ, ◌≡◌, ◌+◌, true, false, List, [], ◌∷◌, ◌++◌, length, refl, sym, ap, ◌∙◌, append_assoc, length-append, subst, arith}
 use Rattle.std.proofs.lemmas.List.{append-nil}
 use Rattle.dcp_collect.specs.declared.taken.Taken.{Taken}
-use Rattle.dcp_collect.specs.State.{State, ready, after_item}
-use Rattle.dcp_collect.specs.Runs.{Item, IsItem, CollectorTakes, CollectorGives, CollectorSteps}
-use Rattle.law_collect.specs.Laws.{Given, StepsJoin, StepsPart, StepsCount}
+use Rattle.dcp_collect.specs.CollectorState.{CollectorState, ready, after_item}
+use Rattle.dcp_collect.specs.Runs.{CollectorItem, IsItem, CollectorTakes, CollectorGives, CollectorSteps}
+use Rattle.law_collect.specs.Laws.{GivesSoFar, StepsJoin, StepsPart, StepsCount}
 use Rattle.law_collect.proofs.Stays.{take_next, take_reach}
 
 -- one item more
-pub given_more : (items : List Item) (c d : State) (item : Item)
-    → Given c items d → ready d ≡ true → IsItem d item → Given c (items ++ item ∷ []) (after_item d)
+pub given_more : (items : List CollectorItem) (c d : CollectorState) (item : CollectorItem)
+    → GivesSoFar c items d → ready d ≡ true → IsItem d item → GivesSoFar c (items ++ item ∷ []) (after_item d)
 given_more [] c d item g r is = (ap ready (sym g) ∙ r, subst (λ x. IsItem x item) g is, ap after_item g)
 given_more (first ∷ items) c d item g r is = (g.0, g.1, given_more items (after_item c) d item g.2 r is)
 
 -- all that was ready
-pub given_all : (items : List Item) (c d : State) → Given c items d → ready d ≡ false → CollectorGives c items d
+pub given_all : (items : List CollectorItem) (c d : CollectorState) → GivesSoFar c items d → ready d ≡ false → CollectorGives c items d
 given_all [] c d g r = (ap ready (sym g) ∙ r, g)
 given_all (first ∷ items) c d g r = (g.0, g.1, given_all items (after_item c) d g.2 r)
 
 -- what is given so far, and then all that is left
-pub gives_after : (items more : List Item) (c d e : State) → Given c items d → CollectorGives d more e → CollectorGives c (items ++ more) e
-gives_after [] more c d e gives rest = subst (λ (s : State). CollectorGives s more e) gives rest
+pub gives_after : (items more : List CollectorItem) (c d e : CollectorState) → GivesSoFar c items d → CollectorGives d more e → CollectorGives c (items ++ more) e
+gives_after [] more c d e gives rest = subst (λ (s : CollectorState). CollectorGives s more e) gives rest
 gives_after (item ∷ items) more c d e gives rest = (gives.0, gives.1, gives_after items more (after_item c) d e gives.2 rest)
 
 -- a whole giving is a giving so far, after which nothing is ready
-pub gives_given : (items : List Item) (c d : State) → CollectorGives c items d → Given c items d × (ready d ≡ false)
+pub gives_given : (items : List CollectorItem) (c d : CollectorState) → CollectorGives c items d → GivesSoFar c items d × (ready d ≡ false)
 gives_given [] c d g = (g.1, ap ready g.1 ∙ g.0)
 gives_given (first ∷ items) c d g =
     let rest = gives_given items (after_item c) d g.2 in
@@ -47,12 +47,12 @@ steps_join c mid after (datagram ∷ before) later (a ∷ answers) answers' give
 )
 
 -- one datagram
-pub steps_one : (c kept after : State) (datagram : List ℕ) (a : Taken) (now : List Item)
+pub steps_one : (c kept after : CollectorState) (datagram : List ℕ) (a : Taken) (now : List CollectorItem)
     → CollectorTakes c datagram a kept → CollectorGives kept now after → CollectorSteps c (datagram ∷ []) (a ∷ []) now after
 steps_one c kept after datagram a now takes gives = (now, [], kept, after, takes, gives, (refl, refl), sym (append-nil now))
 
 -- one datagram more, and what was ready after it
-pub steps_more : (datagrams : List (List ℕ)) (answers : List Taken) (given now : List Item) (c d kept after : State) (datagram : List ℕ) (a : Taken)
+pub steps_more : (datagrams : List (List ℕ)) (answers : List Taken) (given now : List CollectorItem) (c d kept after : CollectorState) (datagram : List ℕ) (a : Taken)
     → CollectorSteps c datagrams answers given d → CollectorTakes d datagram a kept → CollectorGives kept now after
     → CollectorSteps c (datagrams ++ datagram ∷ []) (answers ++ a ∷ []) (given ++ now) after
 steps_more datagrams answers given now c d kept after datagram a steps takes gives =
@@ -62,7 +62,7 @@ pub steps_part : StepsPart
 steps_part c after [] later answers given s = (c, [], answers, [], given, (refl, refl), s, refl, refl)
 steps_part c after (datagram ∷ before) later [] given s = absurd s
 steps_part c after (datagram ∷ before) later (a ∷ answers) given (now, more, kept, next, takes, gives, steps, are) =
-    let (mid, first, last, early, late, front, back, told, items) = steps_part next after before later answers more steps in (
+    let (mid, first, last, early, late, front, back, answers_are, items) = steps_part next after before later answers more steps in (
       mid,
       a ∷ first,
       last,
@@ -70,24 +70,24 @@ steps_part c after (datagram ∷ before) later (a ∷ answers) given (now, more,
       late,
       (now, early, kept, next, takes, gives, front, refl),
       back,
-      ap (λ l. a ∷ l) told,
+      ap (λ l. a ∷ l) answers_are,
       are ∙ ap (λ l. now ++ l) items ∙ sym (append_assoc now early late),
     )
 
-pub gives_count : (items : List Item) (c d : State) → CollectorGives c items d → d.next ≡ c.next + length items
+pub gives_count : (items : List CollectorItem) (c d : CollectorState) → CollectorGives c items d → d.next ≡ c.next + length items
 gives_count [] c d g = ap (λ m. m.next) g.1 ∙ omega arith
 gives_count (first ∷ items) c d g = gives_count items (after_item c) d g.2 ∙ omega arith
 
 -- ---- the reach stays as it is
 
-pub gives_reach : (items : List Item) (c d : State) → CollectorGives c items d → d.reach ≡ c.reach
+pub gives_reach : (items : List CollectorItem) (c d : CollectorState) → CollectorGives c items d → d.reach ≡ c.reach
 gives_reach [] c d g = ap (λ m. m.reach) g.1
 gives_reach (first ∷ items) c d g = gives_reach items (after_item c) d g.2
 
-pub takes_reach : (c kept : State) (datagram : List ℕ) (a : Taken) → CollectorTakes c datagram a kept → kept.reach ≡ c.reach
+pub takes_reach : (c kept : CollectorState) (datagram : List ℕ) (a : Taken) → CollectorTakes c datagram a kept → kept.reach ≡ c.reach
 takes_reach c kept datagram a takes = ap (λ m. m.reach) takes.after_is ∙ take_reach c takes.read
 
-pub steps_reach : (c d : State) (datagrams : List (List ℕ)) (answers : List Taken) (given : List Item) → CollectorSteps c datagrams answers given d → d.reach ≡ c.reach
+pub steps_reach : (c d : CollectorState) (datagrams : List (List ℕ)) (answers : List Taken) (given : List CollectorItem) → CollectorSteps c datagrams answers given d → d.reach ≡ c.reach
 steps_reach c d [] [] given s = ap (λ m. m.reach) s.1
 steps_reach c d [] (a ∷ answers) given s = absurd s
 steps_reach c d (datagram ∷ datagrams) [] given s = absurd s

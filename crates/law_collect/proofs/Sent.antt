@@ -6,9 +6,9 @@ use Rattle.dcp_pft.specs.declared.shape.Shape.{Shape}
 use Rattle.dcp_pft.specs.Coding.{IsParityOf, payload_of}
 use Rattle.dcp_pft.specs.Loss.{is_recoverable}
 use Rattle.dcp_collect.specs.declared.head.Head.{Head}
-use Rattle.dcp_collect.specs.Fragments.{Fragment, agree, shape_by, suffice}
+use Rattle.dcp_collect.specs.Fragments.{NumberedFragment, agree, shape_by, suffice}
 use Rattle.dcp_collect.proofs.Ascending.{IsAscending}
-use Rattle.dcp_collect.specs.Reading.{Incoming, Brings, IsRead}
+use Rattle.dcp_collect.specs.Reading.{Incoming, Brings, IsReadAs}
 use Rattle.dcp_collect.specs.Decoding.{IsDecoded}
 use Rattle.dcp_pft.specs.declared.carry.Carry.{Carry}
 use Rattle.dcp_pft.specs.declared.carry.Carry.TheVariants.{Plain, Pft}
@@ -42,7 +42,7 @@ abbrev pub datagrams_of : Carry → List ℕ → ℕ
 datagrams_of carry packet = (shape_under carry (length packet)).count
 
 -- a fragment of this packet
-abbrev pub IsOf : Carry → List ℕ → Fragment → Type 0
+abbrev pub IsOf : Carry → List ℕ → NumberedFragment → Type 0
 IsOf carry packet f =
     (f.head.index < datagrams_of carry packet)
     × (f.head ≡ head_of carry packet f.head.index)
@@ -57,8 +57,8 @@ pub record IsCut (carry : Carry) (packet : List ℕ) : Type 0 where
   pub same_shape : (i : ℕ) (kept : ℕ → Bool) → i < datagrams_of carry packet
       → is_recoverable (shape_by (head_of carry packet i)) kept ≡ is_recoverable (shape_under carry (length packet)) kept
   pub some_needed : is_recoverable (shape_under carry (length packet)) (λ i. false) ≡ false
-  pub decoded : (fs : List Fragment) → AllByRecursion (IsOf carry packet) fs → IsAscending fs → suffice fs ≡ true → IsDecoded fs packet
-  pub decoded_only : (fs : List Fragment) (bytes : List ℕ) → AllByRecursion (IsOf carry packet) fs → IsAscending fs → suffice fs ≡ true
+  pub decoded : (fs : List NumberedFragment) → AllByRecursion (IsOf carry packet) fs → IsAscending fs → suffice fs ≡ true → IsDecoded fs packet
+  pub decoded_only : (fs : List NumberedFragment) (bytes : List ℕ) → AllByRecursion (IsOf carry packet) fs → IsAscending fs → suffice fs ≡ true
       → IsDecoded fs bytes → bytes ≡ packet
 
 -- a pair's datagram, as it is read
@@ -67,7 +67,7 @@ pub record BringsPair (carry : Carry) (sequence0 : ℕ) (packets : List (List �
   pub at : slice_get packets pair.0 ≡ Some packet
   pub within : pair.1 < datagrams_of carry packet
   pub incoming : Incoming
-  pub is_read : IsRead (Brings incoming) datagram
+  pub is_read : IsReadAs (Brings incoming) datagram
   pub sequence : incoming.sequence ≡ sequence_at sequence0 pair.0
   pub head : incoming.head ≡ head_of carry packet pair.1
   pub payload : IsPayload carry packet pair.1 incoming.payload

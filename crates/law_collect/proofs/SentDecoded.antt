@@ -12,7 +12,7 @@ use Rattle.dcp_pft.proofs.Shapes.{HasCode, has_code, has_none}
 use Rattle.dcp_pft.proofs.Fragments.{with_rs, chunks_by, chunks_with, parities_with}
 use Rattle.dcp_pft.proofs.OneFragment.{HasShortChunks, one_parity_of}
 use Rattle.dcp_collect.specs.declared.head.Head.{Head}
-use Rattle.dcp_collect.specs.Fragments.{Fragment, has_index, shape_by, suffice}
+use Rattle.dcp_collect.specs.Fragments.{NumberedFragment, has_index, shape_by, suffice}
 use Rattle.dcp_collect.proofs.Ascending.{IsAscending}
 use Rattle.dcp_collect.specs.Decoding.{IsDecoded, HasItsBytes, joined}
 use Rattle.dcp_pft.specs.declared.carry.Carry.TheVariants.{Plain}
@@ -23,23 +23,23 @@ use Rattle.law_collect.proofs.PlainPieces.{IsPiece, all_pieces}
 use Rattle.law_collect.proofs.CodedChunks.{coded_long, byte_at_place, unfilled}
 
 -- a fragment of a packet that is cut in this shape
-abbrev pub IsPart : Shape → List ℕ → Fragment → Type 0
+abbrev pub IsPart : Shape → List ℕ → NumberedFragment → Type 0
 IsPart shape packet f =
     (f.head.index < shape.count)
     × (f.head ≡ cut_head shape (length packet) f.head.index)
     × ((parity : List ℕ) × IsParityOf shape packet parity × (f.payload ≡ payload_of shape packet parity f.head.index))
 
 -- the fragment with another head
-abbrev headed : Fragment → Head → Fragment
+abbrev headed : NumberedFragment → Head → NumberedFragment
 headed f head = record { number = f.number; head = head; payload = f.payload }
 
 -- its head, with the code told beside it
-part_head : (shape : Shape) (o : Option Rs) (packet : List ℕ) (f : Fragment) → shape.rs ≡ o → IsPart shape packet f
+part_head : (shape : Shape) (o : Option Rs) (packet : List ℕ) (f : NumberedFragment) → shape.rs ≡ o → IsPart shape packet f
     → f.head ≡ cut_head (with_rs shape o) (length packet) f.head.index
 part_head shape o packet f is part = subst (λ (o : Option Rs). f.head ≡ cut_head (with_rs shape o) (length packet) f.head.index) is part.1
 
 -- the first one tells whether they suffice
-sufficient : (shape : Shape) (packet : List ℕ) (f : Fragment) (fs : List Fragment) → IsPart shape packet f → suffice (f ∷ fs) ≡ true
+sufficient : (shape : Shape) (packet : List ℕ) (f : NumberedFragment) (fs : List NumberedFragment) → IsPart shape packet f → suffice (f ∷ fs) ≡ true
     → is_recoverable shape (has_index (f ∷ fs)) ≡ true
 sufficient shape packet f fs part enough =
     sym (cut_same_shape shape (length packet) f.head.index (has_index (f ∷ fs)))
@@ -50,12 +50,12 @@ all_needed : (shape : Shape) (kept : ℕ → Bool) → shape.rs ≡ None → is_
 unfolding is_recoverable
 all_needed shape kept none enough = subst (λ (o : Option Rs). is_recoverable (with_rs shape o) kept ≡ true) none enough
 
-piece_of : (shape : Shape) (packet : List ℕ) → shape.rs ≡ None → (f : Fragment) → IsPart shape packet f → IsPiece shape.count shape.piece packet f
+piece_of : (shape : Shape) (packet : List ℕ) → shape.rs ≡ None → (f : NumberedFragment) → IsPart shape packet f → IsPiece shape.count shape.piece packet f
 piece_of shape packet none f part =
     (part.0, part.2.2 ∙ ap (λ (o : Option Rs). payload_of (with_rs shape o) packet part.2.0 f.head.index) none)
 
 plain_decoded : (shape : Shape) (packet : List ℕ) → IsShapeOf (length packet) shape → shape.rs ≡ None
-    → (fs : List Fragment) → AllByRecursion (IsPart shape packet) fs → IsAscending fs → suffice fs ≡ true → IsDecoded fs packet
+    → (fs : List NumberedFragment) → AllByRecursion (IsPart shape packet) fs → IsAscending fs → suffice fs ≡ true → IsDecoded fs packet
 plain_decoded shape packet is none [] parts rise enough = absurd (let e : false ≡ true = enough in cc)
 plain_decoded shape packet is none (f ∷ fs) parts rise enough =
     let all = all_needed shape (has_index (f ∷ fs)) none (sufficient shape packet f fs parts.0 enough) in
@@ -75,7 +75,7 @@ module _ (shape : Shape) (rs : Rs) (packet : List ℕ) (is : IsShapeOf (length p
   whole = ap (λ (n : ℕ). n * rs.k) (sym (chunks_with shape rs has)) ∙ here.whole
 
   -- every one has its bytes of the same chunks
-  has_bytes : (parity : List ℕ) → IsParityOf shape packet parity → (f : Fragment) → IsPart shape packet f
+  has_bytes : (parity : List ℕ) → IsParityOf shape packet parity → (f : NumberedFragment) → IsPart shape packet f
       → HasItsBytes shape.count (coded (chunks_by shape rs) rs.k (filled rs packet) parity) f
   has_bytes parity is_parity f part place below residue =
       let bytes : List ℕ = coded (chunks_by shape rs) rs.k (filled rs packet) parity in
@@ -89,7 +89,7 @@ module _ (shape : Shape) (rs : Rs) (packet : List ℕ) (is : IsShapeOf (length p
       byte_at_place shape.count f.head.index shape.piece place bytes small below residue
       ∙ ap (λ (l : List ℕ). byte_or_zero l (place / shape.count)) (sym payload)
 
-  coded_decoded : (fs : List Fragment) → AllByRecursion (IsPart shape packet) fs → IsAscending fs → suffice fs ≡ true → IsDecoded fs packet
+  coded_decoded : (fs : List NumberedFragment) → AllByRecursion (IsPart shape packet) fs → IsAscending fs → suffice fs ≡ true → IsDecoded fs packet
   coded_decoded [] parts rise enough = absurd (let e : false ≡ true = enough in cc)
   coded_decoded (f ∷ fs) parts rise enough =
       let parity : List ℕ = parts.0.2.0 in
@@ -107,16 +107,16 @@ module _ (shape : Shape) (rs : Rs) (packet : List ℕ) (is : IsShapeOf (length p
 
 -- whether there is a code or not
 decoded_by : (shape : Shape) (o : Option Rs) (packet : List ℕ) → IsShapeOf (length packet) shape → shape.rs ≡ o
-    → (fs : List Fragment) → AllByRecursion (IsPart shape packet) fs → IsAscending fs → suffice fs ≡ true → IsDecoded fs packet
+    → (fs : List NumberedFragment) → AllByRecursion (IsPart shape packet) fs → IsAscending fs → suffice fs ≡ true → IsDecoded fs packet
 decoded_by shape None packet is none = plain_decoded shape packet is none
 decoded_by shape (Some rs) packet is has = coded_decoded shape rs packet is has
 
 pub cut_decoded : (shape : Shape) (packet : List ℕ) → IsShapeOf (length packet) shape
-    → (fs : List Fragment) → AllByRecursion (IsPart shape packet) fs → IsAscending fs → suffice fs ≡ true → IsDecoded fs packet
+    → (fs : List NumberedFragment) → AllByRecursion (IsPart shape packet) fs → IsAscending fs → suffice fs ≡ true → IsDecoded fs packet
 cut_decoded shape packet is = decoded_by shape shape.rs packet is refl
 
 -- a packet that was not cut
-pub whole_decoded : (packet : List ℕ) (fs : List Fragment) → AllByRecursion (IsOf Plain packet) fs → IsAscending fs → suffice fs ≡ true → IsDecoded fs packet
+pub whole_decoded : (packet : List ℕ) (fs : List NumberedFragment) → AllByRecursion (IsOf Plain packet) fs → IsAscending fs → suffice fs ≡ true → IsDecoded fs packet
 whole_decoded packet [] are rise enough = absurd (let e : false ≡ true = enough in cc)
 whole_decoded packet (f ∷ []) are rise enough =
     let P : Head → Type 0 = λ h. IsDecoded (headed f h ∷ []) packet in

@@ -27,8 +27,8 @@ item_made : (carry : Carry) (packet : List ℕ) (q : ℕ) (kept : ℕ → Bool) 
 item_made carry packet q kept enough = rw enough
 
 pub in_time : InTime
-in_time carry sequence0 window packets base pairs q packet sent at enough =
-    let kept : ℕ → Bool = got window base pairs q in
-    let is = sent_at carry sequence0 packets sent (base +ℤ pos q) packet at in
+in_time carry sequence0 window packets first_packet pairs q packet sent at enough =
+    let kept : ℕ → Bool = got window first_packet pairs q in
+    let is = sent_at carry sequence0 packets sent (first_packet +ℤ pos q) packet at in
     ap (λ o. item_by carry o q kept) at
     ∙ item_made carry packet q kept (recoverable_by carry is.0 packet kept sent.carried is.1 enough)

@@ -5,13 +5,13 @@ use Rattle.std.specs.List.{AllByRecursion, find}
 use Rattle.std.proofs.lemmas.Bool.{eqb-true, eq-eqb, ne_eqb, leb-true, ltb-true, ltb-false, cases_eq, and_parts, and_from, and_right, or_cases, or_parts, or_left, or_right}
 use Rattle.dcp_pft.specs.Loss.{size}
 use Rattle.dcp_collect.specs.declared.taken.Taken.TheVariants.{Repeated, Late}
-use Rattle.dcp_collect.specs.Fragments.{Fragment, agree, has_index, suffice, of_packet}
+use Rattle.dcp_collect.specs.Fragments.{NumberedFragment, agree, has_index, suffice, of_packet}
 use Rattle.dcp_collect.specs.Reading.{Incoming}
-use Rattle.dcp_collect.specs.State.{State, reached, is_far, is_late, answer_by, answer_at, insert_kept, kept_at, after_answer}
+use Rattle.dcp_collect.specs.CollectorState.{CollectorState, reached, is_far, is_late, answer_by, answer_at, insert_kept, kept_at, after_answer}
 use Rattle.dcp_collect.specs.Numbers.{newer, end_of}
 use Rattle.dcp_pft.specs.declared.carry.Carry.{Carry}
 use Rattle.law_collect.specs.Delivery.{packet_at, number, is_number, got, newer_number, newest_of}
-use Rattle.law_collect.specs.Laws.{IsRight}
+use Rattle.law_collect.specs.Laws.{IsTakenWell}
 use Rattle.law_collect.proofs.Sent.{datagrams_of, head_of, IsPayload, IsOf, IsCut}
 use Rattle.dcp_collect.proofs.Answering.{not_far}
 use Rattle.dcp_collect.proofs.Sets.{size_more}
@@ -22,57 +22,57 @@ use Rattle.law_collect.proofs.Packets.{IsSent, those_of, none_disagrees}
 use Rattle.law_collect.proofs.Reached.{newer_same, reached_more, reached_now, reached_less, below_end}
 use Rattle.law_collect.proofs.After.{IsKept, IsAfter, reached_by, sent_all, closed_same, unchanged}
 
-pair_is : (base : ℤ) (pair : ℕ × ℕ) (n q i : ℕ) → number base pair ≡ pos n → is_pair base pair q i ≡ true → (n ≡ q) × (pair.1 ≡ i)
-pair_is base pair n q i e t =
-    let p = and_parts (is_number (number base pair) q) (eqb pair.1 i) t in
+pair_is : (first_packet : ℤ) (pair : ℕ × ℕ) (n q i : ℕ) → number first_packet pair ≡ pos n → is_pair first_packet pair q i ≡ true → (n ≡ q) × (pair.1 ≡ i)
+pair_is first_packet pair n q i e t =
+    let p = and_parts (is_number (number first_packet pair) q) (eqb pair.1 i) t in
     let m : is_number (pos n) q ≡ true = subst (λ z. is_number z q ≡ true) e p.0 in
     (eqb-true n q m, eqb-true pair.1 i p.1)
 
-is_pair_at : (base : ℤ) (pair : ℕ × ℕ) (n q i : ℕ) → number base pair ≡ pos n → n ≡ q → pair.1 ≡ i → is_pair base pair q i ≡ true
-is_pair_at base pair n q i e a b =
-    and_from (is_number (number base pair) q) (eqb pair.1 i) (subst (λ z. is_number z q ≡ true) (sym e) (eq-eqb n q a)) (eq-eqb pair.1 i b)
+is_pair_at : (first_packet : ℤ) (pair : ℕ × ℕ) (n q i : ℕ) → number first_packet pair ≡ pos n → n ≡ q → pair.1 ≡ i → is_pair first_packet pair q i ≡ true
+is_pair_at first_packet pair n q i e a b =
+    and_from (is_number (number first_packet pair) q) (eqb pair.1 i) (subst (λ z. is_number z q ≡ true) (sym e) (eq-eqb n q a)) (eq-eqb pair.1 i b)
 
-no_pair : (base : ℤ) (pair : ℕ × ℕ) (n q i : ℕ) → number base pair ≡ negsuc n → is_pair base pair q i ≡ true → ⊥
-no_pair base pair n q i e t =
-    let p = and_parts (is_number (number base pair) q) (eqb pair.1 i) t in
+no_pair : (first_packet : ℤ) (pair : ℕ × ℕ) (n q i : ℕ) → number first_packet pair ≡ negsuc n → is_pair first_packet pair q i ≡ true → ⊥
+no_pair first_packet pair n q i e t =
+    let p = and_parts (is_number (number first_packet pair) q) (eqb pair.1 i) t in
     let m : false ≡ true = subst (λ z. is_number z q ≡ true) e p.0 in
     cc
 
 -- a pair before number 0
-pub before_all : (carry : Carry) (packets : List (List ℕ)) (window : ℕ) (base : ℤ) (pairs : List (ℕ × ℕ)) (c : State) (h : IsAfter carry packets window base pairs c)
-    (pair : ℕ × ℕ) (n : ℕ) → number base pair ≡ negsuc n → IsAfter carry packets window base (pairs ++ pair ∷ []) c
-before_all carry packets window base pairs c h pair n e =
-    unchanged carry packets window base pairs c h pair
-    (newest_last base None pairs pair ∙ ap (newer_number (newest_of base None pairs)) e)
-    (λ q l. inr (λ i t. ⊎_elim (λ g. g) (λ k. absurd (no_pair base pair n q i e k.1)) (got_last window base pairs pair q i t)))
+pub before_all : (carry : Carry) (packets : List (List ℕ)) (window : ℕ) (first_packet : ℤ) (pairs : List (ℕ × ℕ)) (c : CollectorState) (h : IsAfter carry packets window first_packet pairs c)
+    (pair : ℕ × ℕ) (n : ℕ) → number first_packet pair ≡ negsuc n → IsAfter carry packets window first_packet (pairs ++ pair ∷ []) c
+before_all carry packets window first_packet pairs c h pair n e =
+    unchanged carry packets window first_packet pairs c h pair
+    (newest_last first_packet None pairs pair ∙ ap (newer_number (newest_of first_packet None pairs)) e)
+    (λ q l. inr (λ i t. ⊎_elim (λ g. g) (λ k. absurd (no_pair first_packet pair n q i e k.1)) (got_last window first_packet pairs pair q i t)))
 
 -- a pair whose number isn't above the newest, and that adds nothing to what was got of it
-old_number : (carry : Carry) (packets : List (List ℕ)) (window : ℕ) (base : ℤ) (pairs : List (ℕ × ℕ)) (c : State) (h : IsAfter carry packets window base pairs c)
-    (pair : ℕ × ℕ) (n : ℕ) → number base pair ≡ pos n → reached c.newest n ≡ true
-    → (c.next ≤ n → (suffice (of_packet n c.kept) ≡ true) ⊎ ((closed window base pairs n ≡ true) ⊎ (got window base pairs n pair.1 ≡ true)))
-    → IsAfter carry packets window base (pairs ++ pair ∷ []) c
-old_number carry packets window base pairs c h pair n e r why =
-    unchanged carry packets window base pairs c h pair
-    (newest_last base None pairs pair ∙ ap (newer_number (newest_of base None pairs)) e
-    ∙ newer_same (newest_of base None pairs) n (subst (λ m. reached m n ≡ true) h.newest_is r))
+old_number : (carry : Carry) (packets : List (List ℕ)) (window : ℕ) (first_packet : ℤ) (pairs : List (ℕ × ℕ)) (c : CollectorState) (h : IsAfter carry packets window first_packet pairs c)
+    (pair : ℕ × ℕ) (n : ℕ) → number first_packet pair ≡ pos n → reached c.newest n ≡ true
+    → (c.next ≤ n → (suffice (of_packet n c.kept) ≡ true) ⊎ ((closed window first_packet pairs n ≡ true) ⊎ (got window first_packet pairs n pair.1 ≡ true)))
+    → IsAfter carry packets window first_packet (pairs ++ pair ∷ []) c
+old_number carry packets window first_packet pairs c h pair n e r why =
+    unchanged carry packets window first_packet pairs c h pair
+    (newest_last first_packet None pairs pair ∙ ap (newer_number (newest_of first_packet None pairs)) e
+    ∙ newer_same (newest_of first_packet None pairs) n (subst (λ m. reached m n ≡ true) h.newest_is r))
     (λ q l. ⊎_elim
     (λ same. ⊎_elim (λ s. inl (subst (λ k. suffice (of_packet k c.kept) ≡ true) same s))
     (λ rest. inr (λ i t. ⊎_elim (λ g. g)
-    (λ k. let p = pair_is base pair n q i e k.1 in
-    ⊎_elim (λ cl. let x : closed window base pairs q ≡ true = subst (λ k. closed window base pairs k ≡ true) same cl in let y = k.0 in cc)
-    (λ g. subst (λ j. got window base pairs q j ≡ true) p.1 (subst (λ k. got window base pairs k pair.1 ≡ true) same g)) rest)
-    (got_last window base pairs pair q i t)))
+    (λ k. let p = pair_is first_packet pair n q i e k.1 in
+    ⊎_elim (λ cl. let x : closed window first_packet pairs q ≡ true = subst (λ k. closed window first_packet pairs k ≡ true) same cl in let y = k.0 in cc)
+    (λ g. subst (λ j. got window first_packet pairs q j ≡ true) p.1 (subst (λ k. got window first_packet pairs k pair.1 ≡ true) same g)) rest)
+    (got_last window first_packet pairs pair q i t)))
     (why (subst (λ k. c.next ≤ k) (sym same) l)))
-    (λ other. inr (λ i t. ⊎_elim (λ g. g) (λ k. absurd (other (pair_is base pair n q i e k.1).0)) (got_last window base pairs pair q i t)))
+    (λ other. inr (λ i t. ⊎_elim (λ g. g) (λ k. absurd (other (pair_is first_packet pair n q i e k.1).0)) (got_last window first_packet pairs pair q i t)))
     (cases_eq n q))
 
 -- the fragment that comes in a datagram
-abbrev pub fragment : ℕ → Incoming → Fragment
+abbrev pub fragment : ℕ → Incoming → NumberedFragment
 fragment n incoming = record { number = n; head = incoming.head; payload = incoming.payload }
 
-module _ (carry : Carry) (packets : List (List ℕ)) (window : ℕ) (base : ℤ) (pairs : List (ℕ × ℕ)) (c : State)
-    (h : IsAfter carry packets window base pairs c) (pair : ℕ × ℕ) (incoming : Incoming) (n : ℕ) (packet : List ℕ) (cut : IsCut carry packet) (w : 1 ≤ window) (below : c.next ≤ end_of None c.newest)
-    (num : number base pair ≡ pos n) (there : packet_at packets (base +ℤ pos n) ≡ Some packet) (in' : pair.1 < datagrams_of carry packet)
+module _ (carry : Carry) (packets : List (List ℕ)) (window : ℕ) (first_packet : ℤ) (pairs : List (ℕ × ℕ)) (c : CollectorState)
+    (h : IsAfter carry packets window first_packet pairs c) (pair : ℕ × ℕ) (incoming : Incoming) (n : ℕ) (packet : List ℕ) (cut : IsCut carry packet) (w : 1 ≤ window) (below : c.next ≤ end_of None c.newest)
+    (num : number first_packet pair ≡ pos n) (there : packet_at packets (first_packet +ℤ pos n) ≡ Some packet) (in' : pair.1 < datagrams_of carry packet)
     (head_is : incoming.head ≡ head_of carry packet pair.1) (payload_is : IsPayload carry packet pair.1 incoming.payload) where
   index_is : incoming.head.index ≡ pair.1
   index_is = ap (λ x. x.index) head_is ∙ cut.indices pair.1 in'
@@ -84,14 +84,14 @@ module _ (carry : Carry) (packets : List (List ℕ)) (window : ℕ) (base : ℤ)
     subst (λ i. IsPayload carry packet i incoming.payload) (sym index_is) payload_is,
   )
 
-  is_sent : IsSent carry packets base (fragment n incoming)
+  is_sent : IsSent carry packets first_packet (fragment n incoming)
   is_sent = (packet, there, is_fragment)
 
   those_sent : AllByRecursion (IsOf carry packet) (of_packet n c.kept)
-  those_sent = those_of carry packets base n packet there c.kept (sent_all carry packets window base pairs c h)
+  those_sent = those_of carry packets first_packet n packet there c.kept (sent_all carry packets window first_packet pairs c h)
 
   -- the datagram is kept, since its number isn't closed, the packet isn't recoverable yet, and the index isn't there
-  module _ (open' : closed window base pairs n ≡ false) (next : c.next ≤ n) (few : suffice (of_packet n c.kept) ≡ false) (fresh : has_index (of_packet n c.kept) incoming.head.index ≡ false) where
+  module _ (open' : closed window first_packet pairs n ≡ false) (next : c.next ≤ n) (few : suffice (of_packet n c.kept) ≡ false) (fresh : has_index (of_packet n c.kept) incoming.head.index ≡ false) where
     has_new : (i : ℕ) → pair.1 ≡ i → has_index (of_packet n (insert_kept (fragment n incoming) c.kept)) i ≡ true
     has_new i e =
         has_inserted (fragment n incoming) c.kept n i
@@ -103,34 +103,34 @@ module _ (carry : Carry) (packets : List (List ℕ)) (window : ℕ) (base : ℤ)
         has_inserted (fragment n incoming) c.kept q i
         ∙ or_right (eqb n q && eqb incoming.head.index i) (has_index (of_packet q c.kept) i) t
 
-    held_new : (q i : ℕ) → c.next ≤ q → has_index (of_packet q (insert_kept (fragment n incoming) c.kept)) i ≡ true → got window base (pairs ++ pair ∷ []) q i ≡ true
+    held_new : (q i : ℕ) → c.next ≤ q → has_index (of_packet q (insert_kept (fragment n incoming) c.kept)) i ≡ true → got window first_packet (pairs ++ pair ∷ []) q i ≡ true
     held_new q i l t =
         ⊎_elim
         (λ m. let p = and_parts (eqb n q) (eqb incoming.head.index i) m in
         let same : n ≡ q = eqb-true n q p.0 in
         let j : pair.1 ≡ i = sym index_is ∙ eqb-true incoming.head.index i p.1 in
-        got_now window base pairs pair q i w (subst (λ k. closed window base pairs k ≡ false) same open') (is_pair_at base pair n q i num same j))
-        (λ o. got_more window base pairs (pair ∷ []) q i (h.held q i l o))
+        got_now window first_packet pairs pair q i w (subst (λ k. closed window first_packet pairs k ≡ false) same open') (is_pair_at first_packet pair n q i num same j))
+        (λ o. got_more window first_packet pairs (pair ∷ []) q i (h.held q i l o))
         (or_cases (eqb n q && eqb incoming.head.index i) (has_index (of_packet q c.kept) i) (sym (has_inserted (fragment n incoming) c.kept q i) ∙ t))
 
     complete_new : (q : ℕ) → c.next ≤ q →
         (suffice (of_packet q (insert_kept (fragment n incoming) c.kept)) ≡ true)
-        ⊎ ((i : ℕ) → got window base (pairs ++ pair ∷ []) q i ≡ true → has_index (of_packet q (insert_kept (fragment n incoming) c.kept)) i ≡ true)
+        ⊎ ((i : ℕ) → got window first_packet (pairs ++ pair ∷ []) q i ≡ true → has_index (of_packet q (insert_kept (fragment n incoming) c.kept)) i ≡ true)
     complete_new q l =
         ⊎_elim
         (λ same. ⊎_elim
         (λ st. let x : suffice (of_packet n c.kept) ≡ true = subst (λ k. suffice (of_packet k c.kept) ≡ true) (sym same) st in absurd (let y : false ≡ true = sym few ∙ x in cc))
         (λ k. inr (λ i t. ⊎_elim
         (λ g. has_old q i (k i g))
-        (λ m. subst (λ r. has_index (of_packet r (insert_kept (fragment n incoming) c.kept)) i ≡ true) same (has_new i (pair_is base pair n q i num m.1).1))
-        (got_last window base pairs pair q i t)))
+        (λ m. subst (λ r. has_index (of_packet r (insert_kept (fragment n incoming) c.kept)) i ≡ true) same (has_new i (pair_is first_packet pair n q i num m.1).1))
+        (got_last window first_packet pairs pair q i t)))
         (h.complete q l))
         (λ other. ⊎_elim
         (λ st. inl (ap suffice (insert_other (λ f. eqb f.number q) (fragment n incoming) c.kept (ne_eqb n q other)) ∙ st))
         (λ k. inr (λ i t. ⊎_elim
         (λ g. has_old q i (k i g))
-        (λ m. absurd (other (pair_is base pair n q i num m.1).0))
-        (got_last window base pairs pair q i t)))
+        (λ m. absurd (other (pair_is first_packet pair n q i num m.1).0))
+        (got_last window first_packet pairs pair q i t)))
         (h.complete q l))
         (cases_eq n q)
 
@@ -143,11 +143,11 @@ module _ (carry : Carry) (packets : List (List ℕ)) (window : ℕ) (base : ℤ)
         (subst (λ i. has_index (of_packet n c.kept) i ≡ false) index_is fresh)
         (has_new pair.1 refl) in'
 
-    counted_new : (q : ℕ) (x : List ℕ) → c.next ≤ q → packet_at packets (base +ℤ pos q) ≡ Some x →
+    counted_new : (q : ℕ) (x : List ℕ) → c.next ≤ q → packet_at packets (first_packet +ℤ pos q) ≡ Some x →
         length (of_packet q (insert_kept (fragment n incoming) c.kept)) ≡ size (datagrams_of carry x) (has_index (of_packet q (insert_kept (fragment n incoming) c.kept)))
     counted_new q x l at =
         ⊎_elim
-        (λ same. let e : packet_at packets (base +ℤ pos n) ≡ Some x = subst (λ k. packet_at packets (base +ℤ pos k) ≡ Some x) (sym same) at in
+        (λ same. let e : packet_at packets (first_packet +ℤ pos n) ≡ Some x = subst (λ k. packet_at packets (first_packet +ℤ pos k) ≡ Some x) (sym same) at in
         let xs : packet ≡ x = cc in
         subst (λ k. length (of_packet k (insert_kept (fragment n incoming) c.kept)) ≡ size (datagrams_of carry x) (has_index (of_packet k (insert_kept (fragment n incoming) c.kept)))) same
         (subst (λ y. length (of_packet n (insert_kept (fragment n incoming) c.kept)) ≡ size (datagrams_of carry y) (has_index (of_packet n (insert_kept (fragment n incoming) c.kept)))) xs
@@ -157,13 +157,13 @@ module _ (carry : Carry) (packets : List (List ℕ)) (window : ℕ) (base : ℤ)
         (λ other. subst (λ fs. length fs ≡ size (datagrams_of carry x) (has_index fs)) (sym (insert_other (λ f. eqb f.number q) (fragment n incoming) c.kept (ne_eqb n q other))) (h.counted q x l at))
         (cases_eq n q)
 
-    kept_new : IsAfter carry packets window base (pairs ++ pair ∷ []) (kept_at c (pos n) incoming)
+    kept_new : IsAfter carry packets window first_packet (pairs ++ pair ∷ []) (kept_at c (pos n) incoming)
     kept_new = record {
       window_is = h.window_is;
-      newest_is = ap (λ m. newer m n) h.newest_is ∙ sym (newest_last base None pairs pair ∙ ap (newer_number (newest_of base None pairs)) num);
-      sent = all_insert (IsKept carry packets base c.next (newer c.newest n)) (fragment n incoming) c.kept
+      newest_is = ap (λ m. newer m n) h.newest_is ∙ sym (newest_last first_packet None pairs pair ∙ ap (newer_number (newest_of first_packet None pairs)) num);
+      sent = all_insert (IsKept carry packets first_packet c.next (newer c.newest n)) (fragment n incoming) c.kept
           (is_sent, next, reached_now c.newest n)
-          (all_weaker (IsKept carry packets base c.next c.newest) (IsKept carry packets base c.next (newer c.newest n))
+          (all_weaker (IsKept carry packets first_packet c.next c.newest) (IsKept carry packets first_packet c.next (newer c.newest n))
           (λ f k. (k.0, k.1, reached_more c.newest n f.number k.2)) c.kept h.sent);
       ordered = ordered_insert (fragment n incoming) c.kept (others_of (fragment n incoming) c.kept fresh) h.ordered;
       held = held_new;
@@ -171,43 +171,43 @@ module _ (carry : Carry) (packets : List (List ℕ)) (window : ℕ) (base : ℤ)
       counted = counted_new;
     }
 
-  is_old : n < 2 ^ 62 → is_late c n ≡ true → IsAfter carry packets window base (pairs ++ pair ∷ []) c
+  is_old : n < 2 ^ 62 → is_late c n ≡ true → IsAfter carry packets window first_packet (pairs ++ pair ∷ []) c
   is_old small l =
       ⊎_elim
-      (λ r. old_number carry packets window base pairs c h pair n num (reached_less c.newest n c.window r) (λ m. inr (inl (sym (closed_same carry packets window base pairs c h n) ∙ r))))
+      (λ r. old_number carry packets window first_packet pairs c h pair n num (reached_less c.newest n c.window r) (λ m. inr (inl (sym (closed_same carry packets window first_packet pairs c h n) ∙ r))))
       (λ r. ⊎_elim
       (λ g. let less : n < c.next = ltb-true n c.next g in
-      old_number carry packets window base pairs c h pair n num (below_end c.newest n c.next less below) (λ m. absurd (omega arith)))
+      old_number carry packets window first_packet pairs c h pair n num (below_end c.newest n c.next less below) (λ m. absurd (omega arith)))
       (λ g. let less : 2 ^ 62 ≤ n = leb-true (2 ^ 62) n g in absurd (omega arith))
       (or_cases (ltb n c.next) (leb (2 ^ 62) n) r))
       (or_cases (reached c.newest (n + c.window)) (ltb n c.next || leb (2 ^ 62) n) l)
 
-  by_tests : (late done again : Bool) (odd : Option Fragment) → n < 2 ^ 62
+  by_tests : (late done again : Bool) (odd : Option NumberedFragment) → n < 2 ^ 62
       → late ≡ is_late c n → done ≡ suffice (of_packet n c.kept)
       → odd ≡ find (λ f. not (agree f.head incoming.head)) (of_packet n c.kept) → again ≡ has_index (of_packet n c.kept) incoming.head.index
-      → IsAfter carry packets window base (pairs ++ pair ∷ []) (after_answer c (pos n) incoming (cond late Late (cond done Repeated (answer_by odd again incoming.head))))
-      × IsRight (cond late Late (cond done Repeated (answer_by odd again incoming.head)))
+      → IsAfter carry packets window first_packet (pairs ++ pair ∷ []) (after_answer c (pos n) incoming (cond late Late (cond done Repeated (answer_by odd again incoming.head))))
+      × IsTakenWell (cond late Late (cond done Repeated (answer_by odd again incoming.head)))
   by_tests true done again odd small l d o a = (is_old small (sym l), tt)
   by_tests false true again odd small l d o a =
-      (old_number carry packets window base pairs c h pair n num (reached_by carry packets window base pairs c h n (inl (sym d))) (λ m. inl (sym d)), tt)
+      (old_number carry packets window first_packet pairs c h pair n num (reached_by carry packets window first_packet pairs c h n (inl (sym d))) (λ m. inl (sym d)), tt)
   by_tests false false again (Some f) small l d o a =
       let none : find (λ f. not (agree f.head incoming.head)) (of_packet n c.kept) ≡ None
       = ap (λ x. find (λ f. not (agree f.head x)) (of_packet n c.kept)) head_is ∙ none_disagrees carry packet cut pair.1 in' (of_packet n c.kept) those_sent in
       absurd (let e : Some f ≡ None = o ∙ none in cc)
   by_tests false false true None small l d o a = (
-    old_number carry packets window base pairs c h pair n num (reached_by carry packets window base pairs c h n (inr (incoming.head.index, sym a)))
+    old_number carry packets window first_packet pairs c h pair n num (reached_by carry packets window first_packet pairs c h n (inr (incoming.head.index, sym a)))
         (λ m. inr (inr (h.held n pair.1 m (subst (λ i. has_index (of_packet n c.kept) i ≡ true) index_is (sym a))))),
     tt,
   )
   by_tests false false false None small l d o a =
       let p = or_parts (reached c.newest (n + c.window)) (ltb n c.next || leb (2 ^ 62) n) (sym l) in
       let r = or_parts (ltb n c.next) (leb (2 ^ 62) n) p.1 in
-      (kept_new (sym (closed_same carry packets window base pairs c h n) ∙ p.0) (ltb-false n c.next r.0) (sym d) (sym a), tt)
+      (kept_new (sym (closed_same carry packets window first_packet pairs c h n) ∙ p.0) (ltb-false n c.next r.0) (sym d) (sym a), tt)
 
   -- a datagram that is taken: the collector is that of one pair more, and its fragment was consistent
   pub take_pos : n < 2 ^ 62 → is_far c (pos n) ≡ false
-      → IsAfter carry packets window base (pairs ++ pair ∷ []) (after_answer c (pos n) incoming (answer_at c (pos n) incoming.head)) × IsRight (answer_at c (pos n) incoming.head)
+      → IsAfter carry packets window first_packet (pairs ++ pair ∷ []) (after_answer c (pos n) incoming (answer_at c (pos n) incoming.head)) × IsTakenWell (answer_at c (pos n) incoming.head)
   take_pos small near =
-      subst (λ a. IsAfter carry packets window base (pairs ++ pair ∷ []) (after_answer c (pos n) incoming a) × IsRight a) (sym (not_far c (pos n) incoming.head near))
+      subst (λ a. IsAfter carry packets window first_packet (pairs ++ pair ∷ []) (after_answer c (pos n) incoming a) × IsTakenWell a) (sym (not_far c (pos n) incoming.head near))
       (by_tests (is_late c n) (suffice (of_packet n c.kept)) (has_index (of_packet n c.kept) incoming.head.index)
       (find (λ f. not (agree f.head incoming.head)) (of_packet n c.kept)) small refl refl refl refl)

@@ -1,25 +1,25 @@
 -- A collector answers datagrams, and gives items, in one way.
 use Rattle.std.proofs.Common.{ℕ, ◌≡◌, true, false, List, [], ◌∷◌, ◌++◌, refl, sym, ap, ◌∙◌, subst}
 use Rattle.dcp_collect.specs.declared.taken.Taken.{Taken}
-use Rattle.dcp_collect.specs.Fragments.{Fragment, suffice, of_packet}
-use Rattle.dcp_collect.specs.State.{State, answer, after_item, after_take}
+use Rattle.dcp_collect.specs.Fragments.{NumberedFragment, suffice, of_packet}
+use Rattle.dcp_collect.specs.CollectorState.{CollectorState, answer, after_item, after_take}
 use Rattle.dcp_collect.specs.Decoding.{IsDecoded}
-use Rattle.dcp_collect.specs.Runs.{Item, Packet, Lost, Damaged, IsItem, CollectorTakes, CollectorGives, CollectorSteps}
+use Rattle.dcp_collect.specs.Runs.{CollectorItem, Packet, Lost, Damaged, IsItem, CollectorTakes, CollectorGives, CollectorSteps}
 use Rattle.law_collect.specs.Laws.{OneReading, OneGiving, OneRun}
 
 -- fragments give no two byte lists
 abbrev pub OneDecoding : Type 0
-OneDecoding = (fs : List Fragment) (a b : List ℕ) → suffice fs ≡ true → IsDecoded fs a → IsDecoded fs b → b ≡ a
+OneDecoding = (fs : List NumberedFragment) (a b : List ℕ) → suffice fs ≡ true → IsDecoded fs a → IsDecoded fs b → b ≡ a
 
 -- a packet is no lost one
-no_packet : (c : State) (q r had total : ℕ) (bytes : List ℕ) → IsItem c (Packet q bytes) → IsItem c (Lost r had total) → ⊥
+no_packet : (c : CollectorState) (q r had total : ℕ) (bytes : List ℕ) → IsItem c (Packet q bytes) → IsItem c (Lost r had total) → ⊥
 no_packet c q r had total bytes g h = let e : true ≡ false = sym g.1 ∙ h.1 in cc
 
 -- nor a damaged one
-no_damage : (c : State) (q r had total : ℕ) → IsItem c (Damaged q) → IsItem c (Lost r had total) → ⊥
+no_damage : (c : CollectorState) (q r had total : ℕ) → IsItem c (Damaged q) → IsItem c (Lost r had total) → ⊥
 no_damage c q r had total g h = let e : true ≡ false = sym g.1 ∙ h.1 in cc
 
-one_item : (one_decoding : OneDecoding) (c : State) (a b : Item) → IsItem c a → IsItem c b → b ≡ a
+one_item : (one_decoding : OneDecoding) (c : CollectorState) (a b : CollectorItem) → IsItem c a → IsItem c b → b ≡ a
 one_item one_decoding c (Packet q x) (Packet r y) g h =
     let p = g.0 in let o = h.0 in
     let e : y ≡ x = one_decoding (of_packet c.next c.kept) x y g.1 g.2 h.2 in cc
@@ -43,7 +43,7 @@ one_giving one_decoding c after after' (x ∷ xs) (y ∷ ys) g h =
     (let p : ys ≡ xs = rest.0 in cc, rest.1)
 
 -- a datagram is answered in one way
-pub one_taking : (one_reading : OneReading) (c d d' : State) (datagram : List ℕ) (a a' : Taken)
+pub one_taking : (one_reading : OneReading) (c d d' : CollectorState) (datagram : List ℕ) (a a' : Taken)
     → CollectorTakes c datagram a d → CollectorTakes c datagram a' d' → (a' ≡ a) × (d' ≡ d)
 one_taking one_reading c d d' datagram a a' g h =
     let e = one_reading datagram g.read h.read g.is_read h.is_read in
@@ -57,10 +57,10 @@ one_run one_reading one_decoding c after after' (datagram ∷ datagrams) [] answ
 one_run one_reading one_decoding c after after' (datagram ∷ datagrams) (a ∷ answers) [] given given' g h = absurd h
 one_run one_reading one_decoding c after after' (datagram ∷ datagrams) (a ∷ answers) (a' ∷ answers') given given'
     (now, later, kept, mid, takes, gives, steps, are) (now', later', kept', mid', takes', gives', steps', are') =
-    let told = one_taking one_reading c kept kept' datagram a a' takes takes' in
-    let items = one_giving one_decoding kept mid mid' now now' gives (subst (λ m. CollectorGives m now' mid') told.1 gives') in
+    let taking = one_taking one_reading c kept kept' datagram a a' takes takes' in
+    let items = one_giving one_decoding kept mid mid' now now' gives (subst (λ m. CollectorGives m now' mid') taking.1 gives') in
     let rest = one_run one_reading one_decoding mid after after' datagrams answers answers' later later' steps (subst (λ m. CollectorSteps m datagrams answers' later' after') items.1 steps') in (
-      (let p : a' ≡ a = told.0 in let q : answers' ≡ answers = rest.0 in cc),
+      (let p : a' ≡ a = taking.0 in let q : answers' ≡ answers = rest.0 in cc),
       are' ∙ (let p : now' ≡ now = items.0 in let q : later' ≡ later = rest.1 in let e : (now' ++ later') ≡ (now ++ later) = cc in e) ∙ sym are,
       rest.2,
     )

@@ -5,8 +5,8 @@ use Rattle.std.proofs.lemmas.Bool.{true≢false, leb-true}
 use Rattle.std.proofs.lemmas.List.{append-nil, take-append-le}
 use Rattle.dcp_pft.specs.declared.carry.Carry.{Carry}
 use Rattle.dcp_collect.specs.declared.taken.Taken.{Taken}
-use Rattle.dcp_collect.specs.State.{State, made, after_finish}
-use Rattle.dcp_collect.specs.Runs.{Item, CollectorGives, CollectorSteps, Run, up_to}
+use Rattle.dcp_collect.specs.CollectorState.{CollectorState, made, after_finish}
+use Rattle.dcp_collect.specs.Runs.{CollectorItem, CollectorGives, CollectorSteps, CollectorRun, up_to}
 use Rattle.law_collect.specs.Laws.{GivingEnds, OneReading, Refusing, OneRun, StepsPart}
 use Rattle.drm_schedule.specs.declared.plan.Plan.{Plan}
 use Rattle.drm_timeline.specs.Numbers.{frame_count}
@@ -15,13 +15,13 @@ use Rattle.law_delivery.specs.Laws.{AllAtOnce}
 use Rattle.law_delivery.specs.Sent.{Arrival}
 use Rattle.recv_reading.specs.State.{is_full}
 use Rattle.recv_reading.specs.First.{first_of}
-use Rattle.cmd_convert.specs.Converting.{Part, ConvertsAll, text_of, lines_of}
-use Rattle.law_convert.specs.Laws.{under, IsFirstOf, AllInTime, MayBeTold, IsItsCapture, Converting, ConvertingEarly, KnowsFirst, ConversionsAreCaptures, IsOfFirstFrames, BrokenConversions}
+use Rattle.cmd_convert.specs.Converting.{ItemOutput, ConvertsAll, text_of, lines_of}
+use Rattle.law_convert.specs.Laws.{under, IsFirstOf, AllInTime, MayBeFrameLimit, IsItsCapture, Converting, ConvertingEarly, KnowsFirst, ConversionsAreCaptures, IsOfFirstFrames, BrokenConversions}
 use Rattle.law_convert.proofs.Firsts.{knows_first, first_of_all}
 use Rattle.law_convert.proofs.Packets.{AreFrom, all_written}
 use Rattle.law_convert.proofs.Delivery.{AreAll, IsCollected}
 
-captured : (plan : Plan) (carry : Carry) (n : ℕ) (items : List Item) (parts : List Part) → AreAll plan items → IsFirstOf plan n → ConvertsAll carry n items parts
+captured : (plan : Plan) (carry : Carry) (n : ℕ) (items : List CollectorItem) (parts : List ItemOutput) → AreAll plan items → IsFirstOf plan n → ConvertsAll carry n items parts
     → IsItsCapture plan carry parts
 captured plan carry n items parts all first converts =
     let w = all_written plan carry n first 0 [] items parts all.are refl converts in
@@ -29,20 +29,20 @@ captured plan carry n items parts all first converts =
     ((w.datagrams, subst (λ k. AreOfFrames (under carry plan) 0 k w.datagrams) many w.are, w.text), w.lines)
 
 -- a run over the delivery gives all packets
-run_gives : OneRun → (plan : Plan) (window reach : ℕ) (first told : Option ℕ) (datagrams : List (List ℕ)) (answers : List Taken) (items : List Item)
-    → IsCollected plan window reach first datagrams → MayBeTold plan told → Run window reach first told datagrams answers items → AreAll plan items
-run_gives one_run plan window reach first told datagrams answers items c may run =
+run_gives : OneRun → (plan : Plan) (window reach : ℕ) (first frame_limit : Option ℕ) (datagrams : List (List ℕ)) (answers : List Taken) (items : List CollectorItem)
+    → IsCollected plan window reach first datagrams → MayBeFrameLimit plan frame_limit → CollectorRun window reach first frame_limit datagrams answers items → AreAll plan items
+run_gives one_run plan window reach first frame_limit datagrams answers items c may run =
     let (same, given, mid) = one_run (made window reach first) run.mid c.mid datagrams answers c.answers run.during c.given run.steps c.steps in
-    let gives : CollectorGives (after_finish c.mid told) run.rest run.after = subst (λ s. CollectorGives (after_finish s told) run.rest run.after) (sym mid) run.gives in
-    let as_given : up_to told (c.given ++ run.rest) ≡ items = ap (λ l. up_to told (l ++ run.rest)) given ∙ sym run.are in
-    subst (AreAll plan) as_given (c.all told run.rest run.after may gives)
+    let gives : CollectorGives (after_finish c.mid frame_limit) run.rest run.after = subst (λ s. CollectorGives (after_finish s frame_limit) run.rest run.after) (sym mid) run.gives in
+    let as_given : up_to frame_limit (c.given ++ run.rest) ≡ items = ap (λ l. up_to frame_limit (l ++ run.rest)) given ∙ sym run.are in
+    subst (AreAll plan) as_given (c.all frame_limit run.rest run.after may gives)
 
-take_front : (n : ℕ) (now later rest : List Item) → n ≤ length now → take n ((now ++ later) ++ rest) ≡ take n now
+take_front : (n : ℕ) (now later rest : List CollectorItem) → n ≤ length now → take n ((now ++ later) ++ rest) ≡ take n now
 take_front n now later rest enough = ap (take n) (append_assoc now later rest) ∙ take-append-le n now (later ++ rest) enough
 
 -- and so does one over a front of it that gave as many
-front_gives : GivingEnds → OneRun → StepsPart → (plan : Plan) (window reach : ℕ) (first : Option ℕ) (datagrams later : List (List ℕ)) (answers : List Taken) (items : List Item)
-    → IsCollected plan window reach first (datagrams ++ later) → (run : Run window reach first (Some (frame_count plan)) datagrams answers items) → frame_count plan ≤ length run.during
+front_gives : GivingEnds → OneRun → StepsPart → (plan : Plan) (window reach : ℕ) (first : Option ℕ) (datagrams later : List (List ℕ)) (answers : List Taken) (items : List CollectorItem)
+    → IsCollected plan window reach first (datagrams ++ later) → (run : CollectorRun window reach first (Some (frame_count plan)) datagrams answers items) → frame_count plan ≤ length run.during
     → AreAll plan items
 front_gives giving_ends one_run steps_part plan window reach first datagrams later answers items c run enough =
     let n : ℕ = frame_count plan in
@@ -61,9 +61,9 @@ Collects = (plan : Plan) (window reach : ℕ) (first : Option ℕ) (arrivals : L
     → IsCollected plan window reach first datagrams
 
 pub converting : Collects → OneRun → Converting
-converting collects one_run plan carry window reach n first told arrivals datagrams answers items parts whole may run is converts =
+converting collects one_run plan carry window reach n first frame_limit arrivals datagrams answers items parts whole may run is converts =
     let c = collects plan window reach first arrivals datagrams whole in
-    captured plan carry n items parts (run_gives one_run plan window reach first told datagrams answers items c may run) is converts
+    captured plan carry n items parts (run_gives one_run plan window reach first frame_limit datagrams answers items c may run) is converts
 
 pub converting_early : Collects → GivingEnds → OneRun → StepsPart → ConvertingEarly
 converting_early collects giving_ends one_run steps_part plan carry window reach n first arrivals datagrams later answers items parts whole run enough is converts =
@@ -73,9 +73,9 @@ converting_early collects giving_ends one_run steps_part plan carry window reach
 -- ---- by the terms of a conversion
 
 -- with the told number known
-run_as : (window reach : ℕ) (first told : Option ℕ) (n : ℕ) (packets : List (List ℕ)) (taken : List Taken) (items : List Item) → told ≡ Some n
-    → (run : Run window reach first told packets taken items) → (as_told : Run window reach first (Some n) packets taken items) × (as_told.during ≡ run.during)
-run_as window reach first told n packets taken items known run = (
+run_as : (window reach : ℕ) (first frame_limit : Option ℕ) (n : ℕ) (packets : List (List ℕ)) (taken : List Taken) (items : List CollectorItem) → frame_limit ≡ Some n
+    → (run : CollectorRun window reach first frame_limit packets taken items) → (as_limited : CollectorRun window reach first (Some n) packets taken items) × (as_limited.during ≡ run.during)
+run_as window reach first frame_limit n packets taken items known run = (
   record {
     during = run.during;
     rest = run.rest;
@@ -89,7 +89,7 @@ run_as window reach first told n packets taken items known run = (
 )
 
 -- enough are as many as the schedule has frames
-enough_of : (plan : Plan) (told : Option ℕ) (n : ℕ) → MayBeTold plan told → is_full told n ≡ true → (told ≡ Some (frame_count plan)) × (frame_count plan ≤ n)
+enough_of : (plan : Plan) (frame_limit : Option ℕ) (n : ℕ) → MayBeFrameLimit plan frame_limit → is_full frame_limit n ≡ true → (frame_limit ≡ Some (frame_count plan)) × (frame_count plan ≤ n)
 enough_of plan None n may full = absurd (true≢false (sym full))
 enough_of plan (Some m) n (inl unknown) full = absurd (let clash : Some m ≡ None = unknown in cc)
 enough_of plan (Some m) n (inr known) full =
@@ -98,36 +98,36 @@ enough_of plan (Some m) n (inr known) full =
     (known, omega (arith, same, low))
 
 -- the number that parts are counted from
-pub counted_from : (plan : Plan) (c : State) → KnowsFirst plan c → IsFirstOf plan (first_of c)
+pub counted_from : (plan : Plan) (c : CollectorState) → KnowsFirst plan c → IsFirstOf plan (first_of c)
 counted_from plan c (n, known, is) = ap (λ o. unwrap_or o 0 % 2 ^ 16) known ∙ is
 
 pub conversions : Collects → GivingEnds → OneReading → Refusing → OneRun → StepsPart → AllAtOnce → ConversionsAreCaptures
-conversions collects giving_ends one_reading refusing one_run steps_part at_once plan carry terms arrivals packets later parts whole may (inl none) is =
+conversions collects giving_ends one_reading refusing one_run steps_part at_once plan carry range arrivals packets later parts whole may (inl none) is =
     let same : packets ++ later ≡ packets = ap (λ l. packets ++ l) none ∙ append-nil packets in
-    let all : AllInTime plan terms.window terms.reach terms.first arrivals packets = subst (λ l. AllInTime plan terms.window terms.reach terms.first arrivals l) same whole in
-    let first = first_of_all one_reading refusing one_run at_once plan terms.window terms.reach terms.first terms.told arrivals packets is.taken is.items all is.run in
-    converting collects one_run plan carry terms.window terms.reach (first_of is.run.mid) terms.first terms.told arrivals packets is.taken is.items parts all may is.run
+    let all : AllInTime plan range.window range.reach range.first arrivals packets = subst (λ l. AllInTime plan range.window range.reach range.first arrivals l) same whole in
+    let first = first_of_all one_reading refusing one_run at_once plan range.window range.reach range.first range.frame_limit arrivals packets is.taken is.items all is.run in
+    converting collects one_run plan carry range.window range.reach (first_of is.run.mid) range.first range.frame_limit arrivals packets is.taken is.items parts all may is.run
     (counted_from plan is.run.mid first) is.converts
-conversions collects giving_ends one_reading refusing one_run steps_part at_once plan carry terms arrivals packets later parts whole may (inr (taken, items, end, steps, full)) is =
-    let (known, enough) = enough_of plan terms.told (length items) may full in
-    let (run, during) = run_as terms.window terms.reach terms.first terms.told (frame_count plan) packets is.taken is.items known is.run in
-    let same : items ≡ is.run.during = (one_run (made terms.window terms.reach terms.first) is.run.mid end packets is.taken taken is.run.during items is.run.steps steps).1 in
+conversions collects giving_ends one_reading refusing one_run steps_part at_once plan carry range arrivals packets later parts whole may (inr (taken, items, end, steps, full)) is =
+    let (known, enough) = enough_of plan range.frame_limit (length items) may full in
+    let (run, during) = run_as range.window range.reach range.first range.frame_limit (frame_count plan) packets is.taken is.items known is.run in
+    let same : items ≡ is.run.during = (one_run (made range.window range.reach range.first) is.run.mid end packets is.taken taken is.run.during items is.run.steps steps).1 in
     let least = whole.schedule.in_lines.some_frames in
     let all : frame_count plan ≤ length run.during = omega (arith, enough, ap length same, ap length during) in
     let some : 1 ≤ length is.run.during = omega (arith, least, enough, ap length same) in
-    let first = knows_first one_reading refusing plan whole.schedule terms.window terms.reach terms.first arrivals packets later is.taken is.run.during is.run.mid whole.followed is.run.steps some in
-    converting_early collects giving_ends one_run steps_part plan carry terms.window terms.reach (first_of is.run.mid) terms.first arrivals packets later is.taken is.items parts whole run all
+    let first = knows_first one_reading refusing plan whole.schedule range.window range.reach range.first arrivals packets later is.taken is.run.during is.run.mid whole.followed is.run.steps some in
+    converting_early collects giving_ends one_run steps_part plan carry range.window range.reach (first_of is.run.mid) range.first arrivals packets later is.taken is.items parts whole run all
     (counted_from plan is.run.mid first) is.converts
 
 -- ---- of a front
 
 -- the first ones of them are packets of the first frames
-pub first_of_all_packets : (plan : Plan) (t : ℕ) (given more : List Item) → AreFrom plan t (given ++ more) → AreFrom plan t given
+pub first_of_all_packets : (plan : Plan) (t : ℕ) (given more : List CollectorItem) → AreFrom plan t (given ++ more) → AreFrom plan t given
 first_of_all_packets plan t [] more are = tt
 first_of_all_packets plan t (item ∷ given) more are = (are.0, first_of_all_packets plan (t + 1) given more are.1)
 
 -- what was given of a front are packets of some first frames
-front_packets : GivingEnds → OneRun → StepsPart → (plan : Plan) (window reach : ℕ) (first : Option ℕ) (packets later : List (List ℕ)) (answers : List Taken) (given : List Item) (mid : State)
+front_packets : GivingEnds → OneRun → StepsPart → (plan : Plan) (window reach : ℕ) (first : Option ℕ) (packets later : List (List ℕ)) (answers : List Taken) (given : List CollectorItem) (mid : CollectorState)
     → IsCollected plan window reach first (packets ++ later) → CollectorSteps (made window reach first) packets answers given mid → AreFrom plan 0 given × (length given ≤ frame_count plan)
 front_packets giving_ends one_run steps_part plan window reach first packets later answers given mid c steps =
     let (between, replies, more, now, then_given, first_steps, steps_on, are_answers, are_given) = steps_part (made window reach first) c.mid packets later c.answers c.given c.steps in
@@ -141,11 +141,11 @@ front_packets giving_ends one_run steps_part plan window reach first packets lat
     )
 
 -- nothing is written of nothing
-none_written : (plan : Plan) (carry : Carry) (n : ℕ) (parts : List Part) → ConvertsAll carry n [] parts → IsOfFirstFrames (under carry plan) (text_of parts) × (lines_of parts ≡ [])
+none_written : (plan : Plan) (carry : Carry) (n : ℕ) (parts : List ItemOutput) → ConvertsAll carry n [] parts → IsOfFirstFrames (under carry plan) (text_of parts) × (lines_of parts ≡ [])
 none_written plan carry n [] converts = ((0, [], omega arith, refl, refl), refl)
 none_written plan carry n (part ∷ parts) converts = absurd converts
 
-some_written : (plan : Plan) (carry : Carry) (n : ℕ) (items : List Item) (parts : List Part) → AreFrom plan 0 items → length items ≤ frame_count plan → IsFirstOf plan n → ConvertsAll carry n items parts
+some_written : (plan : Plan) (carry : Carry) (n : ℕ) (items : List CollectorItem) (parts : List ItemOutput) → AreFrom plan 0 items → length items ≤ frame_count plan → IsFirstOf plan n → ConvertsAll carry n items parts
     → IsOfFirstFrames (under carry plan) (text_of parts) × (lines_of parts ≡ [])
 some_written plan carry n items parts are few first converts =
     let w = all_written plan carry n first 0 [] items parts are refl converts in
@@ -153,16 +153,16 @@ some_written plan carry n items parts are few first converts =
     ((length items, w.datagrams, few, subst (λ k. AreOfFrames (under carry plan) 0 k w.datagrams) count w.are, w.text), w.lines)
 
 pub broken_conversions : Collects → GivingEnds → OneReading → Refusing → OneRun → StepsPart → BrokenConversions
-broken_conversions collects giving_ends one_reading refusing one_run steps_part plan carry terms arrivals packets later parts whole is =
+broken_conversions collects giving_ends one_reading refusing one_run steps_part plan carry range arrivals packets later parts whole is =
     by is.items refl
   where
-    c : IsCollected plan terms.window terms.reach terms.first (packets ++ later)
-    c = collects plan terms.window terms.reach terms.first arrivals (packets ++ later) whole
+    c : IsCollected plan range.window range.reach range.first (packets ++ later)
+    c = collects plan range.window range.reach range.first arrivals (packets ++ later) whole
 
-    by : (items : List Item) → is.items ≡ items → IsOfFirstFrames (under carry plan) (text_of parts) × (lines_of parts ≡ [])
+    by : (items : List CollectorItem) → is.items ≡ items → IsOfFirstFrames (under carry plan) (text_of parts) × (lines_of parts ≡ [])
     by [] none = none_written plan carry (first_of is.mid) parts (subst (λ l. ConvertsAll carry (first_of is.mid) l parts) none is.converts)
     by (item ∷ items) some =
-        let (are, few) = front_packets giving_ends one_run steps_part plan terms.window terms.reach terms.first packets later is.taken is.items is.mid c is.steps in
+        let (are, few) = front_packets giving_ends one_run steps_part plan range.window range.reach range.first packets later is.taken is.items is.mid c is.steps in
         let long : length is.items ≡ length items + 1 = ap length some ∙ omega arith in
-        let known = knows_first one_reading refusing plan whole.schedule terms.window terms.reach terms.first arrivals packets later is.taken is.items is.mid whole.followed is.steps (omega (arith, long)) in
+        let known = knows_first one_reading refusing plan whole.schedule range.window range.reach range.first arrivals packets later is.taken is.items is.mid whole.followed is.steps (omega (arith, long)) in
         some_written plan carry (first_of is.mid) is.items parts are few (counted_from plan is.mid known) is.converts

@@ -10,10 +10,10 @@ use Rattle.dcp_pft.specs.Carrying.{shape_under, losses}
 use Rattle.dcp_pft.specs.Loss.{size}
 use Rattle.dcp_collect.specs.declared.taken.Taken.{Taken}
 use Rattle.dcp_collect.specs.Numbers.{newer, end_of}
-use Rattle.dcp_collect.specs.State.{State, made, after_finish}
-use Rattle.dcp_collect.specs.Runs.{Item, CollectorGives, CollectorSteps, up_to}
+use Rattle.dcp_collect.specs.CollectorState.{CollectorState, made, after_finish}
+use Rattle.dcp_collect.specs.Runs.{CollectorItem, CollectorGives, CollectorSteps, up_to}
 use Rattle.law_collect.specs.Delivery.{number, newer_number, newest_of, packet_at, got, item, items}
-use Rattle.law_collect.specs.Laws.{Collecting, InTime, IsFit, GivingEnds, OneRun}
+use Rattle.law_collect.specs.Laws.{Collecting, InTime, CollectorInvariant, GivingEnds, OneRun}
 use Rattle.drm_schedule.specs.declared.plan.Plan.{Plan}
 use Rattle.drm_schedule.specs.Valid.{IsSchedule}
 use Rattle.drm_timeline.specs.Numbers.{frame_count}
@@ -25,7 +25,7 @@ use Rattle.law_delivery.proofs.Lengths.{packet_long}
 use Rattle.law_delivery.proofs.Needed.{some_got}
 use Rattle.law_delivery.proofs.Numbering.{frame_is}
 use Rattle.law_delivery.proofs.Packets.{IsChosen, ArePackets, all_sent}
-use Rattle.law_convert.specs.Laws.{AllInTime, MayBeTold}
+use Rattle.law_convert.specs.Laws.{AllInTime, MayBeFrameLimit}
 use Rattle.law_convert.proofs.Hearing.{Hears, hears}
 use Rattle.law_convert.proofs.Packets.{IsPacketOf, AreFrom, from_each}
 
@@ -80,38 +80,38 @@ module _ (in_time : InTime) (plan : Plan) (window : ℕ) (pairs : List (ℕ × �
 -- ---- what is given
 
 -- They are the packets of all frames of the schedule.
-pub record AreAll (plan : Plan) (given : List Item) : Type 0 where
+pub record AreAll (plan : Plan) (given : List CollectorItem) : Type 0 where
   pub many : length given ≡ frame_count plan
   pub are : AreFrom plan 0 given
 
 -- Steps over the delivery give them, and with what is given when it ends there are no others.
 pub record IsCollected (plan : Plan) (window reach : ℕ) (first : Option ℕ) (datagrams : List (List ℕ)) : Type 0 where
   pub answers : List Taken
-  pub given : List Item
-  pub mid : State
-  pub fit : IsFit mid
+  pub given : List CollectorItem
+  pub mid : CollectorState
+  pub fit : CollectorInvariant mid
   pub steps : CollectorSteps (made window reach first) datagrams answers given mid
   pub enough : frame_count plan ≤ length given
-  pub all : (told : Option ℕ) (rest : List Item) (after : State) → MayBeTold plan told → CollectorGives (after_finish mid told) rest after → AreAll plan (up_to told (given ++ rest))
+  pub all : (frame_limit : Option ℕ) (rest : List CollectorItem) (after : CollectorState) → MayBeFrameLimit plan frame_limit → CollectorGives (after_finish mid frame_limit) rest after → AreAll plan (up_to frame_limit (given ++ rest))
 
 -- as many as the frames, where the end is told or nothing is beyond it
-many_of : (plan : Plan) (told newest : Option ℕ) (given rest : List Item) → MayBeTold plan told → frame_count plan ≤ length given → end_of None newest ≤ frame_count plan
-    → length (up_to told (given ++ rest)) ≡ end_of told newest → end_of told newest ≡ frame_count plan
-many_of plan told newest given rest (inr known) enough low law = ap (λ (o : Option ℕ). end_of o newest) known
-many_of plan told newest given rest (inl unknown) enough low law =
+many_of : (plan : Plan) (frame_limit newest : Option ℕ) (given rest : List CollectorItem) → MayBeFrameLimit plan frame_limit → frame_count plan ≤ length given → end_of None newest ≤ frame_count plan
+    → length (up_to frame_limit (given ++ rest)) ≡ end_of frame_limit newest → end_of frame_limit newest ≡ frame_count plan
+many_of plan frame_limit newest given rest (inr known) enough low law = ap (λ (o : Option ℕ). end_of o newest) known
+many_of plan frame_limit newest given rest (inl unknown) enough low law =
     let all : length (given ++ rest) ≡ end_of None newest = subst (λ (o : Option ℕ). length (up_to o (given ++ rest)) ≡ end_of o newest) unknown law in
     ap (λ (o : Option ℕ). end_of o newest) unknown ∙ omega (arith, all, low, enough, length-append given rest)
 
-all_packets : InTime → (plan : Plan) (window : ℕ) (pairs : List (ℕ × ℕ)) (told : Option ℕ) (packets others : List (List ℕ)) (given rest : List Item)
+all_packets : InTime → (plan : Plan) (window : ℕ) (pairs : List (ℕ × ℕ)) (frame_limit : Option ℕ) (packets others : List (List ℕ)) (given rest : List CollectorItem)
     → IsSchedule plan → ArePackets plan pairs packets → AreSent plan pairs others → ((q : ℕ) → q < frame_count plan → IsInTime plan window (pos 0) pairs q)
-    → frame_count plan ≤ length given → MayBeTold plan told → up_to told (given ++ rest) ≡ items plan.carry packets window (pos 0) told pairs → AreAll plan (up_to told (given ++ rest))
-all_packets in_time plan window pairs told packets others given rest is are sent times enough may law =
-    let of : ℕ → Item = item plan.carry packets window (pos 0) pairs in
+    → frame_count plan ≤ length given → MayBeFrameLimit plan frame_limit → up_to frame_limit (given ++ rest) ≡ items plan.carry packets window (pos 0) frame_limit pairs → AreAll plan (up_to frame_limit (given ++ rest))
+all_packets in_time plan window pairs frame_limit packets others given rest is are sent times enough may law =
+    let of : ℕ → CollectorItem = item plan.carry packets window (pos 0) pairs in
     let newest : Option ℕ = newest_of (pos 0) None pairs in
-    let long : length (up_to told (given ++ rest)) ≡ end_of told newest = ap length law ∙ length-map-range_with_len of 0 (end_of told newest) in
-    let many : end_of told newest ≡ frame_count plan = many_of plan told newest given rest may enough (newest_end plan None pairs others sent (omega arith)) long in
+    let long : length (up_to frame_limit (given ++ rest)) ≡ end_of frame_limit newest = ap length law ∙ length-map-range_with_len of 0 (end_of frame_limit newest) in
+    let many : end_of frame_limit newest ≡ frame_count plan = many_of plan frame_limit newest given rest may enough (newest_end plan None pairs others sent (omega arith)) long in
     let each : (q : ℕ) → q < 0 + frame_count plan → IsPacketOf plan q (of q) = λ q within. item_of in_time plan window pairs packets is are q (times q (omega (arith, within))) in
-    let same : map of (range_with_len 0 (frame_count plan)) ≡ up_to told (given ++ rest) = ap (λ k. map of (range_with_len 0 k)) (sym many) ∙ sym law in
+    let same : map of (range_with_len 0 (frame_count plan)) ≡ up_to frame_limit (given ++ rest) = ap (λ k. map of (range_with_len 0 k)) (sym many) ∙ sym law in
     record { many = long ∙ many; are = subst (AreFrom plan 0) same (from_each plan of 0 (frame_count plan) each) }
 
 module _ (collecting : Collecting) (giving_ends : GivingEnds) (in_time : InTime) (one_run : OneRun) (at_once : AllAtOnce) where
@@ -130,5 +130,5 @@ module _ (collecting : Collecting) (giving_ends : GivingEnds) (in_time : InTime)
         fit = h.fit;
         steps = h.steps;
         enough = all_of;
-        all = λ told rest after may gives. all_packets in_time plan window pairs told h.packets h.others h.given rest whole.schedule h.are h.sent whole.in_time all_of may (h.law told rest after gives);
+        all = λ frame_limit rest after may gives. all_packets in_time plan window pairs frame_limit h.packets h.others h.given rest whole.schedule h.are h.sent whole.in_time all_of may (h.law frame_limit rest after gives);
       }

@@ -9,7 +9,7 @@ use Rattle.drm_schedule.specs.declared.plan.Plan.{Plan}
 use Rattle.drm_timeline.specs.Numbers.{sequence_number}
 use Rattle.drm_server.specs.Frames.{IsPacketAt}
 use Rattle.drm_server.specs.Datagrams.{IsDatagramAt, AreFirst, AreOfFrame}
-use Rattle.dcp_sender.specs.Carried.{Carried}
+use Rattle.dcp_sender.specs.CarriesText.{CarriesText}
 use Rattle.dcp_sender.specs.Packets.{sequence_of}
 use Rattle.law_convert.specs.Laws.{under, IsFirstOf}
 use Rattle.law_convert.proofs.OtherCarry.{packet_under}
@@ -33,7 +33,7 @@ same_sequence plan n t first = omega (arith, first)
 abbrev pub IsOfFrame : Plan → ℕ → List ℕ → Type 0
 IsOfFrame plan t text = (datagrams : List (List ℕ)) × AreOfFrame plan t datagrams × (text ≡ concat datagrams)
 
-pub of_frame : (plan : Plan) (carry : Carry) (n t : ℕ) (packet text : List ℕ) → IsPacketAt plan t packet → IsFirstOf plan n → Carried carry (sequence_of n t) packet text
+pub of_frame : (plan : Plan) (carry : Carry) (n t : ℕ) (packet text : List ℕ) → IsPacketAt plan t packet → IsFirstOf plan n → CarriesText carry (sequence_of n t) packet text
     → IsOfFrame (under carry plan) t text
 of_frame plan carry n t packet text at first carried =
     let datagrams : List (List ℕ) = carried.datagrams in

@@ -2,20 +2,20 @@
 use Rattle.std.proofs.Common.{ℕ, ◌≡◌, ◌≤◌, List, [], ◌++◌, Option, None, refl}
 use Rattle.std.specs.Prelude.{ℤ}
 use Rattle.dcp_collect.specs.declared.taken.Taken.{Taken}
-use Rattle.dcp_collect.specs.State.{State, made, after_finish}
-use Rattle.dcp_collect.specs.Runs.{Item, CollectorGives, CollectorSteps, Run, up_to}
+use Rattle.dcp_collect.specs.CollectorState.{CollectorState, made, after_finish}
+use Rattle.dcp_collect.specs.Runs.{CollectorItem, CollectorGives, CollectorSteps, CollectorRun, up_to}
 use Rattle.law_collect.specs.Delivery.{AreSent as AllSent, items}
-use Rattle.law_collect.specs.Laws.{IsHeard, Collecting, IsFit, GivingEnds}
+use Rattle.law_collect.specs.Laws.{IsHeard, Collecting, CollectorInvariant, GivingEnds}
 use Rattle.drm_schedule.specs.declared.plan.Plan.{Plan}
 use Rattle.drm_schedule.specs.Valid.{IsSchedule}
 use Rattle.law_delivery.specs.Sent.{Arrival, pairs_in, AreSent, IsDeliveryOf}
 use Rattle.law_delivery.proofs.Early.{GoesOn, goes_on, all_brought_of}
 use Rattle.law_delivery.proofs.Packets.{ArePackets, some_packets, all_sent, delivered}
-use Rattle.law_delivery.proofs.Strays.{others_of, with_strays, stands_new}
+use Rattle.law_delivery.proofs.ForeignDatagrams.{others_of, with_foreign, stands_new}
 
 -- The datagrams of the delivery that aren't strays, and the packets that were sent; steps over those datagrams, and over all
 -- of them, which come to the same; and what is given with the end.
-pub record Hears (plan : Plan) (window reach : ℕ) (first : Option ℕ) (base : ℤ) (pairs : List (ℕ × ℕ)) (datagrams : List (List ℕ)) : Type 0 where
+pub record Hears (plan : Plan) (window reach : ℕ) (first : Option ℕ) (first_frame : ℤ) (pairs : List (ℕ × ℕ)) (datagrams : List (List ℕ)) : Type 0 where
   pub others : List (List ℕ)
   pub sent : AreSent plan pairs others
   pub packets : List (List ℕ)
@@ -23,29 +23,29 @@ pub record Hears (plan : Plan) (window reach : ℕ) (first : Option ℕ) (base :
   pub all_sent : AllSent plan.carry plan.seq packets
   pub replies : List Taken
   pub answers : List Taken
-  pub given : List Item
-  pub mid : State
-  pub fit : IsFit mid
+  pub given : List CollectorItem
+  pub mid : CollectorState
+  pub fit : CollectorInvariant mid
   pub without : CollectorSteps (made window reach first) others replies given mid
   pub steps : CollectorSteps (made window reach first) datagrams answers given mid
-  pub law : (told : Option ℕ) (rest : List Item) (after : State) → CollectorGives (after_finish mid told) rest after → up_to told (given ++ rest) ≡ items plan.carry packets window base told pairs
+  pub law : (frame_limit : Option ℕ) (rest : List CollectorItem) (after : CollectorState) → CollectorGives (after_finish mid frame_limit) rest after → up_to frame_limit (given ++ rest) ≡ items plan.carry packets window first_frame frame_limit pairs
 
 module _ (collecting : Collecting) (giving_ends : GivingEnds) where
-  pub hears : (plan : Plan) (window reach : ℕ) (first : Option ℕ) (base : ℤ) (arrivals : List Arrival) (datagrams : List (List ℕ)) → IsSchedule plan → 1 ≤ window
-      → IsDeliveryOf plan reach first base arrivals datagrams → Hears plan window reach first base (pairs_in arrivals) datagrams
-  hears plan window reach first base arrivals datagrams is some followed =
+  pub hears : (plan : Plan) (window reach : ℕ) (first : Option ℕ) (first_frame : ℤ) (arrivals : List Arrival) (datagrams : List (List ℕ)) → IsSchedule plan → 1 ≤ window
+      → IsDeliveryOf plan reach first first_frame arrivals datagrams → Hears plan window reach first first_frame (pairs_in arrivals) datagrams
+  hears plan window reach first first_frame arrivals datagrams is some followed =
       let pairs : List (ℕ × ℕ) = pairs_in arrivals in
       let (others, sent) = others_of plan arrivals datagrams followed.arrive in
       let (packets, are) = some_packets plan pairs others sent in
-      let heard : IsHeard plan.carry plan.seq packets reach first base pairs others = record {
+      let heard : IsHeard plan.carry plan.seq packets reach first first_frame pairs others = record {
         sent = all_sent plan is pairs packets are;
         delivered = delivered plan is pairs packets are others sent;
-        based = followed.based;
+        is_first = followed.is_first;
         within_span = followed.within_span;
       } in
       let on : GoesOn (made window reach first) others = goes_on giving_ends (made window reach first) others (all_brought_of plan pairs others is sent) (some, tt) in
-      let stands = stands_new plan window reach first base arrivals datagrams followed in
-      let (answers, again) = with_strays plan is window reach base (made window reach first) on.after None arrivals [] datagrams on.answers on.given followed.arrive stands on.steps in
+      let stands = stands_new plan window reach first first_frame arrivals datagrams followed in
+      let (answers, again) = with_foreign plan is window reach first_frame (made window reach first) on.after None arrivals [] datagrams on.answers on.given followed.arrive stands on.steps in
       record {
         others = others;
         sent = sent;
@@ -59,8 +59,8 @@ module _ (collecting : Collecting) (giving_ends : GivingEnds) where
         fit = on.fit;
         without = on.steps;
         steps = again;
-        law = λ told rest after gives.
-            let run : Run window reach first told others on.answers (up_to told (on.given ++ rest)) =
+        law = λ frame_limit rest after gives.
+            let run : CollectorRun window reach first frame_limit others on.answers (up_to frame_limit (on.given ++ rest)) =
             record { during = on.given; rest = rest; mid = on.after; after = after; steps = on.steps; gives = gives; are = refl } in
-            (collecting plan.carry plan.seq window reach packets first told base pairs others on.answers (up_to told (on.given ++ rest)) some heard run).0;
+            (collecting plan.carry plan.seq window reach packets first frame_limit first_frame pairs others on.answers (up_to frame_limit (on.given ++ rest)) some heard run).0;
       }

@@ -2,7 +2,7 @@ pub mod OtherCarry
 pub mod Frames
 pub mod Packets
 pub mod Hearing
-pub mod Fronts
+pub mod Prefixes
 pub mod Firsts
 pub mod Places
 pub mod Sizes

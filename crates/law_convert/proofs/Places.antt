@@ -1,8 +1,8 @@
 -- Places in lists, and how far a collector counts.
 use Rattle.std.proofs.Common.{ℕ, zero, suc, ◌≡◌, ◌+◌, ◌<◌, List, [], ◌∷◌, ◌++◌, length, take, slice_get, Some, refl, ap, arith}
-use Rattle.dcp_collect.specs.State.{State, after_item}
-use Rattle.dcp_collect.specs.Runs.{Item}
-use Rattle.law_collect.specs.Laws.{Given}
+use Rattle.dcp_collect.specs.CollectorState.{CollectorState, after_item}
+use Rattle.dcp_collect.specs.Runs.{CollectorItem}
+use Rattle.law_collect.specs.Laws.{GivesSoFar}
 
 pub at_place : {X : Type 0} (xs ys : List X) (y : X) → slice_get (xs ++ y ∷ ys) (length xs) ≡ Some y
 at_place [] ys y = refl
@@ -15,7 +15,7 @@ in_front (suc n) zero (x ∷ xs) below = refl
 in_front (suc n) (suc k) (x ∷ xs) below = in_front n k xs (omega (arith, below))
 
 -- it counts on, and its end stays
-pub given_on : (more : List Item) (c d : State) → Given c more d → (d.next ≡ c.next + length more) × (d.end ≡ c.end)
+pub given_on : (more : List CollectorItem) (c d : CollectorState) → GivesSoFar c more d → (d.next ≡ c.next + length more) × (d.end ≡ c.end)
 given_on [] c d given = (omega (arith, ap (λ s. s.next) given), ap (λ s. s.end) given)
 given_on (item ∷ more) c d (idle, is, given) =
     let (next, end) = given_on more (after_item c) d given in (omega (arith, next), end)

@@ -12,9 +12,9 @@ use Rattle.dcp_pft.specs.Carrying.{shape_under}
 use Rattle.dcp_pft.proofs.Carried.{limit_is}
 use Rattle.dcp_pft.specs.Loss.{size, is_recoverable}
 use Rattle.dcp_collect.specs.Numbers.{end_of}
-use Rattle.dcp_collect.specs.State.{State, made, ready, ready_by, after_finish}
+use Rattle.dcp_collect.specs.CollectorState.{CollectorState, made, ready, ready_by, after_finish}
 use Rattle.dcp_collect.specs.declared.taken.Taken.{Taken}
-use Rattle.dcp_collect.specs.Runs.{Item, Packet, Lost, CollectorTakes, up_to}
+use Rattle.dcp_collect.specs.Runs.{CollectorItem, Packet, Lost, CollectorTakes, up_to}
 use Rattle.law_collect.specs.Delivery.{packet_at, got, newest_of, item_by, item, items}
 use Rattle.law_collect.specs.Laws.{Collecting, GivingEnds, StepsCount}
 use Rattle.drm_schedule.specs.declared.plan.Plan.{Plan}
@@ -23,12 +23,12 @@ use Rattle.drm_timeline.specs.Numbers.{frame_count}
 use Rattle.law_delivery.specs.Sent.{pairs_in}
 use Rattle.law_delivery.proofs.Lengths.{af_long, packet_long}
 use Rattle.law_delivery.proofs.Packets.{at_number, IsChosen, ArePackets, filler, filler_af, filler_is, chosen_at}
-use Rattle.dcp_sender.specs.Carried.{is_too_long}
+use Rattle.dcp_sender.specs.CarriesText.{is_too_long}
 use Rattle.cmd_convert.specs.Converting.{IsTooLarge}
-use Rattle.recv_reading.specs.Packets.{ComesAt, ComesTo, Terms}
+use Rattle.recv_reading.specs.Packets.{ComesAt, ComesTo, PacketRange}
 use Rattle.recv_reading.proofs.Ways.{taken_starts, finished_starts}
 use Rattle.law_convert.specs.Laws.{FitsCarry, NoneIsTooLarge}
-use Rattle.law_convert.proofs.Fronts.{front_followed}
+use Rattle.law_convert.proofs.Prefixes.{front_followed}
 use Rattle.law_convert.proofs.Hearing.{Hears, hears}
 use Rattle.law_convert.proofs.Places.{at_place, in_front, given_on}
 
@@ -65,71 +65,71 @@ sent_small plan under pairs packets is fits are (pos p) packet at =
     chosen_small plan under pairs p packet is fits below chosen
 sent_small plan under pairs packets is fits are (negsuc p) packet at = absurd (let none : None ≡ Some packet = at in cc)
 
-one_from : (a b : Item) → Some a ≡ Some b → a ≡ b
+one_from : (a b : CollectorItem) → Some a ≡ Some b → a ≡ b
 one_from a b same = cc
 
-item_small : (plan : Plan) (under : Carry) (window number : ℕ) (packets : List (List ℕ)) (base : ℤ) (told : Option ℕ) (pairs : List (ℕ × ℕ)) (k : ℕ) (given : Item) → IsSchedule plan → FitsCarry under plan
-    → ArePackets plan pairs packets → slice_get (items plan.carry packets window base told pairs) k ≡ Some given → IsTooLarge under given number → ⊥
-item_small plan under window number packets base told pairs k given is fits are at large =
-    let of : ℕ → Item = item plan.carry packets window base pairs in
-    let n : ℕ = end_of told (newest_of base None pairs) in
-    let within : k < length (items plan.carry packets window base told pairs) = slice_get_within (items plan.carry packets window base told pairs) k given at in
+item_small : (plan : Plan) (under : Carry) (window number : ℕ) (packets : List (List ℕ)) (first_frame : ℤ) (frame_limit : Option ℕ) (pairs : List (ℕ × ℕ)) (k : ℕ) (given : CollectorItem) → IsSchedule plan → FitsCarry under plan
+    → ArePackets plan pairs packets → slice_get (items plan.carry packets window first_frame frame_limit pairs) k ≡ Some given → IsTooLarge under given number → ⊥
+item_small plan under window number packets first_frame frame_limit pairs k given is fits are at large =
+    let of : ℕ → CollectorItem = item plan.carry packets window first_frame pairs in
+    let n : ℕ = end_of frame_limit (newest_of first_frame None pairs) in
+    let within : k < length (items plan.carry packets window first_frame frame_limit pairs) = slice_get_within (items plan.carry packets window first_frame frame_limit pairs) k given at in
     let below : k < n = omega (arith, within, length-map-range_with_len of 0 n) in
     let same : given ≡ of k = one_from given (of k) (sym at ∙ at_number of n k below) in
-    by_place plan.carry under (packet_at packets (base +ℤ pos k)) k number (got window base pairs k) (λ packet there. sent_small plan under pairs packets is fits are (base +ℤ pos k) packet there)
+    by_place plan.carry under (packet_at packets (first_frame +ℤ pos k)) k number (got window first_frame pairs k) (λ packet there. sent_small plan under pairs packets is fits are (first_frame +ℤ pos k) packet there)
     (subst (λ i. IsTooLarge under i number) same large)
 
 -- ---- so none comes
 
 -- where it comes behind these, and no end cuts it off
-there : (told : Option ℕ) (before rest : List Item) (given : Item) → (told ≡ None) ⊎ ((n : ℕ) × (told ≡ Some n) × (length before < n))
-    → slice_get (up_to told (before ++ given ∷ rest)) (length before) ≡ Some given
-there told before rest given may = by may (at_place before rest given)
+there : (frame_limit : Option ℕ) (before rest : List CollectorItem) (given : CollectorItem) → (frame_limit ≡ None) ⊎ ((n : ℕ) × (frame_limit ≡ Some n) × (length before < n))
+    → slice_get (up_to frame_limit (before ++ given ∷ rest)) (length before) ≡ Some given
+there frame_limit before rest given may = by may (at_place before rest given)
   where
-    by : (told ≡ None) ⊎ ((n : ℕ) × (told ≡ Some n) × (length before < n)) → slice_get (before ++ given ∷ rest) (length before) ≡ Some given
-        → slice_get (up_to told (before ++ given ∷ rest)) (length before) ≡ Some given
+    by : (frame_limit ≡ None) ⊎ ((n : ℕ) × (frame_limit ≡ Some n) × (length before < n)) → slice_get (before ++ given ∷ rest) (length before) ≡ Some given
+        → slice_get (up_to frame_limit (before ++ given ∷ rest)) (length before) ≡ Some given
     by (inl none) at = ap (λ o. slice_get (up_to o (before ++ given ∷ rest)) (length before)) none ∙ at
     by (inr (n, known, below)) at = ap (λ o. slice_get (up_to o (before ++ given ∷ rest)) (length before)) known ∙ (in_front n (length before) (before ++ given ∷ rest) below ∙ at)
 
 -- an item that is ready stands before the told end
-before_end : (told newest : Option ℕ) (last : State) (k : ℕ) → last.end ≡ Some (end_of told newest) → last.next ≡ k → ready last ≡ true → (told ≡ None) ⊎ ((n : ℕ) × (told ≡ Some n) × (k < n))
+before_end : (frame_limit newest : Option ℕ) (last : CollectorState) (k : ℕ) → last.end ≡ Some (end_of frame_limit newest) → last.next ≡ k → ready last ≡ true → (frame_limit ≡ None) ⊎ ((n : ℕ) × (frame_limit ≡ Some n) × (k < n))
 before_end None newest last k end next is_ready = inl refl
 before_end (Some n) newest last k end next is_ready =
     let below : last.next < n = ltb-true last.next n (sym (ap (λ o. ready_by o last) end) ∙ is_ready) in
     inr (n, refl, omega (arith, below, next))
 
 module _ (collecting : Collecting) (giving_ends : GivingEnds) (steps_count : StepsCount) where
-  module _ (plan : Plan) (carry : Carry) (is : IsSchedule plan) (fits : FitsCarry carry plan) (terms : Terms) (pairs : List (ℕ × ℕ)) (packets : List (List ℕ)) (given : List Item) (next : Item) (last : State) (number : ℕ)
-      (h : Hears plan terms.window terms.reach terms.first (pos 0) pairs packets) (at : ComesAt terms packets given next last) where
+  module _ (plan : Plan) (carry : Carry) (is : IsSchedule plan) (fits : FitsCarry carry plan) (range : PacketRange) (pairs : List (ℕ × ℕ)) (packets : List (List ℕ)) (given : List CollectorItem) (next : CollectorItem) (last : CollectorState) (number : ℕ)
+      (h : Hears plan range.window range.reach range.first (pos 0) pairs packets) (at : ComesAt range packets given next last) where
     not_taken : (bytes : List ℕ) (answer : Taken) → at.later ≡ bytes ∷ [] → CollectorTakes at.mid bytes answer at.state → IsTooLarge carry next number → ⊥
     not_taken bytes answer same takes large =
-        let (rest, begins) = taken_starts terms packets given next last at bytes answer same takes packets [] h.answers h.given h.mid (sym (append-nil packets)) h.steps in
+        let (rest, begins) = taken_starts range packets given next last at bytes answer same takes packets [] h.answers h.given h.mid (sym (append-nil packets)) h.steps in
         let (end, after, gives) = giving_ends (after_finish h.mid None) h.fit.0 h.fit.1 in
-        let whole : given ++ next ∷ (rest ++ end) ≡ items plan.carry h.packets terms.window (pos 0) None pairs =
+        let whole : given ++ next ∷ (rest ++ end) ≡ items plan.carry h.packets range.window (pos 0) None pairs =
         sym (append_assoc given (next ∷ rest) end) ∙ (ap (λ l. l ++ end) (sym begins) ∙ h.law None end after gives) in
-        item_small plan carry terms.window number h.packets (pos 0) None pairs (length given) next is fits h.are
+        item_small plan carry range.window number h.packets (pos 0) None pairs (length given) next is fits h.are
         (ap (λ l. slice_get l (length given)) (sym whole) ∙ there None given (rest ++ end) next (inl refl)) large
 
-    not_finished : at.later ≡ [] → at.state ≡ after_finish at.mid terms.told → IsTooLarge carry next number → ⊥
+    not_finished : at.later ≡ [] → at.state ≡ after_finish at.mid range.frame_limit → IsTooLarge carry next number → ⊥
     not_finished none ends large =
-        let (end, after, gives) = giving_ends (after_finish h.mid terms.told) h.fit.0 h.fit.1 in
-        let (rest, begins) = finished_starts terms packets given next last at none ends h.answers h.given end h.mid after h.steps gives in
+        let (end, after, gives) = giving_ends (after_finish h.mid range.frame_limit) h.fit.0 h.fit.1 in
+        let (rest, begins) = finished_starts range packets given next last at none ends h.answers h.given end h.mid after h.steps gives in
         let on = given_on at.more at.state last at.gives in
-        let counted : at.mid.next ≡ 0 + length at.during = steps_count (made terms.window terms.reach terms.first) at.mid at.before at.taken at.during at.steps in
+        let counted : at.mid.next ≡ 0 + length at.during = steps_count (made range.window range.reach range.first) at.mid at.before at.taken at.during at.steps in
         let first : at.state.next ≡ at.mid.next = ap (λ s. s.next) ends in
         let count : last.next ≡ length given = omega (arith, on.0, counted, first, ap length at.items_are, length-append at.during at.more) in
-        let end_is : last.end ≡ Some (end_of terms.told at.mid.newest) = on.1 ∙ ap (λ s. s.end) ends in
-        let whole : up_to terms.told (given ++ next ∷ rest) ≡ items plan.carry h.packets terms.window (pos 0) terms.told pairs =
-        ap (up_to terms.told) (sym begins) ∙ h.law terms.told end after gives in
-        item_small plan carry terms.window number h.packets (pos 0) terms.told pairs (length given) next is fits h.are
-        (ap (λ l. slice_get l (length given)) (sym whole) ∙ there terms.told given rest next (before_end terms.told at.mid.newest last (length given) end_is count at.is_ready)) large
+        let end_is : last.end ≡ Some (end_of range.frame_limit at.mid.newest) = on.1 ∙ ap (λ s. s.end) ends in
+        let whole : up_to range.frame_limit (given ++ next ∷ rest) ≡ items plan.carry h.packets range.window (pos 0) range.frame_limit pairs =
+        ap (up_to range.frame_limit) (sym begins) ∙ h.law range.frame_limit end after gives in
+        item_small plan carry range.window number h.packets (pos 0) range.frame_limit pairs (length given) next is fits h.are
+        (ap (λ l. slice_get l (length given)) (sym whole) ∙ there range.frame_limit given rest next (before_end range.frame_limit at.mid.newest last (length given) end_is count at.is_ready)) large
 
-    not_next : ComesTo terms at.later at.mid at.state → IsTooLarge carry next number → ⊥
+    not_next : ComesTo range at.later at.mid at.state → IsTooLarge carry next number → ⊥
     not_next (inl (bytes, answer, same, takes)) large = not_taken bytes answer same takes large
     not_next (inr (none, ends)) large = not_finished none ends large
 
   pub none_is_too_large : NoneIsTooLarge
-  none_is_too_large plan carry terms arrivals packets later given next last number is fits some followed at large =
-      let h = hears collecting giving_ends plan terms.window terms.reach terms.first (pos 0) (take (length packets) arrivals) packets is some
-      (front_followed plan terms.reach terms.first arrivals packets later followed) in
-      not_next plan carry is fits terms (pairs_in (take (length packets) arrivals)) packets given next last number h at at.comes large
+  none_is_too_large plan carry range arrivals packets later given next last number is fits some followed at large =
+      let h = hears collecting giving_ends plan range.window range.reach range.first (pos 0) (take (length packets) arrivals) packets is some
+      (front_followed plan range.reach range.first arrivals packets later followed) in
+      not_next plan carry is fits range (pairs_in (take (length packets) arrivals)) packets given next last number h at at.comes large

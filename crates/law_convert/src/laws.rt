@@ -13,7 +13,7 @@ use law_delivery::all_frames_are_given_at_once;
 pub fn conversions_are_captures()
     ensures whole { Converting }
     ensures early { ConvertingEarly }
-    ensures terms { ConversionsAreCaptures }
+    ensures range { ConversionsAreCaptures }
     ensures broken { BrokenConversions }
     ensures halted { HaltedConversions }
 {

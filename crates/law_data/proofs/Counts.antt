@@ -2,15 +2,15 @@
 use Rattle.std.proofs.Common.{◌≡◌, ℕ, ◌+◌, inl, inr, Bool, false, ◌&&◌, List, [], ◌∷◌, length, Option, Some, None, is_some, refl, ap, arith, eq-eqb}
 use Rattle.std.specs.Int.{from_bool}
 use Rattle.std.proofs.lemmas.Bool.{cases_eq, ne_eqb}
-use Rattle.drm_data.specs.Packet.{Packet}
-use Rattle.drm_data.specs.Joining.{Event, Came, Broken, Gap, Begun, State, made, cut_answer, answer, after}
+use Rattle.drm_data.specs.PacketFields.{PacketFields}
+use Rattle.drm_data.specs.Joining.{JoinerEvent, Received, Broken, Gap, OpenUnit, JoinerState, made, cut_answer, answer, after}
 use Rattle.law_data.specs.Runs.{answers, after_all, unit_in, tells_cut, with_unit, units_in, cuts_in, begins, begun_count}
 use Rattle.law_data.specs.Laws.{TellsEachOnce}
 use Rattle.law_data.proofs.Cases.{Case, Alone, Begins, Goes, Finishes, Breaks, Strays, case_of}
 use Rattle.law_data.proofs.WholeRuns.{after_id, begun_mine, begun_other, answer_mine, answer_other}
 
 -- what was open and what is begun, against what is given, cut and open
-abbrev Balanced : Bool → Option Begun → Option (List ℕ) → Bool → Option Begun → Type 0
+abbrev Balanced : Bool → Option OpenUnit → Option (List ℕ) → Bool → Option OpenUnit → Type 0
 Balanced first b gives cut c =
     from_bool first + from_bool (is_some b) ≡ from_bool (is_some gives) + from_bool cut + from_bool (is_some c)
 
@@ -20,23 +20,23 @@ some_is o x is = ap (λ v. from_bool (is_some v)) is
 none_is : {X : Type 0} (o : Option X) → o ≡ None → from_bool (is_some o) ≡ 0
 none_is o is = ap (λ v. from_bool (is_some v)) is
 
-balanced : (p : Packet) (b c : Option Begun) (gives : Option (List ℕ)) (cut : Bool) → Case b p c gives cut → Balanced p.first b gives cut c
-balanced p b c gives cut (Alone first last is given told) = omega (arith, ap from_bool first, some_is gives _ given, ap from_bool told, none_is c is)
-balanced p b c gives cut (Begins first last is given told) = omega (arith, ap from_bool first, none_is gives given, ap from_bool told, some_is c _ is)
-balanced p b c gives cut (Goes u was go last is given told) = omega (arith, ap from_bool go.not_first, some_is b _ was, none_is gives given, ap from_bool told, some_is c _ is)
-balanced p b c gives cut (Finishes u was go last is given told) = omega (arith, ap from_bool go.not_first, some_is b _ was, some_is gives _ given, ap from_bool told, none_is c is)
-balanced p b c gives cut (Breaks u was first odd is given told) = omega (arith, ap from_bool first, some_is b _ was, none_is gives given, ap from_bool told, none_is c is)
-balanced p b c gives cut (Strays was first is given told) = omega (arith, ap from_bool first, none_is b was, none_is gives given, ap from_bool told, none_is c is)
+balanced : (p : PacketFields) (b c : Option OpenUnit) (gives : Option (List ℕ)) (cut : Bool) → Case b p c gives cut → Balanced p.first b gives cut c
+balanced p b c gives cut (Alone first last is given cut_is) = omega (arith, ap from_bool first, some_is gives _ given, ap from_bool cut_is, none_is c is)
+balanced p b c gives cut (Begins first last is given cut_is) = omega (arith, ap from_bool first, none_is gives given, ap from_bool cut_is, some_is c _ is)
+balanced p b c gives cut (Goes u was go last is given cut_is) = omega (arith, ap from_bool go.not_first, some_is b _ was, none_is gives given, ap from_bool cut_is, some_is c _ is)
+balanced p b c gives cut (Finishes u was go last is given cut_is) = omega (arith, ap from_bool go.not_first, some_is b _ was, some_is gives _ given, ap from_bool cut_is, none_is c is)
+balanced p b c gives cut (Breaks u was first odd is given cut_is) = omega (arith, ap from_bool first, some_is b _ was, none_is gives given, ap from_bool cut_is, none_is c is)
+balanced p b c gives cut (Strays was first is given cut_is) = omega (arith, ap from_bool first, none_is b was, none_is gives given, ap from_bool cut_is, none_is c is)
 
-gap_balanced : (b : Option Begun) → Balanced false b (unit_in (cut_answer b)) (tells_cut (cut_answer b)) None
+gap_balanced : (b : Option OpenUnit) → Balanced false b (unit_in (cut_answer b)) (tells_cut (cut_answer b)) None
 gap_balanced None = refl
 gap_balanced (Some u) = refl
 
-step : (s : State) (e : Event) → Balanced (begins s.id e) s.begun (unit_in (answer s e)) (tells_cut (answer s e)) (after s e).begun
-step s (Came p) =
+step : (s : JoinerState) (e : JoinerEvent) → Balanced (begins s.id e) s.begun (unit_in (answer s e)) (tells_cut (answer s e)) (after s e).begun
+step s (Received p) =
     elim (cases_eq p.id s.id) [
       | inl mine ↦
-          let test : begins s.id (Came p) ≡ p.first = ap (λ b. b && p.first) (eq-eqb p.id s.id mine) in
+          let test : begins s.id (Received p) ≡ p.first = ap (λ b. b && p.first) (eq-eqb p.id s.id mine) in
           omega (
             arith,
             ap from_bool test,
@@ -46,7 +46,7 @@ step s (Came p) =
             ap (λ b. from_bool (is_some b)) (begun_mine s p mine),
           )
       | inr other ↦
-          let test : begins s.id (Came p) ≡ false = ap (λ b. b && p.first) (ne_eqb p.id s.id other) in
+          let test : begins s.id (Received p) ≡ false = ap (λ b. b && p.first) (ne_eqb p.id s.id other) in
           omega (
             arith,
             ap from_bool test,
@@ -62,7 +62,7 @@ with_unit-size : (o : Option (List ℕ)) (units : List (List ℕ)) → length (w
 with_unit-size None units = omega arith
 with_unit-size (Some unit) units = omega arith
 
-whole : (s : State) (events : List Event)
+whole : (s : JoinerState) (events : List JoinerEvent)
     → begun_count s.id events + from_bool (is_some s.begun)
     ≡ length (units_in (answers s events)) + cuts_in (answers s events) + from_bool (is_some (after_all s events).begun)
 whole s [] = omega arith

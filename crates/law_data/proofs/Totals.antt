@@ -11,13 +11,13 @@ use Rattle.drm_bits.proofs.DigitsLemmas.{digits-value}
 use Rattle.drm_bits.proofs.Registers.{run, length-run}
 use Rattle.drm_bits.proofs.Checks.{check-start, check-more, crc16_low}
 use Rattle.drm_data.specs.declared.fault.DataFault.TheVariants.{Length, Crc, Useful}
-use Rattle.drm_data.specs.Packet.{Packet, front, data_field}
+use Rattle.drm_data.specs.PacketFields.{PacketFields, front, data_field}
 use Rattle.drm_data.specs.Faults.{checked_bytes, check_value, says_padded, said_count, HasCheck}
-use Rattle.drm_data.specs.Joining.{Event, Came, Broken, ReadsDataPacket}
-use Rattle.drm_data.specs.Writing.{IsWritten, FitsDataPacket}
+use Rattle.drm_data.specs.Joining.{JoinerEvent, Received, Broken, ReadsDataPacket}
+use Rattle.drm_data.specs.Writing.{IsWrittenPacket, FitsDataPacket}
 use Rattle.drm_data.proofs.Joinings.{one_event}
 use Rattle.drm_data.proofs.Spellings.{packet_at, found_at}
-use Rattle.law_data.specs.Laws.{WrittenIsRead}
+use Rattle.law_data.specs.Laws.{WrittenUnitsAreRead}
 
 -- the register of sixteen bits behind these bytes
 abbrev low : List Bool
@@ -59,25 +59,25 @@ field_size d useful few =
           omega (arith, ap length is, full, few)
     ]
 
-pub some_written : (d : ℕ) (p : Packet) → FitsDataPacket d p → (bytes : List ℕ) × IsWritten d p bytes
+pub some_written : (d : ℕ) (p : PacketFields) → FitsDataPacket d p → (bytes : List ℕ) × IsWrittenPacket d p bytes
 some_written d p fits =
     let rest : List ℕ = replicate (d - 1 - length p.useful) 0 in
     let (check, is) = some_check (front d p rest) in
     (front d p rest ++ to_be_bytes w16 check, (check, record { id = fits.id; continuity = fits.continuity; size = field_size d p.useful fits.useful; spelled = refl; checked = is }))
 
 -- bytes are a packet, or are refused
-checked_event : (d : ℕ) (bytes : List ℕ) → 1 ≤ d → IsBytes bytes → HasCheck d bytes → (event : Event) × ReadsDataPacket d bytes event
+checked_event : (d : ℕ) (bytes : List ℕ) → 1 ≤ d → IsBytes bytes → HasCheck d bytes → (event : JoinerEvent) × ReadsDataPacket d bytes event
 checked_event d bytes some fits is =
     elim (cases_Bool (says_padded bytes)) [
       | inl padded ↦
           elim (cases_lt (said_count bytes) d) [
-            | inl few ↦ (Came (packet_at bytes), found_at d bytes some fits is (λ h. few))
+            | inl few ↦ (Received (packet_at bytes), found_at d bytes some fits is (λ h. few))
             | inr many ↦ (Broken (Useful (said_count bytes)), (is, padded, refl, many))
           ]
-      | inr whole ↦ (Came (packet_at bytes), found_at d bytes some fits is (λ h. absurd (let clash : true ≡ false = sym h ∙ whole in cc)))
+      | inr whole ↦ (Received (packet_at bytes), found_at d bytes some fits is (λ h. absurd (let clash : true ≡ false = sym h ∙ whole in cc)))
     ]
 
-pub some_event : (d : ℕ) (bytes : List ℕ) → 1 ≤ d → IsBytes bytes → (event : Event) × ReadsDataPacket d bytes event
+pub some_event : (d : ℕ) (bytes : List ℕ) → 1 ≤ d → IsBytes bytes → (event : JoinerEvent) × ReadsDataPacket d bytes event
 some_event d bytes some fits =
     elim (cases_eq (length bytes) (d + 3)) [
       | inl long ↦
@@ -89,7 +89,7 @@ some_event d bytes some fits =
       | inr other ↦ (Broken (Length (length bytes)), (refl, other))
     ]
 
-pub written_is_read : WrittenIsRead
+pub written_is_read : WrittenUnitsAreRead
 written_is_read d p bytes event (check, written) =
-    let reads : ReadsDataPacket d bytes (Came p) = (replicate (d - 1 - length p.useful) 0, check, written) in
-    (λ other. one_event d bytes event (Came p) other reads, λ is. subst (ReadsDataPacket d bytes) (sym is) reads)
+    let reads : ReadsDataPacket d bytes (Received p) = (replicate (d - 1 - length p.useful) 0, check, written) in
+    (λ other. one_event d bytes event (Received p) other reads, λ is. subst (ReadsDataPacket d bytes) (sym is) reads)

@@ -3,56 +3,56 @@ use Rattle.std.specs.Prelude.{ℕ, ◌≡◌, ◌+◌, ◌<◌, ◌≤◌, ◌�
 use Rattle.std.specs.List.{AllByRecursion}
 use Rattle.std.specs.Int.{from_bool}
 use Rattle.drm_bits.specs.Bits.{IsBytes}
-use Rattle.drm_data.specs.Packet.{Packet}
+use Rattle.drm_data.specs.PacketFields.{PacketFields}
 use Rattle.drm_data.specs.Units.{packets}
-use Rattle.drm_data.specs.Writing.{IsWritten}
-use Rattle.drm_data.specs.Joining.{Event, Came, ReadsDataPacket, State, made, answer}
-use Rattle.law_data.specs.Readings.{AreEvents, IsOpen, EventEndsUnit, AreUnits, EventCutsUnit}
+use Rattle.drm_data.specs.Writing.{IsWrittenPacket}
+use Rattle.drm_data.specs.Joining.{JoinerEvent, Received, ReadsDataPacket, JoinerState, made, answer}
+use Rattle.law_data.specs.Readings.{AreEvents, IsUnitOpen, EventEndsUnit, AreUnits, EventCutsUnit}
 use Rattle.law_data.specs.Runs.{answers, after_all, unit_in, tells_cut, units_in, cuts_in, begun_count}
 use Rattle.law_data.specs.Losses.{IsUnit, kept_of, whole_units, cut_count}
 
 -- bytes are one event
 abbrev pub OneEvent : Type 0
-OneEvent = (d : ℕ) (bytes : List ℕ) (first second : Event) → ReadsDataPacket d bytes first → ReadsDataPacket d bytes second → first ≡ second
+OneEvent = (d : ℕ) (bytes : List ℕ) (first second : JoinerEvent) → ReadsDataPacket d bytes first → ReadsDataPacket d bytes second → first ≡ second
 
 -- Bytes are a packet, or are refused.
 abbrev pub SomeEvent : Type 0
-SomeEvent = (d : ℕ) (bytes : List ℕ) → 1 ≤ d → IsBytes bytes → (event : Event) × ReadsDataPacket d bytes event
+SomeEvent = (d : ℕ) (bytes : List ℕ) → 1 ≤ d → IsBytes bytes → (event : JoinerEvent) × ReadsDataPacket d bytes event
 
 -- What is written of a packet is read as that packet, and as nothing else.
-abbrev pub WrittenIsRead : Type 0
-WrittenIsRead = (d : ℕ) (p : Packet) (bytes : List ℕ) (event : Event) → IsWritten d p bytes → ReadsDataPacket d bytes event ↔ (event ≡ Came p)
+abbrev pub WrittenUnitsAreRead : Type 0
+WrittenUnitsAreRead = (d : ℕ) (p : PacketFields) (bytes : List ℕ) (event : JoinerEvent) → IsWrittenPacket d p bytes → ReadsDataPacket d bytes event ↔ (event ≡ Received p)
 
 -- Of every reading a joiner gives the units that are in it, and no others.
 abbrev pub JoinsUnits : Type 0
 JoinsUnits =
-    (id d : ℕ) (reading : List (Option (List ℕ))) (events : List Event) (units : List (List ℕ))
+    (id d : ℕ) (reading : List (Option (List ℕ))) (events : List JoinerEvent) (units : List (List ℕ))
     → d < 256 → AreEvents d reading events
     → AreUnits id [] events units ↔ (units ≡ units_in (answers (made id d) events))
 
 -- In every reading, at each event: a joiner gives a unit exactly where the event ends one, and tells a cut exactly where a unit was
 -- open and the event cuts it.
-pub record AnswersRight (id : ℕ) (before : List Event) (s : State) (e : Event) : Type 0 where
+pub record AnswersRight (id : ℕ) (before : List JoinerEvent) (s : JoinerState) (e : JoinerEvent) : Type 0 where
   pub unit : (unit : List ℕ) → (unit_in (answer s e) ≡ Some unit) ↔ EventEndsUnit id before e unit
-  pub cut : (tells_cut (answer s e) ≡ true) ↔ ((ps : List Packet) × IsOpen id before ps × EventCutsUnit id ps e)
+  pub cut : (tells_cut (answer s e) ≡ true) ↔ ((ps : List PacketFields) × IsUnitOpen id before ps × EventCutsUnit id ps e)
 
 abbrev pub AnswersEach : Type 0
 AnswersEach =
-    (id d : ℕ) (reading : List (Option (List ℕ))) (before more : List Event) (e : Event)
+    (id d : ℕ) (reading : List (Option (List ℕ))) (before more : List JoinerEvent) (e : JoinerEvent)
     → d < 256 → AreEvents d reading (before ++ e ∷ more)
     → AnswersRight id before (after_all (made id d) before) e
 
 -- At each place of every reading a joiner has a unit open exactly where one is open.
 abbrev pub KnowsOpen : Type 0
 KnowsOpen =
-    (id d : ℕ) (reading : List (Option (List ℕ))) (events : List Event)
+    (id d : ℕ) (reading : List (Option (List ℕ))) (events : List JoinerEvent)
     → d < 256 → AreEvents d reading events
-    → (is_some (after_all (made id d) events).begun ≡ true) ↔ ((ps : List Packet) × IsOpen id events ps)
+    → (is_some (after_all (made id d) events).begun ≡ true) ↔ ((ps : List PacketFields) × IsUnitOpen id events ps)
 
 -- In every reading each unit that is begun is given, or its cut is told, once; but for the one that is open at the end.
 abbrev pub TellsEachOnce : Type 0
 TellsEachOnce =
-    (id d : ℕ) (events : List Event)
+    (id d : ℕ) (events : List JoinerEvent)
     → begun_count id events
     ≡ length (units_in (answers (made id d) events)) + cuts_in (answers (made id d) events)
     + from_bool (is_some (after_all (made id d) events).begun)

@@ -1,23 +1,23 @@
 -- Packets of units of which some are lost.
 use Rattle.std.specs.Prelude.{ℕ, ◌+◌, ◌≤◌, Bool, true, false, ◌&&◌, not, if◌then◌else◌, List, [], ◌∷◌, length, take, drop}
 use Rattle.std.specs.Int.{from_bool}
-use Rattle.drm_data.specs.Packet.{Packet}
+use Rattle.drm_data.specs.PacketFields.{PacketFields}
 use Rattle.drm_data.specs.Units.{most_unit, packet_count}
-use Rattle.drm_data.specs.Joining.{Event, Came, Gap}
+use Rattle.drm_data.specs.Joining.{JoinerEvent, Received, Gap}
 
 -- units that can be sent
 abbrev pub IsUnit : List ℕ → Type 0
 IsUnit unit = (1 ≤ length unit) × (length unit ≤ most_unit)
 
 -- what comes: a packet where it is kept, and a gap in place of each that isn't
-abbrev pub came_of : Bool → Packet → Event
-came_of true p = Came p
-came_of false p = Gap
+abbrev pub packet_or_gap : Bool → PacketFields → JoinerEvent
+packet_or_gap true p = Received p
+packet_or_gap false p = Gap
 
-abbrev pub kept_of : List Bool → List Packet → List Event
+abbrev pub kept_of : List Bool → List PacketFields → List JoinerEvent
 kept_of [] ps = []
 kept_of (k ∷ kept) [] = []
-kept_of (k ∷ kept) (p ∷ ps) = came_of k p ∷ kept_of kept ps
+kept_of (k ∷ kept) (p ∷ ps) = packet_or_gap k p ∷ kept_of kept ps
 
 abbrev pub all_kept : List Bool → Bool
 all_kept [] = true

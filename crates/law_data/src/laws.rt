@@ -1,6 +1,6 @@
 //! The laws of joining packets, each on a function that does nothing.
 
-ghost use Rattle.law_data.specs.Laws.{OneEvent, SomeEvent, WrittenIsRead, JoinsUnits, AnswersEach, KnowsOpen, TellsEachOnce, GivesWhatIsWhole};
+ghost use Rattle.law_data.specs.Laws.{OneEvent, SomeEvent, WrittenUnitsAreRead, JoinsUnits, AnswersEach, KnowsOpen, TellsEachOnce, GivesWhatIsWhole};
 
 /// Bytes are one packet, or are refused for one reason.
 pub fn one_event()
@@ -14,7 +14,7 @@ pub fn some_event()
 
 /// What is written of a packet is read as that packet.
 pub fn written_is_read()
-    ensures { WrittenIsRead }
+    ensures { WrittenUnitsAreRead }
 {}
 
 /// Of every reading the units that are in it are given, and no others.

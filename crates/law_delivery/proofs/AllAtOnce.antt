@@ -7,8 +7,8 @@ use Rattle.dcp_pft.specs.Carrying.{shape_under}
 use Rattle.dcp_pft.specs.Loss.{is_recoverable}
 use Rattle.dcp_collect.specs.declared.taken.Taken.{Taken}
 use Rattle.dcp_collect.specs.Fragments.{suffice, of_packet}
-use Rattle.dcp_collect.specs.State.{State, made, ready, ready_by, reached, after_item, after_finish}
-use Rattle.dcp_collect.specs.Runs.{Item, Packet, IsItem, CollectorGives, CollectorSteps, Run}
+use Rattle.dcp_collect.specs.CollectorState.{CollectorState, made, ready, ready_by, reached, after_item, after_finish}
+use Rattle.dcp_collect.specs.Runs.{CollectorItem, Packet, IsItem, CollectorGives, CollectorSteps, CollectorRun}
 use Rattle.law_collect.specs.Delivery.{number, is_number, is_at_least, packet_at, got, item_by, item}
 use Rattle.law_collect.specs.Laws.{IsHeard, Collecting, GivingEnds}
 use Rattle.law_collect.proofs.Runs.{gives_given}
@@ -27,30 +27,30 @@ use Rattle.law_delivery.proofs.Needed.{some_got}
 use Rattle.law_delivery.proofs.Numbering.{frame_is}
 use Rattle.law_delivery.proofs.Packets.{IsChosen, ArePackets, some_packets, all_sent, delivered, at_number}
 use Rattle.law_delivery.proofs.Paired.{IsPaired}
-use Rattle.law_delivery.proofs.Strays.{others_of, with_strays, stands_new}
+use Rattle.law_delivery.proofs.ForeignDatagrams.{others_of, with_foreign, stands_new}
 
 -- ---- after the last datagram nothing is ready, and there is no end
 
-steps_idle : (c d : State) (ds : List (List ℕ)) (answers : List Taken) (given : List Item) → CollectorSteps c ds answers given d → ready c ≡ false → ready d ≡ false
+steps_idle : (c d : CollectorState) (ds : List (List ℕ)) (answers : List Taken) (given : List CollectorItem) → CollectorSteps c ds answers given d → ready c ≡ false → ready d ≡ false
 steps_idle c d [] [] given steps idle = ap ready steps.1 ∙ idle
 steps_idle c d [] (a ∷ answers) given steps idle = absurd steps
 steps_idle c d (datagram ∷ ds) [] given steps idle = absurd steps
 steps_idle c d (datagram ∷ ds) (a ∷ answers) given (now, later, kept, mid, takes, gives, steps, are) idle =
     steps_idle mid d ds answers later steps (gives_given now kept mid gives).1
 
-gives_end : (given : List Item) (c d : State) → CollectorGives c given d → d.end ≡ c.end
-gives_end [] c d gives = ap (λ (s : State). s.end) gives.1
+gives_end : (given : List CollectorItem) (c d : CollectorState) → CollectorGives c given d → d.end ≡ c.end
+gives_end [] c d gives = ap (λ (s : CollectorState). s.end) gives.1
 gives_end (first ∷ given) c d gives = gives_end given (after_item c) d gives.2
 
-steps_end : (c d : State) (ds : List (List ℕ)) (answers : List Taken) (given : List Item) → CollectorSteps c ds answers given d → d.end ≡ c.end
-steps_end c d [] [] given steps = ap (λ (s : State). s.end) steps.1
+steps_end : (c d : CollectorState) (ds : List (List ℕ)) (answers : List Taken) (given : List CollectorItem) → CollectorSteps c ds answers given d → d.end ≡ c.end
+steps_end c d [] [] given steps = ap (λ (s : CollectorState). s.end) steps.1
 steps_end c d [] (a ∷ answers) given steps = absurd steps
 steps_end c d (datagram ∷ ds) [] given steps = absurd steps
 steps_end c d (datagram ∷ ds) (a ∷ answers) given (now, later, kept, mid, takes, gives, steps, are) =
-    steps_end mid d ds answers later steps ∙ gives_end now kept mid gives ∙ ap (λ (s : State). s.end) takes.after_is ∙ take_end c takes.read
+    steps_end mid d ds answers later steps ∙ gives_end now kept mid gives ∙ ap (λ (s : CollectorState). s.end) takes.after_is ∙ take_end c takes.read
 
 -- a packet that could be made would have been given
-not_sufficient : (c : State) → c.end ≡ None → ready c ≡ false → suffice (of_packet c.next c.kept) ≡ true → ⊥
+not_sufficient : (c : CollectorState) → c.end ≡ None → ready c ≡ false → suffice (of_packet c.next c.kept) ≡ true → ⊥
 not_sufficient c no_end idle enough =
     let late : Bool = reached c.newest (c.next + c.window) in
     let clash : true ≡ false = sym (ap (λ (b : Bool). b || late) enough) ∙ ap (λ (o : Option ℕ). ready_by o c) (sym no_end) ∙ idle in
@@ -64,7 +64,7 @@ at_seam (suc n) [] [] l = refl
 at_seam (suc n) [] (y ∷ ys) l = refl
 at_seam (suc n) (x ∷ xs) ys l = at_seam n xs ys (omega (arith, l))
 
-first_is : (ys : List Item) (y : Item) → slice_get ys 0 ≡ Some y → (more : List Item) × (ys ≡ y ∷ more)
+first_is : (ys : List CollectorItem) (y : CollectorItem) → slice_get ys 0 ≡ Some y → (more : List CollectorItem) × (ys ≡ y ∷ more)
 first_is [] y at = absurd (let e : None ≡ Some y = at in cc)
 first_is (x ∷ ys) y at = let same : x ≡ y = cc in (ys, ap (λ z. z ∷ ys) same)
 
@@ -102,18 +102,18 @@ zero_by false true index rest closed none = absurd (let e : false ≡ true = clo
 zero_by false false index rest closed none = none
 
 -- where a number closes itself, nothing of it is got
-zero_got : (base : ℤ) (pairs : List (ℕ × ℕ)) (q i : ℕ) → got 0 base pairs q i ≡ false
-zero_got base [] q i = refl
-zero_got base (pair ∷ pairs) q i =
+zero_got : (first_frame : ℤ) (pairs : List (ℕ × ℕ)) (q i : ℕ) → got 0 first_frame pairs q i ≡ false
+zero_got first_frame [] q i = refl
+zero_got first_frame (pair ∷ pairs) q i =
     let same : q ≡ q + 0 = omega arith in
-    zero_by (is_at_least (number base pair) (q + 0)) (is_number (number base pair) q) (eqb pair.1 i) (got 0 base pairs q i)
-    (λ is. subst (λ k. is_at_least (number base pair) k ≡ true) same (number_ahead (number base pair) q is)) (zero_got base pairs q i)
+    zero_by (is_at_least (number first_frame pair) (q + 0)) (is_number (number first_frame pair) q) (eqb pair.1 i) (got 0 first_frame pairs q i)
+    (λ is. subst (λ k. is_at_least (number first_frame pair) k ≡ true) same (number_ahead (number first_frame pair) q is)) (zero_got first_frame pairs q i)
 
-some_window : (plan : Plan) (window : ℕ) (base : ℤ) (pairs : List (ℕ × ℕ)) (q : ℕ) → IsSchedule plan → IsInTime plan window base pairs q → 1 ≤ window
-some_window plan zero base pairs q is time =
-    let one = some_got plan time.t (got 0 base pairs q) is time.enough in
-    absurd (true≢false (sym one.1 ∙ zero_got base pairs q one.0))
-some_window plan (suc window) base pairs q is time = omega arith
+some_window : (plan : Plan) (window : ℕ) (first_frame : ℤ) (pairs : List (ℕ × ℕ)) (q : ℕ) → IsSchedule plan → IsInTime plan window first_frame pairs q → 1 ≤ window
+some_window plan zero first_frame pairs q is time =
+    let one = some_got plan time.t (got 0 first_frame pairs q) is time.enough in
+    absurd (true≢false (sym one.1 ∙ zero_got first_frame pairs q one.0))
+some_window plan (suc window) first_frame pairs q is time = omega arith
 
 -- ---- all of them
 
@@ -126,20 +126,20 @@ module _ (collecting : Collecting) (giving_ends : GivingEnds) (plan : Plan) (win
   not_fewer : length run.given < frame_count plan → ⊥
   not_fewer few =
       let n : ℕ = frame_count plan in
-      let mid : State = run.after in
+      let mid : CollectorState = run.after in
       let m : ℕ = length run.given in
       let (rest, after, gives) = giving_ends (after_finish mid (Some n)) run.fit.0 run.fit.1 in
       let (packets, are) = some_packets plan pairs ds paired.sent in
       let heard : IsHeard plan.carry plan.seq packets reach first (pos 0) pairs ds = record {
         sent = all_sent plan is pairs packets are;
         delivered = delivered plan is pairs packets are ds paired.sent;
-        based = paired.based;
+        is_first = paired.is_first;
         within_span = paired.within_span;
       } in
-      let whole : Run window reach first (Some n) ds run.answers (take n (run.given ++ rest)) =
+      let whole : CollectorRun window reach first (Some n) ds run.answers (take n (run.given ++ rest)) =
       record { during = run.given; rest = rest; mid = mid; after = after; steps = run.steps; gives = gives; are = refl } in
       let law = (collecting plan.carry plan.seq window reach packets first (Some n) (pos 0) pairs ds run.answers (take n (run.given ++ rest)) some heard whole).0 in
-      let of : ℕ → Item = item plan.carry packets window (pos 0) pairs in
+      let of : ℕ → CollectorItem = item plan.carry packets window (pos 0) pairs in
       let at : slice_get rest 0 ≡ Some (of m) = sym (at_seam n run.given rest few) ∙ ap (λ l. slice_get l m) law ∙ at_number of n m few in
       let (more, begins) = first_is rest (of m) at in
       let (packet, there) = item_there plan window pairs packets is are m (in_time m few) in
@@ -147,7 +147,7 @@ module _ (collecting : Collecting) (giving_ends : GivingEnds) (plan : Plan) (win
       let made_next : IsItem (after_finish mid (Some n)) (Packet m packet) = subst (IsItem (after_finish mid (Some n))) there next in
       not_sufficient mid (steps_end (made window reach first) mid ds run.answers run.given run.steps) (steps_idle (made window reach first) mid ds run.answers run.given run.steps refl) made_next.1
 
-  pub pairs_all : (answers : List Taken) × (given : List Item) × (mid : State) × CollectorSteps (made window reach first) ds answers given mid × (frame_count plan ≤ length given)
+  pub pairs_all : (answers : List Taken) × (given : List CollectorItem) × (mid : CollectorState) × CollectorSteps (made window reach first) ds answers given mid × (frame_count plan ≤ length given)
   pairs_all = (
     run.answers,
     run.given,
@@ -165,7 +165,7 @@ all_at_once collecting giving_ends plan window reach first arrivals datagrams is
     let some : 1 ≤ window = some_window plan window (pos 0) (pairs_in arrivals) 0 is (in_time 0 one) in
     let (others, sent) = others_of plan arrivals datagrams followed.arrive in
     let (replies, given, mid, steps, enough) = pairs_all collecting giving_ends plan window reach first (pairs_in arrivals) others is some
-    (record { sent = sent; based = followed.based; within_span = followed.within_span }) in_time in
+    (record { sent = sent; is_first = followed.is_first; within_span = followed.within_span }) in_time in
     let stands = stands_new plan window reach first (pos 0) arrivals datagrams followed in
-    let (answers, again) = with_strays plan is window reach (pos 0) (made window reach first) mid None arrivals [] datagrams replies given followed.arrive stands steps in
+    let (answers, again) = with_foreign plan is window reach (pos 0) (made window reach first) mid None arrivals [] datagrams replies given followed.arrive stands steps in
     (answers, given, mid, again, enough)

@@ -8,11 +8,11 @@ use Rattle.drm_schedule.specs.declared.plan.Plan.{Plan}
 use Rattle.drm_schedule.specs.Valid.{IsSchedule}
 use Rattle.drm_reconfiguration.specs.Tracker.{new_tracker}
 use Rattle.dcp_collect.specs.declared.taken.Taken.{Taken}
-use Rattle.dcp_collect.specs.Reading.{Incoming, Read, Brings, IsRead}
-use Rattle.dcp_collect.specs.State.{State, made, answer, after_take, after_finish}
-use Rattle.dcp_collect.specs.Runs.{Item as Collected, CollectorTakes, CollectorSteps, Run}
+use Rattle.dcp_collect.specs.Reading.{Incoming, DatagramContent, Brings, IsReadAs}
+use Rattle.dcp_collect.specs.CollectorState.{CollectorState, made, answer, after_take, after_finish}
+use Rattle.dcp_collect.specs.Runs.{CollectorItem as Collected, CollectorTakes, CollectorSteps, CollectorRun}
 use Rattle.dcp_pft.specs.declared.carry.Carry.{Carry}
-use Rattle.law_collect.specs.Laws.{IsRight, OneReading, StepsJoin, IsFit, GivingEnds}
+use Rattle.law_collect.specs.Laws.{IsTakenWell, OneReading, StepsJoin, CollectorInvariant, GivingEnds}
 use Rattle.law_collect.proofs.Fit.{fit_after, fit_given}
 use Rattle.law_collect.proofs.Sent.{BringsPair}
 use Rattle.law_collect.proofs.Brought.{all_brought}
@@ -24,39 +24,39 @@ use Rattle.law_delivery.proofs.Packets.{IsChosen, ArePackets, some_packets, chos
 -- The datagram is read as something whose payload is bytes.
 pub record IsBrought (datagram : List ℕ) : Type 0 where
   pub incoming : Incoming
-  pub is_read : IsRead (Brings incoming) datagram
+  pub is_read : IsReadAs (Brings incoming) datagram
   pub bytes : IsBytes incoming.payload
 
 module _ (one_reading : OneReading) where
-  fit_taken : (c d : State) (datagram : List ℕ) (a : Taken) → IsBrought datagram → CollectorTakes c datagram a d → IsFit c → IsFit d
+  fit_taken : (c d : CollectorState) (datagram : List ℕ) (a : Taken) → IsBrought datagram → CollectorTakes c datagram a d → CollectorInvariant c → CollectorInvariant d
   fit_taken c d datagram a brought takes fit =
       let same : takes.read ≡ Brings brought.incoming = one_reading datagram (Brings brought.incoming) takes.read brought.is_read takes.is_read in
-      subst IsFit (sym (takes.after_is ∙ ap (after_take c) same)) (fit_after c brought.incoming fit brought.bytes)
+      subst CollectorInvariant (sym (takes.after_is ∙ ap (after_take c) same)) (fit_after c brought.incoming fit brought.bytes)
 
-  fit_steps : (c d : State) (datagrams : List (List ℕ)) (answers : List Taken) (given : List Collected) → AllByRecursion IsBrought datagrams
-      → CollectorSteps c datagrams answers given d → IsFit c → IsFit d
-  fit_steps c d [] [] given brought steps fit = subst IsFit (sym steps.1) fit
+  fit_steps : (c d : CollectorState) (datagrams : List (List ℕ)) (answers : List Taken) (given : List Collected) → AllByRecursion IsBrought datagrams
+      → CollectorSteps c datagrams answers given d → CollectorInvariant c → CollectorInvariant d
+  fit_steps c d [] [] given brought steps fit = subst CollectorInvariant (sym steps.1) fit
   fit_steps c d [] (a ∷ answers) given brought steps fit = absurd steps
   fit_steps c d (datagram ∷ datagrams) [] given brought steps fit = absurd steps
   fit_steps c d (datagram ∷ datagrams) (a ∷ answers) given brought (now, later, kept, mid, takes, gives, steps, are) fit =
       fit_steps mid d datagrams answers later brought.1 steps (fit_given now kept mid gives (fit_taken c kept datagram a brought.0 takes fit))
 
 -- Steps over these datagrams, which there are.
-pub record GoesOn (c : State) (datagrams : List (List ℕ)) : Type 0 where
+pub record GoesOn (c : CollectorState) (datagrams : List (List ℕ)) : Type 0 where
   pub answers : List Taken
   pub given : List Collected
-  pub after : State
+  pub after : CollectorState
   pub steps : CollectorSteps c datagrams answers given after
-  pub fit : IsFit after
+  pub fit : CollectorInvariant after
 
 module _ (giving_ends : GivingEnds) where
-  pub goes_on : (c : State) (datagrams : List (List ℕ)) → AllByRecursion IsBrought datagrams → IsFit c → GoesOn c datagrams
+  pub goes_on : (c : CollectorState) (datagrams : List (List ℕ)) → AllByRecursion IsBrought datagrams → CollectorInvariant c → GoesOn c datagrams
   goes_on c [] brought fit = record { answers = []; given = []; after = c; steps = (refl, refl); fit = fit }
   goes_on c (datagram ∷ datagrams) brought fit =
-      let read : Read = Brings brought.0.incoming in
-      let kept : State = after_take c read in
+      let read : DatagramContent = Brings brought.0.incoming in
+      let kept : CollectorState = after_take c read in
       let takes : CollectorTakes c datagram (answer c read) kept = record { read = read; is_read = brought.0.is_read; taken_is = refl; after_is = refl } in
-      let fit_kept : IsFit kept = fit_after c brought.0.incoming fit brought.0.bytes in
+      let fit_kept : CollectorInvariant kept = fit_after c brought.0.incoming fit brought.0.bytes in
       let now = giving_ends kept fit_kept.0 fit_kept.1 in
       let more = goes_on now.1 datagrams brought.1 (fit_given now.0 kept now.1 now.2 fit_kept) in
       record {
@@ -106,9 +106,9 @@ all_bytes carry sequence0 packets bytes (pair ∷ pairs) (datagram ∷ datagrams
 )
 
 -- some run over the whole delivery gives what was given early
-whole_run : StepsJoin → GivingEnds → (window reach n : ℕ) (first : Option ℕ) (datagrams later : List (List ℕ)) (answers : List Taken) (collected : List Collected) (mid : State)
-    → CollectorSteps (made window reach first) datagrams answers collected mid → n ≤ length collected → AllByRecursion IsBrought later → IsFit mid
-    → (more : List Taken) × Run window reach first (Some n) (datagrams ++ later) (answers ++ more) (take n collected)
+whole_run : StepsJoin → GivingEnds → (window reach n : ℕ) (first : Option ℕ) (datagrams later : List (List ℕ)) (answers : List Taken) (collected : List Collected) (mid : CollectorState)
+    → CollectorSteps (made window reach first) datagrams answers collected mid → n ≤ length collected → AllByRecursion IsBrought later → CollectorInvariant mid
+    → (more : List Taken) × CollectorRun window reach first (Some n) (datagrams ++ later) (answers ++ more) (take n collected)
 whole_run steps_join giving_ends window reach n first datagrams later answers collected mid before enough brought fit =
     let more = goes_on giving_ends mid later brought fit in
     let end = giving_ends (after_finish more.after (Some n)) more.fit.0 more.fit.1 in
@@ -138,23 +138,23 @@ all_brought_of plan pairs datagrams is sent =
     (all_brought carry plan.seq packets (all_sent plan is pairs packets are) pairs datagrams (delivered plan is pairs packets are datagrams sent))
 
 module _ (delivering : DeliveringPairs) (one_reading : OneReading) (steps_join : StepsJoin) (giving_ends : GivingEnds) where
-  run_on : (plan : Plan) (window reach n : ℕ) (first : Option ℕ) (base : ℤ) (pairs : List (ℕ × ℕ)) (datagrams later : List (List ℕ)) (answers : List Taken) (collected : List Collected) (mid : State)
-      → IsSchedule plan → 1 ≤ window → IsPaired plan reach first base pairs (datagrams ++ later) → CollectorSteps (made window reach first) datagrams answers collected mid → n ≤ length collected
-      → (more : List Taken) × Run window reach first (Some n) (datagrams ++ later) (answers ++ more) (take n collected)
-  run_on plan window reach n first base pairs datagrams later answers collected mid is some followed before enough =
+  run_on : (plan : Plan) (window reach n : ℕ) (first : Option ℕ) (first_frame : ℤ) (pairs : List (ℕ × ℕ)) (datagrams later : List (List ℕ)) (answers : List Taken) (collected : List Collected) (mid : CollectorState)
+      → IsSchedule plan → 1 ≤ window → IsPaired plan reach first first_frame pairs (datagrams ++ later) → CollectorSteps (made window reach first) datagrams answers collected mid → n ≤ length collected
+      → (more : List Taken) × CollectorRun window reach first (Some n) (datagrams ++ later) (answers ++ more) (take n collected)
+  run_on plan window reach n first first_frame pairs datagrams later answers collected mid is some followed before enough =
       let brought : AllByRecursion IsBrought (datagrams ++ later) = all_brought_of plan pairs (datagrams ++ later) is followed.sent in
-      let fit : IsFit mid = fit_steps one_reading (made window reach first) mid datagrams answers collected (all_front IsBrought datagrams later brought) before (some, tt) in
+      let fit : CollectorInvariant mid = fit_steps one_reading (made window reach first) mid datagrams answers collected (all_front IsBrought datagrams later brought) before (some, tt) in
       whole_run steps_join giving_ends window reach n first datagrams later answers collected mid before enough (all_behind datagrams later brought) fit
 
   -- those that are given early are those of the whole delivery
   pub pairs_early : PairsEarly
-  pairs_early plan window reach n first base pairs datagrams later answers collected mid steps after is some followed before enough feeds =
-      let whole = run_on plan window reach n first base pairs datagrams later answers collected mid is some followed before enough in
-      (delivering plan window reach first (Some n) base pairs (datagrams ++ later) (answers ++ whole.0) (take n collected) steps after is some followed whole.1 feeds).0
+  pairs_early plan window reach n first first_frame pairs datagrams later answers collected mid steps after is some followed before enough feeds =
+      let whole = run_on plan window reach n first first_frame pairs datagrams later answers collected mid is some followed before enough in
+      (delivering plan window reach first (Some n) first_frame pairs (datagrams ++ later) (answers ++ whole.0) (take n collected) steps after is some followed whole.1 feeds).0
 
   -- and no datagram is refused
   pub pairs_right : PairsRight
-  pairs_right plan window reach first base pairs datagrams later answers collected mid is some followed before =
-      let whole = run_on plan window reach 0 first base pairs datagrams later answers collected mid is some followed before (omega arith) in
-      let law = delivering plan window reach first (Some 0) base pairs (datagrams ++ later) (answers ++ whole.0) (take 0 collected) [] new_tracker is some followed whole.1 refl in
-      all_front IsRight answers whole.0 law.1
+  pairs_right plan window reach first first_frame pairs datagrams later answers collected mid is some followed before =
+      let whole = run_on plan window reach 0 first first_frame pairs datagrams later answers collected mid is some followed before (omega arith) in
+      let law = delivering plan window reach first (Some 0) first_frame pairs (datagrams ++ later) (answers ++ whole.0) (take 0 collected) [] new_tracker is some followed whole.1 refl in
+      all_front IsTakenWell answers whole.0 law.1

@@ -22,9 +22,9 @@ enough_got plan t kept is enough =
     any_may_be_lost plan.carry (packet_size plan t) kept is.in_lines.carry_fits fits.0 fits.1 enough
 
 pub given_in_time : GivenInTime
-given_in_time plan window base told pairs steps q step is given in_time at =
-    let kept : ℕ → Bool = got window base pairs q in
+given_in_time plan window first_frame frame_limit pairs steps q step is given in_time at =
+    let kept : ℕ → Bool = got window first_frame pairs q in
     let t : ℕ = in_time.t in
     let by_frame : IsItemBy plan (Some t) q kept step.item = subst (λ (o : Option ℕ). IsItemBy plan o q kept step.item) in_time.is (given.items q step at) in
     let served : IsServed plan t q step.item = subst (λ (b : Bool). IsServedWhere b plan t q kept step.item) (enough_got plan t kept is in_time.enough) by_frame in
-    (t, (frame_is plan (base +ℤ pos q) t in_time.is).0, served)
+    (t, (frame_is plan (first_frame +ℤ pos q) t in_time.is).0, served)

@@ -17,7 +17,7 @@ use Rattle.drm_schedule.specs.Sizes.{packet_len, stream_size}
 use Rattle.drm_schedule.specs.Valid.{IsSchedule, is_short}
 use Rattle.drm_fac.specs.Mode.{mode_code}
 use Rattle.mdi_items.specs.Names.{name_at, ptr, dlfc, fac_, sdci, robm, str}
-use Rattle.mdi_items.specs.Written.{Piece, IsHead, spelled, spelling, whole, block_piece, stream_pieces}
+use Rattle.mdi_items.specs.Written.{WrittenItem, AreHeadItems, spelled, spelling, whole, block_piece, stream_pieces}
 use Rattle.mdi_items.specs.RoundTrip.{Parts, BlockBytes, IsWrittenOf, block_pieces}
 use Rattle.mdi_items.proofs.RoundTripLemmas.{spelling-append}
 use Rattle.drm_timeline.specs.Standing.{config_of}
@@ -43,7 +43,7 @@ name_long (suc (suc (suc zero))) lt = refl
 name_long (suc (suc (suc (suc k)))) lt = absurd (omega (arith, lt))
 
 -- a piece has the four bytes of its name, four of its length, and its value's
-piece_length : (p : Piece) → length (name_at p.place) ≡ 4 → length (spelled p) ≡ 8 + length p.value
+piece_length : (p : WrittenItem) → length (name_at p.place) ≡ 4 → length (spelled p) ≡ 8 + length p.value
 piece_length p four = omega (arith, four, length-append (tag_head (name_at p.place) p.bits) p.value, length-append (name_at p.place) (to_be_bytes w32 p.bits))
 
 streams_length : (frame j : ℕ) (streams : List Stream) → All (λ (s : Stream). is_short (frame + 1) s ≡ false) streams → j + length streams ≤ 4
@@ -64,7 +64,7 @@ streams_length frame j (s ∷ streams) enough few =
     )
 
 -- five pieces
-five_long : (a b c d e : Piece) → length (spelling (a ∷ b ∷ c ∷ d ∷ e ∷ [])) ≡ length (spelled a) + (length (spelled b) + (length (spelled c) + (length (spelled d) + length (spelled e))))
+five_long : (a b c d e : WrittenItem) → length (spelling (a ∷ b ∷ c ∷ d ∷ e ∷ [])) ≡ length (spelled a) + (length (spelled b) + (length (spelled c) + (length (spelled d) + length (spelled e))))
 five_long a b c d e =
     omega (
       arith,
@@ -76,13 +76,13 @@ five_long a b c d e =
     )
 
 -- the items that stand at the front of each frame
-pub head_long : (count : ℕ) (fac : Fac) (mux : MuxDesc) (mode : Mode) (bytes : List ℕ) → IsHead count fac mux mode bytes → length bytes ≡ 63 + 3 * mux.count
+pub head_long : (count : ℕ) (fac : Fac) (mux : MuxDesc) (mode : Mode) (bytes : List ℕ) → AreHeadItems count fac mux mode bytes → length bytes ≡ 63 + 3 * mux.count
 head_long count fac mux mode bytes is =
-    let a : Piece = whole ptr (codes "DMDI" ++ replicate 4 0) in
-    let b : Piece = whole dlfc (to_be_bytes w32 count) in
-    let c : Piece = whole fac_ is.fac_bytes in
-    let d : Piece = whole sdci is.description in
-    let e : Piece = whole robm (mode_code mode ∷ []) in
+    let a : WrittenItem = whole ptr (codes "DMDI" ++ replicate 4 0) in
+    let b : WrittenItem = whole dlfc (to_be_bytes w32 count) in
+    let c : WrittenItem = whole fac_ is.fac_bytes in
+    let d : WrittenItem = whole sdci is.description in
+    let e : WrittenItem = whole robm (mode_code mode ∷ []) in
     omega (
       arith,
       ap length is.are,
@@ -109,8 +109,8 @@ payload_long : (plan : Plan) (t : ℕ) (parts : Parts) (payload : List ℕ) (fra
     → 12 + length payload ≡ packet_len frame.config (t % 3 == 0)
 payload_long plan t parts payload frame (front, is_head, are) enough few =
     let c : Config = frame.config in
-    let block : List Piece = block_pieces parts.block in
-    let streams : List Piece = stream_pieces 0 parts.streams in
+    let block : List WrittenItem = block_pieces parts.block in
+    let streams : List WrittenItem = stream_pieces 0 parts.streams in
     let head : length front ≡ 63 + 3 * length c.streams =
     head_long parts.count parts.fac parts.mux parts.mode front is_head ∙ ap (λ (d : MuxDesc). 63 + 3 * d.count) frame.mux in
     let of_block : length (spelling block) ≡ (if t % 3 == 0 then c.room + 11 else 0) = block_long (t % 3 == 0) plan (t / 3) c.room parts.block frame.block in

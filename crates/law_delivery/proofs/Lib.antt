@@ -14,7 +14,7 @@ pub mod Bytes
 pub mod Early
 pub mod Paired
 pub mod Following
-pub mod Strays
+pub mod ForeignDatagrams
 pub mod ServedFrames
 pub mod AllAtOnce
 pub mod WaysLemmas

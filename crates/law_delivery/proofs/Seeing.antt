@@ -19,7 +19,7 @@ use Rattle.drm_reconfiguration.specs.Seen.{signature_of}
 use Rattle.drm_timeline.specs.Standing.{config_of, index_of}
 use Rattle.drm_timeline.specs.Starts.{IsSeenOf, signature_at}
 use Rattle.drm_reconfiguration.specs.Switches.{IsFrame}
-use Rattle.mod_feed.specs.Items.{Item, Missing, position_of, shown_by, seen_in}
+use Rattle.mod_feed.specs.Items.{FrameItem, Missing, position_of, shown_by, seen_in}
 use Rattle.mod_feed.specs.Feeding.{FeedStep, all_seen}
 use Rattle.drm_timeline.specs.Numbers.{frame_count}
 use Rattle.law_delivery.specs.Sent.{shape_at, frame_of_number}
@@ -58,7 +58,7 @@ signature_is plan t c fac holds is =
     ∙ ap (option_map (λ (f : Fac). signature_of c.mode f.channel (description_of c))) is
 
 -- what is seen of a frame that is served is what the schedule has there
-pub seen_of : (plan : Plan) (t q : ℕ) (item : Item) → IsServed plan t q item → (seen : Seen) × (seen_in item ≡ Some seen) × IsSeenOf plan t seen
+pub seen_of : (plan : Plan) (t q : ℕ) (item : FrameItem) → IsServed plan t q item → (seen : Seen) × (seen_in item ≡ Some seen) × IsSeenOf plan t seen
 seen_of plan t q item served =
     let at = served.is_frame in
     let read = served.read in
@@ -82,37 +82,37 @@ seen_of plan t q item served =
     )
 
 -- Where something is seen in an item, the item is a frame of the schedule.
-pub record IsShown (plan : Plan) (base : ℤ) (q : ℕ) (item : Item) : Type 0 where
+pub record IsShown (plan : Plan) (first_frame : ℤ) (q : ℕ) (item : FrameItem) : Type 0 where
   pub t : ℕ
-  pub at : (base +ℤ pos q) ≡ pos t
+  pub at : (first_frame +ℤ pos q) ≡ pos t
   pub below : t < frame_count plan
   pub served : IsServed plan t q item
 
-missing : {X : Type 0} (item : Item) (seen : Seen) (q had total : ℕ) → item ≡ Missing q had total → seen_in item ≡ Some seen → X
+missing : {X : Type 0} (item : FrameItem) (seen : Seen) (q had total : ℕ) → item ≡ Missing q had total → seen_in item ≡ Some seen → X
 missing item seen q had total is some = absurd (let e : None ≡ Some seen = sym (ap seen_in is) ∙ some in cc)
 
-pub shown_in : (plan : Plan) (window : ℕ) (base : ℤ) (pairs : List (ℕ × ℕ)) (q : ℕ) (item : Item) (seen : Seen) → IsItemAt plan window base pairs q item
-    → seen_in item ≡ Some seen → IsShown plan base q item
-shown_in plan window base pairs q item seen is some = by (frame_of_number plan base q) refl is
+pub shown_in : (plan : Plan) (window : ℕ) (first_frame : ℤ) (pairs : List (ℕ × ℕ)) (q : ℕ) (item : FrameItem) (seen : Seen) → IsItemAt plan window first_frame pairs q item
+    → seen_in item ≡ Some seen → IsShown plan first_frame q item
+shown_in plan window first_frame pairs q item seen is some = by (frame_of_number plan first_frame q) refl is
   where
     kept : ℕ → Bool
-    kept = got window base pairs q
+    kept = got window first_frame pairs q
 
-    where_got : (t : ℕ) → frame_of_number plan base q ≡ Some t → (b : Bool) → IsServedWhere b plan t q kept item → IsShown plan base q item
-    where_got t at true served = let place = frame_is plan (base +ℤ pos q) t at in record { t = t; at = place.0; below = place.1; served = served }
+    where_got : (t : ℕ) → frame_of_number plan first_frame q ≡ Some t → (b : Bool) → IsServedWhere b plan t q kept item → IsShown plan first_frame q item
+    where_got t at true served = let place = frame_is plan (first_frame +ℤ pos q) t at in record { t = t; at = place.0; below = place.1; served = served }
     where_got t at false lost = missing item seen q _ _ lost some
 
-    by : (o : Option ℕ) → frame_of_number plan base q ≡ o → IsItemBy plan o q kept item → IsShown plan base q item
+    by : (o : Option ℕ) → frame_of_number plan first_frame q ≡ o → IsItemBy plan o q kept item → IsShown plan first_frame q item
     by None at lost = missing item seen q 0 0 lost some
     by (Some t) at is = where_got t at (is_recoverable (shape_at plan t) kept) is
 
 -- each frame that is seen among the items is the schedule's
-pub frame_seen : (plan : Plan) (window : ℕ) (base : ℤ) (told : Option ℕ) (pairs : List (ℕ × ℕ)) (steps : List FeedStep) (q : ℕ) (seen : Seen)
-    → AreGiven plan window base told pairs steps → IsFrame (all_seen steps) q seen
-    → (t : ℕ) × ((base +ℤ pos q) ≡ pos t) × (t < frame_count plan) × IsSeenOf plan t seen
-frame_seen plan window base told pairs steps q seen given frame =
+pub frame_seen : (plan : Plan) (window : ℕ) (first_frame : ℤ) (frame_limit : Option ℕ) (pairs : List (ℕ × ℕ)) (steps : List FeedStep) (q : ℕ) (seen : Seen)
+    → AreGiven plan window first_frame frame_limit pairs steps → IsFrame (all_seen steps) q seen
+    → (t : ℕ) × ((first_frame +ℤ pos q) ≡ pos t) × (t < frame_count plan) × IsSeenOf plan t seen
+frame_seen plan window first_frame frame_limit pairs steps q seen given frame =
     let from = mapped_at (λ (step : FeedStep). seen_in step.item) steps q (Some seen) frame in
-    let shown = shown_in plan window base pairs q from.0.item seen (given.items q from.0 from.1) from.2 in
+    let shown = shown_in plan window first_frame pairs q from.0.item seen (given.items q from.0 from.1) from.2 in
     let is = seen_of plan shown.t q from.0.item shown.served in
     let same : is.0 ≡ seen = some_seen is.0 seen (sym is.1 ∙ from.2) in
     (shown.t, shown.at, shown.below, subst (λ (s : Seen). IsSeenOf plan shown.t s) same is.2)

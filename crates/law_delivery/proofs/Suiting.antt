@@ -18,9 +18,9 @@ use Rattle.drm_schedule.specs.Sizes.{stream_size}
 use Rattle.drm_schedule.specs.Valid.{IsSchedule, is_short, is_hierarchical}
 use Rattle.drm_timeline.specs.Description.{description_of, part_of, parts_of}
 use Rattle.drm_timeline.specs.FastAccess.{identity_of}
-use Rattle.mdi_items.specs.RoundTrip.{Parts, BlockBytes, Suit, SuitsBlock}
+use Rattle.mdi_items.specs.RoundTrip.{Parts, BlockBytes, PartsSuit, SuitsBlock}
 use Rattle.mdi_items.proofs.RoundTripLemmas.{written_is_read}
-use Rattle.mod_feed.specs.Items.{Item, Frame, CarriesFrame, IsItemOf}
+use Rattle.mod_feed.specs.Items.{FrameItem, Frame, CarriesFrame, IsItemOf}
 use Rattle.mod_feed.proofs.ItemLemmas.{item_is_one}
 use Rattle.drm_timeline.specs.Numbers.{frame_count, sequence_number}
 use Rattle.drm_schedule.specs.Contents.{stream_bytes}
@@ -83,7 +83,7 @@ block_suits plan t room fac block few place has = by (t % 3 == 0) refl has
         (λ first. other_identity t later (subst (λ (n : ℕ). (n ≡ 0) ⊎ (n ≡ 3)) place first))
 
 -- the parts of each frame of a schedule are those of a frame that is read
-pub suits : (plan : Plan) (t : ℕ) (parts : Parts) → IsSchedule plan → t < frame_count plan → IsFrameAt plan t parts → Suit parts
+pub suits : (plan : Plan) (t : ℕ) (parts : Parts) → IsSchedule plan → t < frame_count plan → IsFrameAt plan t parts → PartsSuit parts
 suits plan t parts is within frame =
     let c : Config = frame.config in
     let config = config_is plan is (t / 3) c frame.holds in
@@ -116,7 +116,7 @@ suits plan t parts is within frame =
     }
 
 -- an item of a frame's packet is the frame, as the server made it
-pub served : (plan : Plan) (t q : ℕ) (packet : List ℕ) (item : Item) → IsSchedule plan → t < frame_count plan → IsPacketAt plan t packet → IsItemOf (Packet q packet) item
+pub served : (plan : Plan) (t q : ℕ) (packet : List ℕ) (item : FrameItem) → IsSchedule plan → t < frame_count plan → IsPacketAt plan t packet → IsItemOf (Packet q packet) item
     → IsServed plan t q item
 served plan t q packet item is within packet_is item_is =
     let read = written_is_read packet_is.parts packet_is.payload (suits plan t packet_is.parts is within packet_is.frame) packet_is.written in

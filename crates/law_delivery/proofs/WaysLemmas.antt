@@ -73,9 +73,9 @@ one_more P x xs here others (suc k) d within = others k d (omega (arith, within)
 
 pub later_start : LaterStart
 later_start plan first sent [] are all = ([], tt, λ k d within. absurd (omega (arith, within)))
-later_start plan first sent (datagram ∷ came) are all =
+later_start plan first sent (datagram ∷ received) are all =
     let (m, k, within, is) = of_frames plan first (frame_count plan - first) sent datagram are (all 0 datagram (omega arith)) in
-    let (arrivals, arrive, from) = later_start plan first sent came are (λ j d less. all (suc j) d (omega (arith, less))) in (
+    let (arrivals, arrive, from) = later_start plan first sent received are (λ j d less. all (suc j) d (omega (arith, less))) in (
       OfSchedule (first + m, k) ∷ arrivals,
       (record { within = omega (arith, within); is = is }, arrive),
       one_more (IsFrom first) (OfSchedule (first + m, k)) arrivals (omega arith) from,

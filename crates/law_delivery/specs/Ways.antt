@@ -3,7 +3,7 @@ use Rattle.std.specs.Prelude.{ℕ, ◌≡◌, ◌≤◌, ◌⊎◌, List, [], �
 use Rattle.std.specs.List.{AllZip}
 use Rattle.drm_schedule.specs.declared.plan.Plan.{Plan}
 use Rattle.drm_server.specs.Datagrams.{AreDatagrams}
-use Rattle.law_delivery.specs.Sent.{Arrival, OfSchedule, Stray, IsArrival}
+use Rattle.law_delivery.specs.Sent.{Arrival, OfSchedule, Foreign, IsArrival}
 
 -- both is one and other mixed in some way, each in its own order
 abbrev pub IsMixture : {A : Type 0} → List A → List A → List A → Type 0
@@ -21,11 +21,11 @@ TwoWays =
 -- the datagram of a frame from frame `first` on
 abbrev pub IsFrom : ℕ → Arrival → Type 0
 IsFrom first (OfSchedule pair) = first ≤ pair.0
-IsFrom first (Stray cause) = ⊥
+IsFrom first (Foreign cause) = ⊥
 
 -- Whatever comes of what is sent of a schedule from a frame on, some of it never, some twice, in any order, is a delivery of
 -- the schedule: of its frames from that one on, under their own numbers.
 abbrev pub LaterStart : Type 0
 LaterStart =
-    (plan : Plan) (first : ℕ) (sent came : List (List ℕ)) → AreDatagrams plan first sent → All (Contains sent) came
-    → (arrivals : List Arrival) × AllZip (IsArrival plan) arrivals came × All (IsFrom first) arrivals
+    (plan : Plan) (first : ℕ) (sent received : List (List ℕ)) → AreDatagrams plan first sent → All (Contains sent) received
+    → (arrivals : List Arrival) × AllZip (IsArrival plan) arrivals received × All (IsFrom first) arrivals

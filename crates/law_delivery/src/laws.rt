@@ -1,6 +1,6 @@
 //! Laws from what is sent to what is given, each on a function that does nothing.
 
-ghost use Rattle.law_delivery.specs.Laws.{Delivering, DeliveringEarly, StraysRefused, GivenInTime, SwitchesAtStarts, AllSwitches, AllFrames, AllAtOnce};
+ghost use Rattle.law_delivery.specs.Laws.{Delivering, DeliveringEarly, ForeignRefused, GivenInTime, SwitchesAtStarts, AllSwitches, AllFrames, AllAtOnce};
 ghost use Rattle.law_delivery.specs.Ways.{TwoWays, LaterStart};
 
 use law_collect::{collecting, giving_ends, one_reading, refusing, steps_join};
@@ -28,8 +28,8 @@ pub fn modulators_give_early()
 }
 
 /// Of a front of a delivery the strays alone were refused, too.
-pub fn strays_are_refused()
-    ensures { StraysRefused }
+pub fn foreign_are_refused()
+    ensures { ForeignRefused }
 {
     collecting();
     the_feed_tells_the_switches();
@@ -45,12 +45,12 @@ pub fn frames_in_time_are_given()
 {}
 
 /// A switch is told only before the first frame of a later configuration.
-pub fn switches_are_told_at_starts()
+pub fn switches_are_reported_at_starts()
     ensures { SwitchesAtStarts }
 {}
 
 /// Where no frame is missing, each of these has its switch, and nothing is resumed.
-pub fn all_switches_are_told()
+pub fn all_switches_are_reported()
     ensures { AllSwitches }
 {}
 

@@ -16,7 +16,7 @@ use Rattle.drm_schedule.specs.declared.config.Config.{Config}
 use Rattle.drm_schedule.specs.declared.plan.Plan.{Plan}
 use Rattle.mdi_items.specs.Frame.{Frame as MdiFrame}
 use Rattle.mdi_items.specs.RoundTrip.{Parts, IsFrameOf}
-use Rattle.mod_feed.specs.Items.{Item}
+use Rattle.mod_feed.specs.Items.{FrameItem}
 use Rattle.law_delivery.specs.Given.{IsServed}
 use Rattle.drm_schedule.specs.Contents.{stream_bytes}
 use Rattle.drm_server.specs.Frames.{IsFrameAt}
@@ -65,7 +65,7 @@ all_described plan t p is =
     let c : Config = is.config in
     ap (λ (l : List (List ℕ)). length l) is.streams ∙ (length-map c.streams (stream_bytes (t - 3 * c.start)) ∙ sym (ap (λ (mux : MuxDesc). mux.count) is.mux))
 
-pub served_lines : (plan : Plan) (t q : ℕ) (item : Item) → IsServed plan t q item → IsFrameLine plan t q (item_line item)
+pub served_lines : (plan : Plan) (t q : ℕ) (item : FrameItem) → IsServed plan t q item → IsFrameLine plan t q (item_line item)
 served_lines plan t q item is =
     let p : Parts = is.parts in
     let frame : MdiFrame = is.read.frame in

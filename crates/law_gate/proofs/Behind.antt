@@ -7,16 +7,16 @@ use Rattle.dcp_pft.specs.Loss.{is_recoverable}
 use Rattle.law_collect.specs.Delivery.{got}
 use Rattle.drm_schedule.specs.declared.plan.Plan.{Plan}
 use Rattle.drm_schedule.specs.Valid.{IsSchedule}
-use Rattle.mod_feed.specs.Items.{Item}
+use Rattle.mod_feed.specs.Items.{FrameItem}
 use Rattle.law_delivery.specs.Laws.{Delivering}
-use Rattle.law_delivery.specs.Sent.{Arrival, OfSchedule, Stray, AreSent, IsSent, IsArrival, IsDeliveryOf, pairs_in, shape_at, frame_of_number}
+use Rattle.law_delivery.specs.Sent.{Arrival, OfSchedule, Foreign, AreSent, IsSent, IsArrival, IsDeliveryOf, pairs_in, shape_at, frame_of_number}
 use Rattle.law_delivery.specs.Given.{IsServed, IsServedWhere, IsItemBy, IsAFrame}
 use Rattle.law_delivery.proofs.Numbering.{frame_is}
 use Rattle.law_frame_lines.specs.Laws.{ServedLines}
 use Rattle.law_convert.specs.Laws.{under}
 use Rattle.law_convert.proofs.OtherCarry.{frame_under}
 use Rattle.drm_gate.specs.Passing.{sent_of}
-use Rattle.law_gate.specs.Laws.{IsAmong, IsPassedOn, PassesSchedules, ComesAgain, GivesServed, ServedBehindOne, ServedBehindTwo, pairs_given}
+use Rattle.law_gate.specs.Laws.{IsAmong, IsDeliveryPassedOn, PassesSchedules, ComesAgain, GivesServed, ServedBehindOne, ServedBehindTwo, pairs_given}
 
 -- ---- it comes again
 
@@ -29,7 +29,7 @@ found plan (pair ∷ pairs) (d ∷ sent) (suc k) datagram are at = found plan pa
 
 again_one : (plan : Plan) (pairs : List (ℕ × ℕ)) (sent : List (List ℕ)) (datagram : List ℕ) → AreSent plan pairs sent → IsAmong sent datagram → (arrival : Arrival) × IsArrival plan arrival datagram
 again_one plan pairs sent datagram are (inl (k, at)) = let (pair, is) = found plan pairs sent k datagram are at in (OfSchedule pair, is)
-again_one plan pairs sent datagram are (inr (cause, is)) = (Stray cause, is)
+again_one plan pairs sent datagram are (inr (cause, is)) = (Foreign cause, is)
 
 again_of : (plan : Plan) (pairs : List (ℕ × ℕ)) (sent later : List (List ℕ)) → AreSent plan pairs sent → AllByRecursion (IsAmong sent) later → (again : List Arrival) × AllZip (IsArrival plan) again later
 again_of plan pairs sent [] are all = ([], tt)
@@ -39,12 +39,12 @@ again_of plan pairs sent (datagram ∷ later) are all =
     (arrival ∷ again, (is, rest))
 
 pub comes_again : PassesSchedules → ComesAgain
-comes_again passes plan carry rules base arrivals datagrams fates passed later among =
-    again_of (under carry plan) (pairs_given plan carry rules.window base rules.frames (pairs_in arrivals)) (sent_of fates) later (passes plan carry rules base arrivals datagrams fates passed) among
+comes_again passes plan carry rules first_frame arrivals datagrams fates passed later among =
+    again_of (under carry plan) (pairs_given plan carry rules.window first_frame rules.frames (pairs_in arrivals)) (sent_of fates) later (passes plan carry rules first_frame arrivals datagrams fates passed) among
 
 -- ---- its frames are the server's
 
-served_under : (plan : Plan) (carry : Carry) (t q : ℕ) (item : Item) → IsServed (under carry plan) t q item → IsServed plan t q item
+served_under : (plan : Plan) (carry : Carry) (t q : ℕ) (item : FrameItem) → IsServed (under carry plan) t q item → IsServed plan t q item
 served_under plan carry t q item is = record {
   parts = is.parts;
   is_frame = frame_under plan.carry (under carry plan) t is.parts is.is_frame;
@@ -54,49 +54,49 @@ served_under plan carry t q item is = record {
   item_is = is.item_is;
 }
 
-served_where : (plan : Plan) (t q : ℕ) (kept : ℕ → Bool) (item : Item) (b : Bool) → IsServedWhere b plan t q kept item → IsAFrame item → IsServed plan t q item
+served_where : (plan : Plan) (t q : ℕ) (kept : ℕ → Bool) (item : FrameItem) (b : Bool) → IsServedWhere b plan t q kept item → IsAFrame item → IsServed plan t q item
 served_where plan t q kept item true is frame = is
 served_where plan t q kept item false is frame = absurd (subst IsAFrame is frame)
 
-served_by : (plan : Plan) (base : ℤ) (q : ℕ) (kept : ℕ → Bool) (item : Item) (o : Option ℕ) → frame_of_number plan base q ≡ o → IsItemBy plan o q kept item → IsAFrame item
-    → (t : ℕ) × ((base +ℤ pos q) ≡ pos t) × IsServed plan t q item
-served_by plan base q kept item None at is frame = absurd (subst IsAFrame is frame)
-served_by plan base q kept item (Some t) at is frame = (t, (frame_is plan (base +ℤ pos q) t at).0, served_where plan t q kept item (is_recoverable (shape_at plan t) kept) is frame)
+served_by : (plan : Plan) (first_frame : ℤ) (q : ℕ) (kept : ℕ → Bool) (item : FrameItem) (o : Option ℕ) → frame_of_number plan first_frame q ≡ o → IsItemBy plan o q kept item → IsAFrame item
+    → (t : ℕ) × ((first_frame +ℤ pos q) ≡ pos t) × IsServed plan t q item
+served_by plan first_frame q kept item None at is frame = absurd (subst IsAFrame is frame)
+served_by plan first_frame q kept item (Some t) at is frame = (t, (frame_is plan (first_frame +ℤ pos q) t at).0, served_where plan t q kept item (is_recoverable (shape_at plan t) kept) is frame)
 
 module _ (lines : ServedLines) where
   gives_under : (plan : Plan) (carry : Carry) (later : List (List ℕ)) (again : List Arrival) → GivesServed (under carry plan) later again → GivesServed plan later again
-  gives_under plan carry later again gives window reach first told base answers collected steps after some based run feeds q step at frame =
-      let (t, place, served, line) = gives window reach first told base answers collected steps after some based run feeds q step at frame in
+  gives_under plan carry later again gives window reach first frame_limit first_frame answers collected steps after some is_first run feeds q step at frame =
+      let (t, place, served, line) = gives window reach first frame_limit first_frame answers collected steps after some is_first run feeds q step at frame in
       let is : IsServed plan t q step.item = served_under plan carry t q step.item served in
       (t, place, is, lines plan t q step.item is)
 
   module _ (delivering : Delivering) (passes : PassesSchedules) where
     gives_served : (plan : Plan) (later : List (List ℕ)) (again : List Arrival) → IsSchedule plan → AllZip (IsArrival plan) again later → GivesServed plan later again
-    gives_served plan later again schedule arrive window reach first told base answers collected steps after some (based, within, far) run feeds q step at frame =
-        let followed : IsDeliveryOf plan reach first base again later = record { arrive = arrive; based = based; within_span = within; far = far } in
-        let (given, suits) = delivering plan window reach first told base again later answers collected steps after schedule some followed run feeds in
-        let (t, place, is) = served_by plan base q (got window base (pairs_in again) q) step.item (frame_of_number plan base q) refl (given.items q step at) frame in
+    gives_served plan later again schedule arrive window reach first frame_limit first_frame answers collected steps after some (is_first, within, far) run feeds q step at frame =
+        let followed : IsDeliveryOf plan reach first first_frame again later = record { arrive = arrive; is_first = is_first; within_span = within; far = far } in
+        let (given, suits) = delivering plan window reach first frame_limit first_frame again later answers collected steps after schedule some followed run feeds in
+        let (t, place, is) = served_by plan first_frame q (got window first_frame (pairs_in again) q) step.item (frame_of_number plan first_frame q) refl (given.items q step at) frame in
         (t, place, is, lines plan t q step.item is)
 
     pub served_behind_one : ServedBehindOne
-    served_behind_one plan carry rules base arrivals datagrams fates passed later among =
-        let (again, arrive) = comes_again passes plan carry rules base arrivals datagrams fates passed later among in
+    served_behind_one plan carry rules first_frame arrivals datagrams fates passed later among =
+        let (again, arrive) = comes_again passes plan carry rules first_frame arrivals datagrams fates passed later among in
         (again, arrive, gives_under plan carry later again (gives_served (under carry plan) later again passed.other arrive))
 
   -- the first gateway's schedule is one under the second one's carry
   pub served_behind_two : ComesAgain → ServedBehindOne → ServedBehindTwo
-  served_behind_two comes served plan one other rules rules' base arrivals datagrams datagrams' fates fates' passed schedule some among onward =
-      let (arrivals', arrive) = comes plan one rules base arrivals datagrams fates passed datagrams' among in (
+  served_behind_two comes served plan one other rules rules' first_frame arrivals datagrams datagrams' fates fates' passed schedule some among onward =
+      let (arrivals', arrive) = comes plan one rules first_frame arrivals datagrams fates passed datagrams' among in (
         arrivals',
         arrive,
-        λ base' later (based, within, far) among_later.
-            let second : IsPassedOn (under one plan) other rules' base' arrivals' datagrams' fates' = record {
+        λ first_frame' later (is_first, within, far) among_later.
+            let second : IsDeliveryPassedOn (under one plan) other rules' first_frame' arrivals' datagrams' fates' = record {
               schedule = passed.other;
               other = schedule;
               some = some;
-              followed = record { arrive = arrive; based = based; within_span = within; far = far };
+              followed = record { arrive = arrive; is_first = is_first; within_span = within; far = far };
               onward = onward;
             } in
-            let (again, is, gives) = served (under one plan) other rules' base' arrivals' datagrams' fates' second later among_later in
+            let (again, is, gives) = served (under one plan) other rules' first_frame' arrivals' datagrams' fates' second later among_later in
             (again, is, gives_under plan one later again gives),
       )

@@ -3,8 +3,8 @@ use Rattle.std.proofs.Common.{ℕ, zero, suc, ◌≡◌, ◌+◌, ◌<◌, List,
 use Rattle.std.specs.Prelude.{slice_index_or}
 use Rattle.std.specs.List.{range_with_len, flat_map, AllZip}
 use Rattle.dcp_pft.specs.declared.carry.Carry.{Carry}
-use Rattle.dcp_collect.specs.Runs.{Item}
-use Rattle.drm_gate.specs.Passing.{Fate, OutcomeOf, BecomeAll, datagrams_of, sent_of}
+use Rattle.dcp_collect.specs.Runs.{CollectorItem}
+use Rattle.drm_gate.specs.Passing.{Outcome, OutcomeOf, OutcomesOf, datagrams_of, sent_of}
 use Rattle.law_gate.specs.Laws.{pairs_at}
 
 join : {A B : Type 0} (P : A → B → Type 0) (xs : List A) (ys : List B) (us : List A) (vs : List B) → AllZip P xs ys → AllZip P us vs → AllZip P (xs ++ us) (ys ++ vs)
@@ -30,8 +30,8 @@ each_at P p n datagrams many each =
     (λ i j is below. let same : i ≡ j = omega (arith, is) in let Q : ℕ → Type 0 = λ m. P (p, m) (slice_index_or datagrams i []) in subst Q same (each i below))
 
 -- all that becomes of the items of some numbers
-pub gather : (P : ℕ × ℕ → List ℕ → Type 0) (carry : Carry) (first : ℕ) (of : ℕ → Item) (pairs : ℕ → List (ℕ × ℕ)) (k n : ℕ) (fates : List Fate) → BecomeAll carry first (map of (range_with_len k n)) fates
-    → ((q : ℕ) (fate : Fate) → OutcomeOf carry first (of q) fate → AllZip P (pairs q) (datagrams_of fate)) → AllZip P (flat_map pairs (range_with_len k n)) (sent_of fates)
+pub gather : (P : ℕ × ℕ → List ℕ → Type 0) (carry : Carry) (first : ℕ) (of : ℕ → CollectorItem) (pairs : ℕ → List (ℕ × ℕ)) (k n : ℕ) (fates : List Outcome) → OutcomesOf carry first (map of (range_with_len k n)) fates
+    → ((q : ℕ) (fate : Outcome) → OutcomeOf carry first (of q) fate → AllZip P (pairs q) (datagrams_of fate)) → AllZip P (flat_map pairs (range_with_len k n)) (sent_of fates)
 gather P carry first of pairs k zero [] become each = tt
 gather P carry first of pairs k zero (fate ∷ fates) become each = absurd become
 gather P carry first of pairs k (suc n) [] become each = absurd become

@@ -10,7 +10,7 @@ use Rattle.dcp_pft.specs.declared.carry.Carry.{Carry}
 use Rattle.dcp_pft.specs.Limits.{most_packet}
 use Rattle.dcp_pft.specs.Loss.{size, is_recoverable}
 use Rattle.dcp_pft.specs.Carrying.{shape_under, datagram_count, CarriesPacket}
-use Rattle.dcp_collect.specs.Runs.{Item, Packet, Lost}
+use Rattle.dcp_collect.specs.Runs.{CollectorItem, Packet, Lost}
 use Rattle.dcp_collect.specs.Numbers.{end_of}
 use Rattle.law_collect.specs.Delivery.{IsPacketWith, sequence_at, AreSent, IsDatagramAt, packet_at, got, newest_of, item_by, item}
 use Rattle.law_collect.specs.Laws.{Collecting, OneReading}
@@ -20,22 +20,22 @@ use Rattle.dcp_sender.specs.Packets.{IsAny, sequence_of}
 use Rattle.recv_reading.specs.First.{first_of}
 use Rattle.law_delivery.proofs.Needed.{needed_of}
 use Rattle.dcp_sender.specs.OverLinks.{is_large}
-use Rattle.drm_gate.specs.Passing.{Fate, Sent, Bad, Large, Missing, OutcomeOf, BecomeAll, datagrams_of, sent_of}
+use Rattle.drm_gate.specs.Passing.{Outcome, Sent, Bad, Large, Missing, OutcomeOf, OutcomesOf, datagrams_of, sent_of}
 use Rattle.law_gate.specs.Laws.{pairs_at, place_of, pairs_of, AreWithin, PassesDeliveries}
 use Rattle.law_gate.proofs.Listed.{each_at, gather}
-use Rattle.law_gate.proofs.FirstNumber.{IsAtBase, first_known, sequence_same}
+use Rattle.law_gate.proofs.FirstNumber.{IsSequenceOfFirst, first_known, sequence_same}
 
 -- ---- one item
 
 -- Of a packet that was lost nothing is sent.
-pub lost_sends : (P : ℕ × ℕ → List ℕ → Type 0) (carry : Carry) (first q had total : ℕ) (fate : Fate) → OutcomeOf carry first (Lost q had total) fate → AllZip P [] (datagrams_of fate)
+pub lost_sends : (P : ℕ × ℕ → List ℕ → Type 0) (carry : Carry) (first q had total : ℕ) (fate : Outcome) → OutcomeOf carry first (Lost q had total) fate → AllZip P [] (datagrams_of fate)
 lost_sends P carry first q had total (Sent datagrams) become = absurd become
 lost_sends P carry first q had total Bad become = absurd become
 lost_sends P carry first q had total Large become = absurd become
 lost_sends P carry first q had total Missing become = tt
 
 -- A packet that is an AF packet, and within the limit, is sent: each of its datagrams in its place.
-pub packet_sends : (P : ℕ × ℕ → List ℕ → Type 0) (carry : Carry) (first q p n sequence : ℕ) (packet : List ℕ) (fate : Fate) → IsAny packet → length packet ≤ most_packet carry → sequence_of first q ≡ sequence
+pub packet_sends : (P : ℕ × ℕ → List ℕ → Type 0) (carry : Carry) (first q p n sequence : ℕ) (packet : List ℕ) (fate : Outcome) → IsAny packet → length packet ≤ most_packet carry → sequence_of first q ≡ sequence
     → datagram_count carry (length packet) ≡ n
     → ((datagrams : List (List ℕ)) (i : ℕ) → i < n → CarriesPacket carry sequence packet i (slice_index_or datagrams i []) → P (p, i) (slice_index_or datagrams i []))
     → OutcomeOf carry first (Packet q packet) fate → AllZip P (pairs_at p n) (datagrams_of fate)
@@ -50,26 +50,26 @@ packet_sends P carry first q p n sequence packet Missing any small same count ea
 
 -- ---- a delivery
 
-module _ (old new : Carry) (sequence0 window : ℕ) (packets : List (List ℕ)) (base : ℤ) (pairs : List (ℕ × ℕ)) (first : ℕ) (sent : AreSent old sequence0 packets) (within : AreWithin new packets)
-    (known : (pairs ≡ []) ⊎ IsAtBase sequence0 base first) where
+module _ (old new : Carry) (sequence0 window : ℕ) (packets : List (List ℕ)) (first_frame : ℤ) (pairs : List (ℕ × ℕ)) (first : ℕ) (sent : AreSent old sequence0 packets) (within : AreWithin new packets)
+    (known : (pairs ≡ []) ⊎ IsSequenceOfFirst sequence0 first_frame first) where
   abbrev Sends : ℕ × ℕ → List ℕ → Type 0
   Sends = IsDatagramAt new sequence0 packets
 
   -- a packet that can be made of what was got has the sequence number of its place
-  place_known : (q p : ℕ) (packet : List ℕ) → IsPacketWith old (sequence_at sequence0 p) packet → (base +ℤ pos q) ≡ pos p → is_recoverable (shape_under old (length packet)) (got window base pairs q) ≡ true
+  place_known : (q p : ℕ) (packet : List ℕ) → IsPacketWith old (sequence_at sequence0 p) packet → (first_frame +ℤ pos q) ≡ pos p → is_recoverable (shape_under old (length packet)) (got window first_frame pairs q) ≡ true
       → sequence_of first q ≡ sequence_at sequence0 p
   place_known q p packet is at enough =
       elim known [
         | inl none ↦
             let long = packet_long is.af packet is.is_af in
             let needed : is_recoverable (shape_under old (length packet)) (λ i. false) ≡ false = needed_of old (length packet) sent.carried (omega (arith, long)) is.small in
-            let of_none : is_recoverable (shape_under old (length packet)) (got window base [] q) ≡ true = subst (λ (l : List (ℕ × ℕ)). is_recoverable (shape_under old (length packet)) (got window base l q) ≡ true) none enough in
+            let of_none : is_recoverable (shape_under old (length packet)) (got window first_frame [] q) ≡ true = subst (λ (l : List (ℕ × ℕ)). is_recoverable (shape_under old (length packet)) (got window first_frame l q) ≡ true) none enough in
             absurd (true≢false (sym of_none ∙ needed))
-        | inr at_base ↦ sequence_same sequence0 first q p base at_base at
+        | inr of_first ↦ sequence_same sequence0 first q p first_frame of_first at
       ]
 
-  by_kept : (q p : ℕ) (packet : List ℕ) (had total : ℕ) (fate : Fate) → slice_get packets p ≡ Some packet → (base +ℤ pos q) ≡ pos p → (b : Bool) → is_recoverable (shape_under old (length packet)) (got window base pairs q) ≡ b
-      → OutcomeOf new first (cond b (Packet q packet) (Lost q had total)) fate → AllZip Sends (pairs_of new base (cond b (Packet q packet) (Lost q had total))) (datagrams_of fate)
+  by_kept : (q p : ℕ) (packet : List ℕ) (had total : ℕ) (fate : Outcome) → slice_get packets p ≡ Some packet → (first_frame +ℤ pos q) ≡ pos p → (b : Bool) → is_recoverable (shape_under old (length packet)) (got window first_frame pairs q) ≡ b
+      → OutcomeOf new first (cond b (Packet q packet) (Lost q had total)) fate → AllZip Sends (pairs_of new first_frame (cond b (Packet q packet) (Lost q had total))) (datagrams_of fate)
   by_kept q p packet had total fate there at true enough become =
       let is = sent.each p packet there in
       let all : AllZip Sends (pairs_at p (datagram_count new (length packet))) (datagrams_of fate) =
@@ -78,36 +78,36 @@ module _ (old new : Carry) (sequence0 window : ℕ) (packets : List (List ℕ)) 
       subst (λ (z : ℤ). AllZip Sends (pairs_at (place_of z) (datagram_count new (length packet))) (datagrams_of fate)) (sym at) all
   by_kept q p packet had total fate there at false enough become = lost_sends Sends new first q had total fate become
 
-  by_place : (q : ℕ) (fate : Fate) (z : ℤ) (o : Option (List ℕ)) → (base +ℤ pos q) ≡ z → packet_at packets z ≡ o → OutcomeOf new first (item_by old o q (got window base pairs q)) fate
-      → AllZip Sends (pairs_of new base (item_by old o q (got window base pairs q))) (datagrams_of fate)
+  by_place : (q : ℕ) (fate : Outcome) (z : ℤ) (o : Option (List ℕ)) → (first_frame +ℤ pos q) ≡ z → packet_at packets z ≡ o → OutcomeOf new first (item_by old o q (got window first_frame pairs q)) fate
+      → AllZip Sends (pairs_of new first_frame (item_by old o q (got window first_frame pairs q))) (datagrams_of fate)
   by_place q fate z None at there become = lost_sends Sends new first q 0 0 fate become
   by_place q fate (pos p) (Some packet) at there become =
       let shape = shape_under old (length packet) in
-      let had : ℕ = size shape.count (got window base pairs q) in
-      by_kept q p packet had (if had == 0 then 0 else shape.count) fate there at (is_recoverable shape (got window base pairs q)) refl become
+      let had : ℕ = size shape.count (got window first_frame pairs q) in
+      by_kept q p packet had (if had == 0 then 0 else shape.count) fate there at (is_recoverable shape (got window first_frame pairs q)) refl become
   by_place q fate (negsuc n) (Some packet) at there become = absurd (let none : None ≡ Some packet = there in cc)
 
-  pub each_sends : (q : ℕ) (fate : Fate) → OutcomeOf new first (item old packets window base pairs q) fate → AllZip Sends (pairs_of new base (item old packets window base pairs q)) (datagrams_of fate)
-  each_sends q fate become = by_place q fate (base +ℤ pos q) (packet_at packets (base +ℤ pos q)) refl refl become
+  pub each_sends : (q : ℕ) (fate : Outcome) → OutcomeOf new first (item old packets window first_frame pairs q) fate → AllZip Sends (pairs_of new first_frame (item old packets window first_frame pairs q)) (datagrams_of fate)
+  each_sends q fate become = by_place q fate (first_frame +ℤ pos q) (packet_at packets (first_frame +ℤ pos q)) refl refl become
 
 -- ---- the law
 
 pub passes_deliveries : Collecting → OneReading → PassesDeliveries
-passes_deliveries collecting one_reading old new sequence0 packets rules base pairs datagrams fates some fits within heard onward =
-    let law = collecting old sequence0 rules.window rules.reach packets rules.first rules.frames base pairs datagrams onward.taken onward.items some heard onward.run in
+passes_deliveries collecting one_reading old new sequence0 packets rules first_frame pairs datagrams fates some fits within heard onward =
+    let law = collecting old sequence0 rules.window rules.reach packets rules.first rules.frames first_frame pairs datagrams onward.taken onward.items some heard onward.run in
     let first : ℕ = first_of onward.run.mid in
-    let of : ℕ → Item = item old packets rules.window base pairs in
-    let n : ℕ = end_of rules.frames (newest_of base None pairs) in
-    let known = first_known one_reading old sequence0 rules.window rules.reach packets rules.first base pairs datagrams onward.taken onward.run.during onward.run.mid
-    (all_brought old sequence0 packets heard.sent pairs datagrams heard.delivered) heard.based onward.run.steps in
-    let become : BecomeAll new first (map of (range_with_len 0 n)) fates = subst (λ (l : List Item). BecomeAll new first l fates) law.0 onward.become in
-    let all : AllZip (IsDatagramAt new sequence0 packets) (flat_map (λ q. pairs_of new base (of q)) (range_with_len 0 n)) (sent_of fates) =
-    gather (IsDatagramAt new sequence0 packets) new first of (λ q. pairs_of new base (of q)) 0 n fates become (each_sends old new sequence0 rules.window packets base pairs first heard.sent within known) in
+    let of : ℕ → CollectorItem = item old packets rules.window first_frame pairs in
+    let n : ℕ = end_of rules.frames (newest_of first_frame None pairs) in
+    let known = first_known one_reading old sequence0 rules.window rules.reach packets rules.first first_frame pairs datagrams onward.taken onward.run.during onward.run.mid
+    (all_brought old sequence0 packets heard.sent pairs datagrams heard.delivered) heard.is_first onward.run.steps in
+    let become : OutcomesOf new first (map of (range_with_len 0 n)) fates = subst (λ (l : List CollectorItem). OutcomesOf new first l fates) law.0 onward.become in
+    let all : AllZip (IsDatagramAt new sequence0 packets) (flat_map (λ q. pairs_of new first_frame (of q)) (range_with_len 0 n)) (sent_of fates) =
+    gather (IsDatagramAt new sequence0 packets) new first of (λ q. pairs_of new first_frame (of q)) 0 n fates become (each_sends old new sequence0 rules.window packets first_frame pairs first heard.sent within known) in
     record {
       are_sent = record {
         few = heard.sent.few;
         carried = fits;
         each = λ p packet there. let is = heard.sent.each p packet there in record { af = is.af; is_af = is.is_af; seq = is.seq; small = within p packet there };
       };
-      delivered = subst (λ (l : List (ℕ × ℕ)). AllZip (IsDatagramAt new sequence0 packets) l (sent_of fates)) (sym (flat_map-map (pairs_of new base) of (range_with_len 0 n))) all;
+      delivered = subst (λ (l : List (ℕ × ℕ)). AllZip (IsDatagramAt new sequence0 packets) l (sent_of fates)) (sym (flat_map-map (pairs_of new first_frame) of (range_with_len 0 n))) all;
     }

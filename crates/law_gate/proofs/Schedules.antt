@@ -9,8 +9,8 @@ use Rattle.dcp_pft.specs.declared.shape.Shape.{Shape}
 use Rattle.dcp_pft.specs.Loss.{size, is_recoverable}
 use Rattle.dcp_pft.specs.Carrying.{shape_under, datagram_count}
 use Rattle.dcp_pft.proofs.Carried.{limit_is}
-use Rattle.dcp_collect.specs.State.{State, made, after_finish}
-use Rattle.dcp_collect.specs.Runs.{Item, Packet, Lost, CollectorGives, up_to}
+use Rattle.dcp_collect.specs.CollectorState.{CollectorState, made, after_finish}
+use Rattle.dcp_collect.specs.Runs.{CollectorItem, Packet, Lost, CollectorGives, up_to}
 use Rattle.dcp_collect.specs.Numbers.{end_of}
 use Rattle.dcp_collect.proofs.Sets.{recoverable_same}
 use Rattle.law_collect.specs.Delivery.{packet_at, got, newest_of, item_by, item, items}
@@ -32,37 +32,37 @@ use Rattle.law_delivery.proofs.Packets.{IsChosen, ArePackets, delivered, filler,
 use Rattle.law_convert.specs.Laws.{under}
 use Rattle.law_convert.proofs.Hearing.{Hears, hears}
 use Rattle.law_convert.proofs.OtherCarry.{packet_under}
-use Rattle.drm_gate.specs.Passing.{Fate, OutcomeOf, BecomeAll, datagrams_of}
+use Rattle.drm_gate.specs.Passing.{Outcome, OutcomeOf, OutcomesOf, datagrams_of}
 use Rattle.law_gate.specs.Laws.{pairs_where, pairs_by, PassesSchedules}
 use Rattle.law_gate.proofs.Listed.{gather}
-use Rattle.law_gate.proofs.FirstNumber.{IsAtBase, first_known, sequence_same}
+use Rattle.law_gate.proofs.FirstNumber.{IsSequenceOfFirst, first_known, sequence_same}
 use Rattle.law_gate.proofs.Packets.{lost_sends, packet_sends}
 
 -- the item of a packet that was cut in this shape
-abbrev item_in : Shape → List ℕ → ℕ → (ℕ → Bool) → Item
+abbrev item_in : Shape → List ℕ → ℕ → (ℕ → Bool) → CollectorItem
 item_in shape packet q kept =
     if is_recoverable shape kept then Packet q packet else (let had = size shape.count kept in Lost q had (if had == 0 then 0 else shape.count))
 
-module _ (plan : Plan) (carry : Carry) (schedule : IsSchedule plan) (other : IsSchedule (under carry plan)) (window : ℕ) (base : ℤ) (pairs : List (ℕ × ℕ)) (packets : List (List ℕ)) (are : ArePackets plan pairs packets)
-    (first : ℕ) (known : (pairs ≡ []) ⊎ IsAtBase plan.seq base first) (q : ℕ) (fate : Fate) where
+module _ (plan : Plan) (carry : Carry) (schedule : IsSchedule plan) (other : IsSchedule (under carry plan)) (window : ℕ) (first_frame : ℤ) (pairs : List (ℕ × ℕ)) (packets : List (List ℕ)) (are : ArePackets plan pairs packets)
+    (first : ℕ) (known : (pairs ≡ []) ⊎ IsSequenceOfFirst plan.seq first_frame first) (q : ℕ) (fate : Outcome) where
   abbrev Sends : ℕ × ℕ → List ℕ → Type 0
   Sends = IsSent (under carry plan)
 
   abbrev kept : ℕ → Bool
-  kept = got window base pairs q
+  kept = got window first_frame pairs q
 
   -- ---- of a packet of the schedule
 
-  place_known : (t : ℕ) → (base +ℤ pos q) ≡ pos t → is_recoverable (shape_at plan t) kept ≡ true → sequence_of first q ≡ sequence_number plan t
+  place_known : (t : ℕ) → (first_frame +ℤ pos q) ≡ pos t → is_recoverable (shape_at plan t) kept ≡ true → sequence_of first q ≡ sequence_number plan t
   place_known t at enough =
       elim known [
         | inl none ↦
-            let of_none : is_recoverable (shape_at plan t) (got window base [] q) ≡ true = subst (λ (l : List (ℕ × ℕ)). is_recoverable (shape_at plan t) (got window base l q) ≡ true) none enough in
+            let of_none : is_recoverable (shape_at plan t) (got window first_frame [] q) ≡ true = subst (λ (l : List (ℕ × ℕ)). is_recoverable (shape_at plan t) (got window first_frame l q) ≡ true) none enough in
             absurd (true≢false (sym of_none ∙ some_needed plan t schedule))
-        | inr at_base ↦ sequence_same plan.seq first q t base at_base at
+        | inr of_first ↦ sequence_same plan.seq first q t first_frame of_first at
       ]
 
-  frame_where : (t : ℕ) (packet : List ℕ) (had total : ℕ) → t < frame_count plan → IsPacketAt plan t packet → (base +ℤ pos q) ≡ pos t → (b : Bool) → is_recoverable (shape_at plan t) kept ≡ b
+  frame_where : (t : ℕ) (packet : List ℕ) (had total : ℕ) → t < frame_count plan → IsPacketAt plan t packet → (first_frame +ℤ pos q) ≡ pos t → (b : Bool) → is_recoverable (shape_at plan t) kept ≡ b
       → OutcomeOf carry first (cond b (Packet q packet) (Lost q had total)) fate → AllZip Sends (pairs_where b plan carry t) (datagrams_of fate)
   frame_where t packet had total below is at true enough become =
       let here : IsPacketAt (under carry plan) t packet = packet_under carry plan t packet is in
@@ -75,7 +75,7 @@ module _ (plan : Plan) (carry : Carry) (schedule : IsSchedule plan) (other : IsS
       (λ datagrams i within carries. record { within = below; is = record { packet = packet; is_packet = here; within = omega (arith, within, count); is = carries } }) become
   frame_where t packet had total below is at false enough become = lost_sends Sends carry first q had total fate become
 
-  of_frame : (t : ℕ) (packet : List ℕ) → t < frame_count plan → IsPacketAt plan t packet → (base +ℤ pos q) ≡ pos t → OutcomeOf carry first (item_by plan.carry (Some packet) q kept) fate
+  of_frame : (t : ℕ) (packet : List ℕ) → t < frame_count plan → IsPacketAt plan t packet → (first_frame +ℤ pos q) ≡ pos t → OutcomeOf carry first (item_by plan.carry (Some packet) q kept) fate
       → AllZip Sends (pairs_by plan carry (Some t) kept) (datagrams_of fate)
   of_frame t packet below is at become =
       let same : shape_under plan.carry (length packet) ≡ shape_at plan t = ap (shape_under plan.carry) (packet_long plan t packet schedule below is) in
@@ -102,12 +102,12 @@ module _ (plan : Plan) (carry : Carry) (schedule : IsSchedule plan) (other : IsS
 
   -- ---- of any place
 
-  of_chosen : (t : ℕ) (packet : List ℕ) → t < frame_count plan → IsChosen plan pairs t packet → (base +ℤ pos q) ≡ pos t → OutcomeOf carry first (item_by plan.carry (Some packet) q kept) fate
+  of_chosen : (t : ℕ) (packet : List ℕ) → t < frame_count plan → IsChosen plan pairs t packet → (first_frame +ℤ pos q) ≡ pos t → OutcomeOf carry first (item_by plan.carry (Some packet) q kept) fate
       → AllZip Sends (pairs_by plan carry (Some t) kept) (datagrams_of fate)
   of_chosen t packet below (inl chosen) at become = of_frame t packet below chosen at become
-  of_chosen t packet below (inr (nothing, same)) at become = of_none t packet same (λ i. none_got window base pairs q i t at nothing) become
+  of_chosen t packet below (inr (nothing, same)) at become = of_none t packet same (λ i. none_got window first_frame pairs q i t at nothing) become
 
-  of_place : (z : ℤ) → (base +ℤ pos q) ≡ z → OutcomeOf carry first (item_by plan.carry (packet_at packets z) q kept) fate → AllZip Sends (pairs_by plan carry (frame_at plan z) kept) (datagrams_of fate)
+  of_place : (z : ℤ) → (first_frame +ℤ pos q) ≡ z → OutcomeOf carry first (item_by plan.carry (packet_at packets z) q kept) fate → AllZip Sends (pairs_by plan carry (frame_at plan z) kept) (datagrams_of fate)
   of_place (negsuc n) at become = lost_sends Sends carry first q 0 0 fate become
   of_place (pos t) at become =
       elim (cases_lt t (frame_count plan)) [
@@ -122,27 +122,27 @@ module _ (plan : Plan) (carry : Carry) (schedule : IsSchedule plan) (other : IsS
             (lost_sends Sends carry first q 0 0 fate (subst (λ (o : Option (List ℕ)). OutcomeOf carry first (item_by plan.carry o q kept) fate) none become))
       ]
 
-  pub each_sends : OutcomeOf carry first (item plan.carry packets window base pairs q) fate → AllZip Sends (pairs_by plan carry (frame_at plan (base +ℤ pos q)) kept) (datagrams_of fate)
-  each_sends become = of_place (base +ℤ pos q) refl become
+  pub each_sends : OutcomeOf carry first (item plan.carry packets window first_frame pairs q) fate → AllZip Sends (pairs_by plan carry (frame_at plan (first_frame +ℤ pos q)) kept) (datagrams_of fate)
+  each_sends become = of_place (first_frame +ℤ pos q) refl become
 
 -- ---- the law
 
 pub passes_schedules : Collecting → GivingEnds → OneReading → OneRun → PassesSchedules
-passes_schedules collecting giving_ends one_reading one_run plan carry rules base arrivals datagrams fates passed =
+passes_schedules collecting giving_ends one_reading one_run plan carry rules first_frame arrivals datagrams fates passed =
     let pairs : List (ℕ × ℕ) = pairs_in arrivals in
     let run = passed.onward.run in
-    let h : Hears plan rules.window rules.reach rules.first base pairs datagrams = hears collecting giving_ends plan rules.window rules.reach rules.first base arrivals datagrams passed.schedule passed.some passed.followed in
+    let h : Hears plan rules.window rules.reach rules.first first_frame pairs datagrams = hears collecting giving_ends plan rules.window rules.reach rules.first first_frame arrivals datagrams passed.schedule passed.some passed.followed in
     let same = one_run (made rules.window rules.reach rules.first) run.mid h.mid datagrams passed.onward.taken h.answers run.during h.given run.steps h.steps in
-    let gives : CollectorGives (after_finish h.mid rules.frames) run.rest run.after = subst (λ (s : State). CollectorGives (after_finish s rules.frames) run.rest run.after) (sym same.2) run.gives in
-    let are : passed.onward.items ≡ items plan.carry h.packets rules.window base rules.frames pairs =
-    run.are ∙ (ap (λ (l : List Item). up_to rules.frames (l ++ run.rest)) (sym same.1) ∙ h.law rules.frames run.rest run.after gives) in
+    let gives : CollectorGives (after_finish h.mid rules.frames) run.rest run.after = subst (λ (s : CollectorState). CollectorGives (after_finish s rules.frames) run.rest run.after) (sym same.2) run.gives in
+    let are : passed.onward.items ≡ items plan.carry h.packets rules.window first_frame rules.frames pairs =
+    run.are ∙ (ap (λ (l : List CollectorItem). up_to rules.frames (l ++ run.rest)) (sym same.1) ∙ h.law rules.frames run.rest run.after gives) in
     let first : ℕ = first_of run.mid in
-    let known : (pairs ≡ []) ⊎ IsAtBase plan.seq base first =
-    subst (λ (s : State). (pairs ≡ []) ⊎ IsAtBase plan.seq base (first_of s)) same.2
-    (first_known one_reading plan.carry plan.seq rules.window rules.reach h.packets rules.first base pairs h.others h.replies h.given h.mid
-    (all_brought plan.carry plan.seq h.packets h.all_sent pairs h.others (delivered plan passed.schedule pairs h.packets h.are h.others h.sent)) passed.followed.based h.without) in
-    let of : ℕ → Item = item plan.carry h.packets rules.window base pairs in
-    let n : ℕ = end_of rules.frames (newest_of base None pairs) in
-    let become : BecomeAll carry first (map of (range_with_len 0 n)) fates = subst (λ (l : List Item). BecomeAll carry first l fates) are passed.onward.become in
-    gather (IsSent (under carry plan)) carry first of (λ q. pairs_by plan carry (frame_at plan (base +ℤ pos q)) (got rules.window base pairs q)) 0 n fates become
-    (λ q fate. each_sends plan carry passed.schedule passed.other rules.window base pairs h.packets h.are first known q fate)
+    let known : (pairs ≡ []) ⊎ IsSequenceOfFirst plan.seq first_frame first =
+    subst (λ (s : CollectorState). (pairs ≡ []) ⊎ IsSequenceOfFirst plan.seq first_frame (first_of s)) same.2
+    (first_known one_reading plan.carry plan.seq rules.window rules.reach h.packets rules.first first_frame pairs h.others h.replies h.given h.mid
+    (all_brought plan.carry plan.seq h.packets h.all_sent pairs h.others (delivered plan passed.schedule pairs h.packets h.are h.others h.sent)) passed.followed.is_first h.without) in
+    let of : ℕ → CollectorItem = item plan.carry h.packets rules.window first_frame pairs in
+    let n : ℕ = end_of rules.frames (newest_of first_frame None pairs) in
+    let become : OutcomesOf carry first (map of (range_with_len 0 n)) fates = subst (λ (l : List CollectorItem). OutcomesOf carry first l fates) are passed.onward.become in
+    gather (IsSent (under carry plan)) carry first of (λ q. pairs_by plan carry (frame_at plan (first_frame +ℤ pos q)) (got rules.window first_frame pairs q)) 0 n fates become
+    (λ q fate. each_sends plan carry passed.schedule passed.other rules.window first_frame pairs h.packets h.are first known q fate)

@@ -10,7 +10,7 @@ use Rattle.cmd_load.specs.Schedule.{longest_text, longest_file, schedule_named, 
 
 -- each file of the schedule is on the shelf, under its name, and isn't too long to be loaded
 abbrev pub HasFiles : Files → Plan → Type 0
-HasFiles told schedule = EachFile (λ name bytes. (file_at told name ≡ Some bytes) × (length bytes ≤ longest_file)) schedule
+HasFiles contents schedule = EachFile (λ name bytes. (file_at contents name ≡ Some bytes) × (length bytes ≤ longest_file)) schedule
 
 -- each file of the first shelf is on the second
 abbrev pub HasAll : Files → Files → Type 0
@@ -18,36 +18,36 @@ HasAll first second = (name bytes : List ℕ) → file_at first name ≡ Some by
 
 -- no load from here on is to fail
 abbrev pub NoLoadFails : Files → Type 0
-NoLoadFails told = (load : ℕ) → told.loads ≤ load → Contains told.failing load → ⊥
+NoLoadFails contents = (load : ℕ) → contents.loads ≤ load → Contains contents.failing load → ⊥
 
 -- the file of this name is a text of the schedule
-pub record HasText (told : Files) (name : List ℕ) (schedule : Plan) : Type 0 where
+pub record HasText (contents : Files) (name : List ℕ) (schedule : Plan) : Type 0 where
   pub text : List ℕ
-  pub there : file_at told name ≡ Some text
+  pub there : file_at contents name ≡ Some text
   pub is : IsText schedule text
 
 -- What a shelf gives as a schedule is one, has the bytes of the shelf's files, and the named file is a text of it.
 abbrev pub SchedulesAreOnTheShelf : Type 0
 SchedulesAreOnTheShelf =
-    (name : List ℕ) (told : Files) (schedule : Plan) → (schedule_named name told).came ≡ Ok schedule
-    → IsSchedule schedule × HasFiles told schedule × HasText told name schedule
+    (name : List ℕ) (contents : Files) (schedule : Plan) → (schedule_named name contents).outcome ≡ Ok schedule
+    → IsSchedule schedule × HasFiles contents schedule × HasText contents name schedule
 
 -- A text of a schedule comes to it, where the files are there.
 abbrev pub TextsComeToTheirSchedules : Type 0
 TextsComeToTheirSchedules =
-    (schedule : Plan) (name : List ℕ) (told : Files) → IsSchedule schedule → HasFiles told schedule → HasText told name schedule → NoLoadFails told
-    → (schedule_named name told).came ≡ Ok schedule
+    (schedule : Plan) (name : List ℕ) (contents : Files) → IsSchedule schedule → HasFiles contents schedule → HasText contents name schedule → NoLoadFails contents
+    → (schedule_named name contents).outcome ≡ Ok schedule
 
 -- The canonical text of a schedule is checked as itself, where it isn't too long and the files are there.
 abbrev pub CanonicalIsChecked : Type 0
 CanonicalIsChecked =
-    (schedule : Plan) (name : List ℕ) (told : Files) → IsSchedule schedule → length (canonical schedule) ≤ longest_text
-    → file_at told name ≡ Some (canonical schedule) → HasFiles told schedule → NoLoadFails told
-    → (checked name told).came ≡ Ok (canonical schedule)
+    (schedule : Plan) (name : List ℕ) (contents : Files) → IsSchedule schedule → length (canonical schedule) ≤ longest_text
+    → file_at contents name ≡ Some (canonical schedule) → HasFiles contents schedule → NoLoadFails contents
+    → (checked name contents).outcome ≡ Ok (canonical schedule)
 
 -- What came of one text comes of itself, where it isn't too long and stands on a shelf that has all that the first had.
 abbrev pub PrintedIsChecked : Type 0
 PrintedIsChecked =
-    (name again text : List ℕ) (first second : Files) → (checked name first).came ≡ Ok text → length text ≤ longest_text
+    (name again text : List ℕ) (first second : Files) → (checked name first).outcome ≡ Ok text → length text ≤ longest_text
     → file_at second again ≡ Some text → HasAll first second → NoLoadFails second
-    → (checked again second).came ≡ Ok text
+    → (checked again second).outcome ≡ Ok text

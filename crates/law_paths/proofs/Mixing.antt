@@ -8,10 +8,10 @@ use Rattle.drm_paths.specs.Closing.{of_path}
 use Rattle.law_paths.specs.Laws.{arrivals_of, MixedPathsAreOneDelivery}
 
 -- what stands for a list that isn't empty
-first_of : (plan : Plan) (arrivals : List Arrival) (datagram : List ℕ) (came : List (List ℕ)) → AllZip (IsArrival plan) arrivals (datagram ∷ came)
+first_of : (plan : Plan) (arrivals : List Arrival) (datagram : List ℕ) (received : List (List ℕ)) → AllZip (IsArrival plan) arrivals (datagram ∷ received)
     → (a : Arrival) × (rest : List Arrival) × (arrivals ≡ a ∷ rest) × IsArrival plan a datagram
-first_of plan [] datagram came are = absurd are
-first_of plan (a ∷ rest) datagram came are = (a, rest, refl, are.0)
+first_of plan [] datagram received are = absurd are
+first_of plan (a ∷ rest) datagram received are = (a, rest, refl, are.0)
 
 -- the arrivals of a path without those of the first entry, where that is one of the path's own
 abbrev behind : Bool → List Arrival → List Arrival
@@ -19,11 +19,11 @@ behind true (a ∷ arrivals) = arrivals
 behind true [] = []
 behind false arrivals = arrivals
 
-behind_are : (plan : Plan) (mine : Bool) (arrivals : List Arrival) (datagram : List ℕ) (came : List (List ℕ))
-    → AllZip (IsArrival plan) arrivals (if mine then datagram ∷ came else came) → AllZip (IsArrival plan) (behind mine arrivals) came
-behind_are plan true [] datagram came are = absurd are
-behind_are plan true (a ∷ arrivals) datagram came are = are.1
-behind_are plan false arrivals datagram came are = are
+behind_are : (plan : Plan) (mine : Bool) (arrivals : List Arrival) (datagram : List ℕ) (received : List (List ℕ))
+    → AllZip (IsArrival plan) arrivals (if mine then datagram ∷ received else received) → AllZip (IsArrival plan) (behind mine arrivals) received
+behind_are plan true [] datagram received are = absurd are
+behind_are plan true (a ∷ arrivals) datagram received are = are.1
+behind_are plan false arrivals datagram received are = are
 
 -- with the first entry's before them they are all of the path's
 put_before : (mine : Bool) (a : Arrival) (rest arrivals later : List Arrival) → (mine ≡ true → arrivals ≡ a ∷ rest) → later ≡ behind mine arrivals → (if mine then a ∷ later else later) ≡ arrivals

@@ -7,23 +7,23 @@ use Rattle.law_delivery.specs.Sent.{pairs_in}
 use Rattle.law_delivery.specs.Given.{AreAllServed}
 use Rattle.law_delivery.specs.Laws.{Delivering, AllFrames}
 use Rattle.report_text.specs.Reports.{is_given, is_clean, report}
-use Rattle.recv_report.proofs.Composing.{ItemLaws, strays_noted, tells_switches, prints_frames, gives_in_time}
+use Rattle.recv_report.proofs.Composing.{ItemLaws, foreign_noted, reports_switches, prints_frames, gives_in_time}
 use Rattle.report_journal.specs.Report.{word_for}
 use Rattle.law_paths.specs.Laws.{ReportsDeliveries, ReportsAll}
 
 pub reports_deliveries : Delivering → ItemLaws → ReportsDeliveries
-reports_deliveries law laws plan by base arrivals came text clean schedule range followed r =
-    let (given, suit) = law plan by.window by.reach by.first by.frames base arrivals came r.taken r.items r.steps r.after schedule range.some_window followed r.run r.feeds in
+reports_deliveries law laws plan by first_frame arrivals received text clean schedule range followed r =
+    let (given, suit) = law plan by.window by.reach by.first by.frames first_frame arrivals received r.taken r.items r.steps r.after schedule range.some_window followed r.run r.feeds in
     let pairs = pairs_in arrivals in
     record {
       steps = r.steps;
       given = given;
-      in_time = gives_in_time laws plan by.window base by.frames pairs r.steps schedule given;
+      in_time = gives_in_time laws plan by.window first_frame by.frames pairs r.steps schedule given;
       printed = prints_frames laws plan r.steps;
-      switches = tells_switches laws plan by.window base by.frames pairs r.steps schedule given;
+      switches = reports_switches laws plan by.window first_frame by.frames pairs r.steps schedule given;
       many = length r.run.during;
       before_the_end = (r.taken, r.run.during, r.run.mid, r.run.steps, refl);
-      text_is = r.text_is ∙ ap (λ l. report 1 r.steps l (word_for by.frames (length r.run.during))) (strays_noted 0 arrivals r.taken suit);
+      text_is = r.text_is ∙ ap (λ l. report 1 r.steps l (word_for by.frames (length r.run.during))) (foreign_noted 0 arrivals r.taken suit);
       clean_is = r.clean_is;
     }
 
@@ -32,11 +32,11 @@ all_given : (steps : List FeedStep) → ((q : ℕ) (step : FeedStep) → slice_g
 all_given [] each = refl
 all_given (step ∷ steps) each = ap₂ (λ a b. a && b) (each 0 step refl) (all_given steps (λ q other at. each (suc q) other at))
 
-served_clean : (plan : Plan) (base : ℤ) (steps : List FeedStep) → AreAllServed plan base steps → is_clean steps ≡ true
-served_clean plan base steps all = all_given steps (λ q step at. let (t, is, served) = all q step at in ap is_given served.item_is)
+served_clean : (plan : Plan) (first_frame : ℤ) (steps : List FeedStep) → AreAllServed plan first_frame steps → is_clean steps ≡ true
+served_clean plan first_frame steps all = all_given steps (λ q step at. let (t, is, served) = all q step at in ap is_given served.item_is)
 
 pub reports_all : AllFrames → ReportsDeliveries → ReportsAll
-reports_all law reported plan by arrivals came text clean schedule range known followed in_time r =
-    let reports = reported plan by (pos 0) arrivals came text clean schedule range followed r in
-    let (count, all) = law plan by.window by.reach by.frames arrivals came by.first reports.steps schedule known followed in_time reports.given in
+reports_all law reported plan by arrivals received text clean schedule range known followed in_time r =
+    let reports = reported plan by (pos 0) arrivals received text clean schedule range followed r in
+    let (count, all) = law plan by.window by.reach by.frames arrivals received by.first reports.steps schedule known followed in_time reports.given in
     record { reports = reports; count = count; all = all; nothing_missing = reports.clean_is ∙ served_clean plan (pos 0) reports.steps all }

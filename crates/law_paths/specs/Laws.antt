@@ -5,14 +5,14 @@ use Rattle.drm_schedule.specs.declared.plan.Plan.{Plan}
 use Rattle.drm_schedule.specs.Valid.{IsSchedule}
 use Rattle.drm_timeline.specs.Numbers.{frame_count}
 use Rattle.dcp_collect.specs.declared.taken.Taken.{Taken}
-use Rattle.dcp_collect.specs.State.{State, made}
-use Rattle.dcp_collect.specs.Runs.{Item, CollectorSteps}
+use Rattle.dcp_collect.specs.CollectorState.{CollectorState, made}
+use Rattle.dcp_collect.specs.Runs.{CollectorItem, CollectorSteps}
 use Rattle.mod_feed.specs.Feeding.{FeedStep}
 use Rattle.law_delivery.specs.Sent.{Arrival, IsArrival, AreFar, pairs_in, IsDeliveryOf, IsInTime}
 use Rattle.law_delivery.specs.Given.{AreGiven, AreAllServed}
-use Rattle.recv_report.specs.Headline.{GivesInTime, PrintsFrames, TellsSwitches, strays}
+use Rattle.recv_report.specs.Headline.{GivesInTime, PrintsFrames, ReportsSwitches, foreign_datagrams}
 use Rattle.report_text.specs.Reports.{report, is_clean}
-use Rattle.report_journal.specs.declared.settings.Settings.{Settings}
+use Rattle.report_journal.specs.declared.options.JournalOptions.{JournalOptions}
 use Rattle.report_journal.specs.Journal.{AreInRange, datagrams}
 use Rattle.report_journal.specs.Report.{word_for, IsReportOf}
 use Rattle.drm_paths.specs.State.{AreNumbered}
@@ -21,32 +21,32 @@ use Rattle.drm_paths.specs.Closing.{of_path}
 -- ---- the report
 
 -- A new collector that takes these datagrams, and gives all that is ready after each, has given so many items.
-abbrev pub HasGiven : Settings → List (List ℕ) → ℕ → Type 0
-HasGiven by came many = (taken : List Taken) × (items : List Item) × (mid : State) × CollectorSteps (made by.window by.reach by.first) came taken items mid × (length items ≡ many)
+abbrev pub HasGiven : JournalOptions → List (List ℕ) → ℕ → Type 0
+HasGiven by received many = (taken : List Taken) × (items : List CollectorItem) × (mid : CollectorState) × CollectorSteps (made by.window by.reach by.first) received taken items mid × (length items ≡ many)
 
 -- The text is the report of what a delivery of a schedule calls for: of what was refused it names the strays, and last it says
 -- whether the told number of frames was given before all paths had ended.
-pub record ReportsDelivery (plan : Plan) (by : Settings) (base : ℤ) (arrivals : List Arrival) (came : List (List ℕ)) (text : List ℕ) (clean : Bool) : Type 0 where
+pub record ReportsDelivery (plan : Plan) (by : JournalOptions) (first_frame : ℤ) (arrivals : List Arrival) (received : List (List ℕ)) (text : List ℕ) (clean : Bool) : Type 0 where
   pub steps : List FeedStep
-  pub given : AreGiven plan by.window base by.frames (pairs_in arrivals) steps
-  pub in_time : GivesInTime plan by.window base (pairs_in arrivals) steps
+  pub given : AreGiven plan by.window first_frame by.frames (pairs_in arrivals) steps
+  pub in_time : GivesInTime plan by.window first_frame (pairs_in arrivals) steps
   pub printed : PrintsFrames plan steps
-  pub switches : TellsSwitches plan base steps
+  pub switches : ReportsSwitches plan first_frame steps
   pub many : ℕ
-  pub before_the_end : HasGiven by came many
-  pub text_is : text ≡ report 1 steps (strays arrivals) (word_for by.frames many)
+  pub before_the_end : HasGiven by received many
+  pub text_is : text ≡ report 1 steps (foreign_datagrams arrivals) (word_for by.frames many)
   pub clean_is : clean ≡ is_clean steps
 
 -- Whatever delivery of whatever valid schedule came over the paths: their report is that of what it calls for.
 abbrev pub ReportsDeliveries : Type 0
 ReportsDeliveries =
-    (plan : Plan) (by : Settings) (base : ℤ) (arrivals : List Arrival) (came : List (List ℕ)) (text : List ℕ) (clean : Bool)
-    → IsSchedule plan → AreInRange by → IsDeliveryOf plan by.reach by.first base arrivals came → IsReportOf by came text clean
-    → ReportsDelivery plan by base arrivals came text clean
+    (plan : Plan) (by : JournalOptions) (first_frame : ℤ) (arrivals : List Arrival) (received : List (List ℕ)) (text : List ℕ) (clean : Bool)
+    → IsSchedule plan → AreInRange by → IsDeliveryOf plan by.reach by.first first_frame arrivals received → IsReportOf by received text clean
+    → ReportsDelivery plan by first_frame arrivals received text clean
 
 -- It is the report of all frames of the schedule, each the server's, and nothing is missing.
-pub record ReportsAllFrames (plan : Plan) (by : Settings) (arrivals : List Arrival) (came : List (List ℕ)) (text : List ℕ) (clean : Bool) : Type 0 where
-  pub reports : ReportsDelivery plan by (pos 0) arrivals came text clean
+pub record ReportsAllFrames (plan : Plan) (by : JournalOptions) (arrivals : List Arrival) (received : List (List ℕ)) (text : List ℕ) (clean : Bool) : Type 0 where
+  pub reports : ReportsDelivery plan by (pos 0) arrivals received text clean
   pub count : length reports.steps ≡ frame_count plan
   pub all : AreAllServed plan (pos 0) reports.steps
   pub nothing_missing : clean ≡ true
@@ -55,11 +55,11 @@ pub record ReportsAllFrames (plan : Plan) (by : Settings) (arrivals : List Arriv
 -- whether their number is told or not.
 abbrev pub ReportsAll : Type 0
 ReportsAll =
-    (plan : Plan) (by : Settings) (arrivals : List Arrival) (came : List (List ℕ)) (text : List ℕ) (clean : Bool)
+    (plan : Plan) (by : JournalOptions) (arrivals : List Arrival) (received : List (List ℕ)) (text : List ℕ) (clean : Bool)
     → IsSchedule plan → AreInRange by → (by.frames ≡ None) ⊎ (by.frames ≡ Some (frame_count plan))
-    → IsDeliveryOf plan by.reach by.first (pos 0) arrivals came
+    → IsDeliveryOf plan by.reach by.first (pos 0) arrivals received
     → ((q : ℕ) → q < frame_count plan → IsInTime plan by.window (pos 0) (pairs_in arrivals) q)
-    → IsReportOf by came text clean → ReportsAllFrames plan by arrivals came text clean
+    → IsReportOf by received text clean → ReportsAllFrames plan by arrivals received text clean
 
 -- ---- the paths
 
@@ -80,6 +80,6 @@ MixedPathsAreOneDelivery =
 -- most one more than it reaches, in whatever order it comes.
 abbrev pub FollowedInAnyOrder : Type 0
 FollowedInAnyOrder =
-    (plan : Plan) (reach : ℕ) (arrivals : List Arrival) (came : List (List ℕ)) → frame_count plan ≤ 32768 → frame_count plan ≤ reach + 1
-    → AllZip (IsArrival plan) arrivals came → AreFar reach plan.seq (pos 0) None arrivals came
-    → IsDeliveryOf plan reach (Some plan.seq) (pos 0) arrivals came
+    (plan : Plan) (reach : ℕ) (arrivals : List Arrival) (received : List (List ℕ)) → frame_count plan ≤ 32768 → frame_count plan ≤ reach + 1
+    → AllZip (IsArrival plan) arrivals received → AreFar reach plan.seq (pos 0) None arrivals received
+    → IsDeliveryOf plan reach (Some plan.seq) (pos 0) arrivals received

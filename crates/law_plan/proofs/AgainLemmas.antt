@@ -13,11 +13,11 @@ use Rattle.plan_grammar.specs.Keywords.{keyword_of, keyword_text}
 use Rattle.plan_grammar.specs.Lines.{shape_of}
 use Rattle.plan_grammar.specs.Same.{same}
 use Rattle.plan_grammar.specs.Said.{keyword_said, words_said, canonical}
-use Rattle.plan_grammar.specs.Shape.{reading}
-use Rattle.plan_rules.specs.declared.said.Said.{Said}
-use Rattle.plan_rules.specs.declared.said.Block.{Block}
-use Rattle.plan_rules.specs.declared.said.Read.{Read}
-use Rattle.plan_rules.specs.Said.{add}
+use Rattle.plan_grammar.specs.LineShape.{reading}
+use Rattle.plan_rules.specs.declared.said.ParsedLine.{ParsedLine}
+use Rattle.plan_rules.specs.declared.said.ConfigLines.{ConfigLines}
+use Rattle.plan_rules.specs.declared.said.ParsedText.{ParsedText}
+use Rattle.plan_rules.specs.ParsedLine.{add}
 use Rattle.text_lines.specs.Faults.{lines_say}
 use Rattle.plan_rules.specs.Rules.{version_in, is_one, keyword_in, is_out_of_order, ends_incomplete, is_front, is_second, is_too_many, said_line, said_from}
 use Rattle.plan_rules.specs.Steps.{check_of}
@@ -40,28 +40,28 @@ no_comment : (k : Keyword) → (slice_index (keyword_text k) 0 == 35) ≡ false
 no_comment keywords.Drmplan = refl
 no_comment _ = refl
 
-pub line_said : (read : Read) (n : ℕ) (l : Line) → LineAgain l → is_one (version_in read.front) ≡ false → ends_incomplete read (keyword_said l) ≡ false → check_of read n (keyword_said l) ≡ Ok tt → said_line read n (canonical l) ≡ Ok (add n l read)
+pub line_said : (read : ParsedText) (n : ℕ) (l : Line) → LineAgain l → is_one (version_in read.front) ≡ false → ends_incomplete read (keyword_said l) ≡ false → check_of read n (keyword_said l) ≡ Ok tt → said_line read n (canonical l) ≡ Ok (add n l read)
 unfolding said_line
 line_said read n l again later whole found =
     rw (again.cut, no_comment (keyword_said l), known_again (version_in read.front) (keyword_said l) later)
     (goes_on read (add n l read) n (keyword_said l) (shape_of (keyword_said l) (canonical l) (words_said l)) l (Ok tt) whole again.reads (sym found) refl refl)
 
 -- lines put one behind another
-abbrev pub adds : ℕ → List Line → Read → Read
+abbrev pub adds : ℕ → List Line → ParsedText → ParsedText
 adds n [] read = read
 adds n (l ∷ ls) read = adds (n + 1) ls (add n l read)
 
 -- no row holds for any of these lines
-abbrev pub Fine : Read → ℕ → List Line → Type 0
+abbrev pub Fine : ParsedText → ℕ → List Line → Type 0
 Fine read n [] = Unit {0}
 Fine read n (l ∷ ls) = (is_one (version_in read.front) ≡ false) × (ends_incomplete read (keyword_said l) ≡ false) × (check_of read n (keyword_said l) ≡ Ok tt) × Fine (add n l read) (n + 1) ls
 
-pub lines_said : (read : Read) (n : ℕ) (ls : List Line) → AllByRecursion LineAgain ls → Fine read n ls → said_from read n (map canonical ls) ≡ Ok (adds n ls read)
+pub lines_said : (read : ParsedText) (n : ℕ) (ls : List Line) → AllByRecursion LineAgain ls → Fine read n ls → said_from read n (map canonical ls) ≡ Ok (adds n ls read)
 unfolding lines_say
 lines_said read n [] again fine = refl
 lines_said read n (l ∷ ls) again fine = rw (line_said read n l again.0 fine.0 fine.1 fine.2) (lines_said (add n l read) (n + 1) ls again.1 fine.3)
 
-pub adds_append : (n : ℕ) (a b : List Line) (read : Read) → adds n (a ++ b) read ≡ adds (n + length a) b (adds n a read)
+pub adds_append : (n : ℕ) (a b : List Line) (read : ParsedText) → adds n (a ++ b) read ≡ adds (n + length a) b (adds n a read)
 adds_append n [] b read =
     let same : n + 0 ≡ n = omega arith in
     rw same refl
@@ -69,7 +69,7 @@ adds_append n (l ∷ a) b read =
     let next : n + suc (length a) ≡ n + 1 + length a = omega arith in
     adds_append (n + 1) a b (add n l read) ∙ ap (λ k. adds k b (adds (n + 1) a (add n l read))) (sym next)
 
-pub fine_append : (read : Read) (n : ℕ) (a b : List Line) → Fine read n a → Fine (adds n a read) (n + length a) b → Fine read n (a ++ b)
+pub fine_append : (read : ParsedText) (n : ℕ) (a b : List Line) → Fine read n a → Fine (adds n a read) (n + length a) b → Fine read n (a ++ b)
 fine_append read n [] b first behind =
     let same : n + 0 ≡ n = omega arith in
     subst (λ k. Fine read k b) same behind
@@ -78,7 +78,7 @@ fine_append read n (l ∷ a) b first behind =
     (first.0, first.1, first.2, fine_append (add n l read) (n + 1) a b first.3 (subst (λ k. Fine (adds (n + 1) a (add n l read)) k b) next behind))
 
 -- these lines, numbered
-abbrev pub numbered : ℕ → List Line → List Said
+abbrev pub numbered : ℕ → List Line → List ParsedLine
 numbered n [] = []
 numbered n (l ∷ ls) = record { line = n; says = l } ∷ numbered (n + 1) ls
 
@@ -96,12 +96,12 @@ abbrev pub two : Option Version
 two = Some Two
 
 -- the lines of a configuration behind these, in a text of version 2
-abbrev pub InnerFine : List Said → ℕ → List Line → Type 0
+abbrev pub InnerFine : List ParsedLine → ℕ → List Line → Type 0
 InnerFine said n [] = Unit {0}
 InnerFine said n (l ∷ ls) = (is_inner (keyword_said l) ≡ true) × (is_out_of_order two (keyword_said l) said ≡ false) × (is_second (keyword_said l) said ≡ false) × (is_too_many (keyword_said l) said ≡ false) × InnerFine (said ++ record { line = n; says = l } ∷ []) (n + 1) ls
 
 -- a read text whose last configuration has these lines
-abbrev pub with_lines : Read → Block → List Said → Read
+abbrev pub with_lines : ParsedText → ConfigLines → List ParsedLine → ParsedText
 with_lines read block said = record { front = read.front; closed = read.closed; current = Some (record block { lines = said }) }
 
 not_config : (k : Keyword) → is_inner k ≡ true → same k keywords.Config ≡ false
@@ -116,20 +116,20 @@ not_front keywords.First inner = absurd cc
 not_front keywords.Length inner = absurd cc
 not_front _ inner = refl
 
-inner_add : (read : Read) (block : Block) (said : List Said) (n : ℕ) (l : Line) → is_inner (keyword_said l) ≡ true → add n l (with_lines read block said) ≡ with_lines read block (said ++ record { line = n; says = l } ∷ [])
+inner_add : (read : ParsedText) (block : ConfigLines) (said : List ParsedLine) (n : ℕ) (l : Line) → is_inner (keyword_said l) ≡ true → add n l (with_lines read block said) ≡ with_lines read block (said ++ record { line = n; says = l } ∷ [])
 inner_add read block said n (lines.Config start countdown) inner = absurd cc
 inner_add read block said n (lines.Version version) inner = absurd cc
 inner_add read block said n _ inner = refl
 
-inner_check : (read : Read) (block : Block) (said : List Said) (n : ℕ) (k : Keyword) → version_in read.front ≡ two → is_inner k ≡ true → is_out_of_order two k said ≡ false → is_second k said ≡ false → is_too_many k said ≡ false → check_of (with_lines read block said) n k ≡ Ok tt
+inner_check : (read : ParsedText) (block : ConfigLines) (said : List ParsedLine) (n : ℕ) (k : Keyword) → version_in read.front ≡ two → is_inner k ≡ true → is_out_of_order two k said ≡ false → is_second k said ≡ false → is_too_many k said ≡ false → check_of (with_lines read block said) n k ≡ Ok tt
 unfolding check_of
 inner_check read block said n k version inner order second many =
     rw (version, order, not_front k inner, second, many, not_config k inner) refl
 
-inner_whole : (read : Read) (block : Block) (said : List Said) (k : Keyword) → is_inner k ≡ true → ends_incomplete (with_lines read block said) k ≡ false
+inner_whole : (read : ParsedText) (block : ConfigLines) (said : List ParsedLine) (k : Keyword) → is_inner k ≡ true → ends_incomplete (with_lines read block said) k ≡ false
 inner_whole read block said k inner = rw (not_config k inner) refl
 
-pub inner_fine : (read : Read) (block : Block) (said : List Said) (n : ℕ) (ls : List Line) → version_in read.front ≡ two → InnerFine said n ls → Fine (with_lines read block said) n ls
+pub inner_fine : (read : ParsedText) (block : ConfigLines) (said : List ParsedLine) (n : ℕ) (ls : List Line) → version_in read.front ≡ two → InnerFine said n ls → Fine (with_lines read block said) n ls
 inner_fine read block said n [] version fine = tt
 inner_fine read block said n (l ∷ ls) version fine = (
   ap is_one version,
@@ -138,13 +138,13 @@ inner_fine read block said n (l ∷ ls) version fine = (
   rw (inner_add read block said n l fine.0) (inner_fine read block (said ++ record { line = n; says = l } ∷ []) (n + 1) ls version fine.4),
 )
 
-pub inner_adds : (read : Read) (block : Block) (said : List Said) (n : ℕ) (ls : List Line) → InnerFine said n ls → adds n ls (with_lines read block said) ≡ with_lines read block (said ++ numbered n ls)
+pub inner_adds : (read : ParsedText) (block : ConfigLines) (said : List ParsedLine) (n : ℕ) (ls : List Line) → InnerFine said n ls → adds n ls (with_lines read block said) ≡ with_lines read block (said ++ numbered n ls)
 inner_adds read block [] n [] fine = refl
 inner_adds read block (s ∷ said) n [] fine = ap (λ l. with_lines read block l) (sym (append_nil (s ∷ said)))
   where
-    append_nil : (xs : List Said) → xs ++ [] ≡ xs
+    append_nil : (xs : List ParsedLine) → xs ++ [] ≡ xs
     append_nil [] = refl
-    append_nil (x ∷ xs) = ap (λ (l : List Said). x ∷ l) (append_nil xs)
+    append_nil (x ∷ xs) = ap (λ (l : List ParsedLine). x ∷ l) (append_nil xs)
 inner_adds read block said n (l ∷ ls) fine =
     ap (adds (n + 1) ls) (inner_add read block said n l fine.0)
     ∙ inner_adds read block (said ++ record { line = n; says = l } ∷ []) (n + 1) ls fine.4

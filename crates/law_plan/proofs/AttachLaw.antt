@@ -9,14 +9,14 @@ use Rattle.drm_schedule.specs.declared.stream.Content.TheVariants.{Fill, File}
 use Rattle.drm_schedule.specs.declared.stream.Stream.{Stream}
 use Rattle.drm_schedule.specs.declared.plan.Plan.{Plan}
 use Rattle.drm_schedule.specs.Ranges.{InLines}
-use Rattle.drm_plan.specs.declared.files.Filed.{Filed}
+use Rattle.drm_plan.specs.declared.files.FileRef.{FileRef}
 use Rattle.drm_plan.specs.Files.{file_here, stream_files, config_files, filled, filled_stream, filled_config, with_file, name_in, name_of_stream, name_of_config, name_of, emptied, without_bytes, config_without_bytes, without_files}
 use Rattle.law_plan.specs.Texts.{OfFile, EachFile}
 use Rattle.drm_plan.specs.Lookup.{at, changed}
 use Rattle.drm_plan.proofs.FileLemmas.{with_file_fits}
 
 -- Where each of these files got bytes of which P holds, one after another, this plan became the whole one.
-abbrev pub Fills : (List ℕ → List ℕ → Type 0) → List Filed → Plan → Plan → Type 0
+abbrev pub Fills : (List ℕ → List ℕ → Type 0) → List FileRef → Plan → Plan → Type 0
 Fills P [] plan whole = plan ≡ whole
 Fills P (file ∷ files) plan whole = (bytes : List ℕ) × P (name_of file plan) bytes × Fills P files (with_file file bytes plan) whole
 
@@ -45,7 +45,7 @@ abbrev pub here : Plan → List Config → Config → List Config → List Strea
 here plan before c after streams = with_configs plan (before ++ record c { streams = streams } ∷ after)
 
 -- the file of the stream behind these
-abbrev pub file_at : List Config → List Stream → Filed
+abbrev pub file_at : List Config → List Stream → FileRef
 file_at before done = record { config = length before; stream = length done }
 
 module _ (plan : Plan) (before : List Config) (c : Config) (after : List Config) (done : List Stream) (s : Stream) (more : List Stream) where
@@ -66,7 +66,7 @@ module _ (P : List ℕ → List ℕ → Type 0) where
 
   -- ---- to the whole plan
 
-  stream_comes : (plan : Plan) (before : List Config) (c : Config) (after : List Config) (done : List Stream) (a b : ℕ) (old content : Content) (more : List Stream) (files : List Filed) (whole : Plan)
+  stream_comes : (plan : Plan) (before : List Config) (c : Config) (after : List Config) (done : List Stream) (a b : ℕ) (old content : Content) (more : List Stream) (files : List FileRef) (whole : Plan)
       → emptied old ≡ emptied content → OfFile P content → Fills P files (here plan before c after (done ++ record { a = a; b = b; content = content } ∷ more)) whole
       → Fills P (file_here (length before) (length done) (record { a = a; b = b; content = old }) ++ files) (here plan before c after (done ++ record { a = a; b = b; content = old } ∷ more)) whole
   stream_comes plan before c after done a b (Fill x) (Fill y) more files whole same has rest =
@@ -83,7 +83,7 @@ module _ (P : List ℕ → List ℕ → Type 0) where
         subst (λ (p : Plan). Fills P files p whole) (sym made) rest,
       )
 
-  streams_come : (plan : Plan) (before : List Config) (c : Config) (after : List Config) (done old target : List Stream) (files : List Filed) (whole : Plan)
+  streams_come : (plan : Plan) (before : List Config) (c : Config) (after : List Config) (done old target : List Stream) (files : List FileRef) (whole : Plan)
       → map without_bytes old ≡ map without_bytes target → All Filled target → Fills P files (here plan before c after (done ++ target)) whole
       → Fills P (stream_files (length before) (length done) old ++ files) (here plan before c after (done ++ old)) whole
   streams_come plan before c after done [] [] files whole same all rest = rest
@@ -93,7 +93,7 @@ module _ (P : List ℕ → List ℕ → Type 0) where
       let first : without_bytes s ≡ without_bytes t = heads (without_bytes s) (without_bytes t) (map without_bytes old) (map without_bytes target) same in
       let others : map without_bytes old ≡ map without_bytes target = tails (without_bytes s) (without_bytes t) (map without_bytes old) (map without_bytes target) same in
       let one : t ≡ record s { content = t.content } = sym (ap (λ (x : Stream). record x { content = t.content }) first) in
-      let next : List Filed = stream_files (length before) (length done + 1) old ++ files in
+      let next : List FileRef = stream_files (length before) (length done + 1) old ++ files in
       let behind : Fills P (stream_files (length before) (length (done ++ t ∷ [])) old ++ files) (here plan before c after ((done ++ t ∷ []) ++ old)) whole =
       streams_come plan before c after (done ++ t ∷ []) old target files whole others (All-tail Filled t target all)
       (subst (λ (ss : List Stream). Fills P files (here plan before c after ss) whole) (sym (append_assoc done (t ∷ []) target)) rest) in
@@ -103,7 +103,7 @@ module _ (P : List ℕ → List ℕ → Type 0) where
       subst (λ (ss : List Stream). Fills P next (here plan before c after ss) whole) (append_assoc done (t ∷ []) old) counted in
       let seen : Fills P next (here plan before c after (done ++ record s { content = t.content } ∷ old)) whole =
       subst (λ (x : Stream). Fills P next (here plan before c after (done ++ x ∷ old)) whole) one placed in
-      subst (λ (fs : List Filed). Fills P fs (here plan before c after (done ++ s ∷ old)) whole)
+      subst (λ (fs : List FileRef). Fills P fs (here plan before c after (done ++ s ∷ old)) whole)
       (sym (append_assoc (file_here (length before) (length done) s) (stream_files (length before) (length done + 1) old) files))
       (stream_comes plan before c after done s.a s.b s.content t.content old next whole (ap (λ (x : Stream). x.content) first) (All-head Filled t target all) seen)
 
@@ -116,7 +116,7 @@ module _ (P : List ℕ → List ℕ → Type 0) where
       let first : config_without_bytes c ≡ config_without_bytes d = heads (config_without_bytes c) (config_without_bytes d) (map config_without_bytes old) (map config_without_bytes target) same in
       let others : map config_without_bytes old ≡ map config_without_bytes target = tails (config_without_bytes c) (config_without_bytes d) (map config_without_bytes old) (map config_without_bytes target) same in
       let one : d ≡ record c { streams = d.streams } = sym (ap (λ (x : Config). record x { streams = d.streams }) first) in
-      let next : List Filed = config_files (length before + 1) old in
+      let next : List FileRef = config_files (length before + 1) old in
       let behind : Fills P (config_files (length (before ++ d ∷ [])) old) (with_configs plan ((before ++ d ∷ []) ++ old)) whole =
       configs_come plan (before ++ d ∷ []) old target whole others (All-tail AllFilled d target all) (ap (with_configs plan) (append_assoc before (d ∷ []) target) ∙ is) in
       let counted : Fills P next (with_configs plan ((before ++ d ∷ []) ++ old)) whole =
@@ -133,16 +133,16 @@ module _ (P : List ℕ → List ℕ → Type 0) where
 
   -- ---- from the whole plan
 
-  record StreamCame (plan : Plan) (before : List Config) (c : Config) (after : List Config) (done more : List Stream) (files : List Filed) (whole : Plan) : Type 0 where
+  record StreamIsFilled (plan : Plan) (before : List Config) (c : Config) (after : List Config) (done more : List Stream) (files : List FileRef) (whole : Plan) : Type 0 where
     stream : Stream
     has : Filled stream
     rest : Fills P files (here plan before c after (done ++ stream ∷ more)) whole
 
-  stream_came : (plan : Plan) (before : List Config) (c : Config) (after : List Config) (done : List Stream) (a b : ℕ) (content : Content) (more : List Stream) (files : List Filed) (whole : Plan)
+  stream_is_filled : (plan : Plan) (before : List Config) (c : Config) (after : List Config) (done : List Stream) (a b : ℕ) (content : Content) (more : List Stream) (files : List FileRef) (whole : Plan)
       → Fills P (file_here (length before) (length done) (record { a = a; b = b; content = content }) ++ files) (here plan before c after (done ++ record { a = a; b = b; content = content } ∷ more)) whole
-      → StreamCame plan before c after done more files whole
-  stream_came plan before c after done a b (Fill byte) more files whole fills = record { stream = record { a = a; b = b; content = Fill byte }; has = tt; rest = fills }
-  stream_came plan before c after done a b (File name old) more files whole fills =
+      → StreamIsFilled plan before c after done more files whole
+  stream_is_filled plan before c after done a b (Fill byte) more files whole fills = record { stream = record { a = a; b = b; content = Fill byte }; has = tt; rest = fills }
+  stream_is_filled plan before c after done a b (File name old) more files whole fills =
       let s : Stream = record { a = a; b = b; content = File name old } in
       record {
         stream = filled_stream fills.0 s;
@@ -150,61 +150,61 @@ module _ (P : List ℕ → List ℕ → Type 0) where
         rest = subst (λ (p : Plan). Fills P files p whole) (filled_here plan before c after done s more fills.0) fills.2;
       }
 
-  record StreamsCame (plan : Plan) (before : List Config) (c : Config) (after : List Config) (done : List Stream) (files : List Filed) (whole : Plan) : Type 0 where
+  record StreamsAreFilled (plan : Plan) (before : List Config) (c : Config) (after : List Config) (done : List Stream) (files : List FileRef) (whole : Plan) : Type 0 where
     streams : List Stream
     have : All Filled streams
     rest : Fills P files (here plan before c after (done ++ streams)) whole
 
-  streams_came : (plan : Plan) (before : List Config) (c : Config) (after : List Config) (done todo : List Stream) (files : List Filed) (whole : Plan)
-      → Fills P (stream_files (length before) (length done) todo ++ files) (here plan before c after (done ++ todo)) whole → StreamsCame plan before c after done files whole
-  streams_came plan before c after done [] files whole fills = record { streams = []; have = All-nil Filled; rest = fills }
-  streams_came plan before c after done (s ∷ todo) files whole fills =
-      let next : List Filed = stream_files (length before) (length done + 1) todo ++ files in
-      let came : StreamCame plan before c after done todo next whole =
-      stream_came plan before c after done s.a s.b s.content todo next whole
-      (subst (λ (fs : List Filed). Fills P fs (here plan before c after (done ++ s ∷ todo)) whole) (append_assoc (file_here (length before) (length done) s) (stream_files (length before) (length done + 1) todo) files) fills) in
-      let now : List Stream = done ++ came.stream ∷ [] in
+  streams_are_filled : (plan : Plan) (before : List Config) (c : Config) (after : List Config) (done todo : List Stream) (files : List FileRef) (whole : Plan)
+      → Fills P (stream_files (length before) (length done) todo ++ files) (here plan before c after (done ++ todo)) whole → StreamsAreFilled plan before c after done files whole
+  streams_are_filled plan before c after done [] files whole fills = record { streams = []; have = All-nil Filled; rest = fills }
+  streams_are_filled plan before c after done (s ∷ todo) files whole fills =
+      let next : List FileRef = stream_files (length before) (length done + 1) todo ++ files in
+      let is_filled : StreamIsFilled plan before c after done todo next whole =
+      stream_is_filled plan before c after done s.a s.b s.content todo next whole
+      (subst (λ (fs : List FileRef). Fills P fs (here plan before c after (done ++ s ∷ todo)) whole) (append_assoc (file_here (length before) (length done) s) (stream_files (length before) (length done + 1) todo) files) fills) in
+      let now : List Stream = done ++ is_filled.stream ∷ [] in
       let placed : Fills P next (here plan before c after (now ++ todo)) whole =
-      subst (λ (ss : List Stream). Fills P next (here plan before c after ss) whole) (sym (append_assoc done (came.stream ∷ []) todo)) came.rest in
+      subst (λ (ss : List Stream). Fills P next (here plan before c after ss) whole) (sym (append_assoc done (is_filled.stream ∷ []) todo)) is_filled.rest in
       let counted : Fills P (stream_files (length before) (length now) todo ++ files) (here plan before c after (now ++ todo)) whole =
-      subst (λ (j : ℕ). Fills P (stream_files (length before) j todo ++ files) (here plan before c after (now ++ todo)) whole) (sym (one_longer done came.stream)) placed in
-      let behind = streams_came plan before c after now todo files whole counted in
+      subst (λ (j : ℕ). Fills P (stream_files (length before) j todo ++ files) (here plan before c after (now ++ todo)) whole) (sym (one_longer done is_filled.stream)) placed in
+      let behind = streams_are_filled plan before c after now todo files whole counted in
       record {
-        streams = came.stream ∷ behind.streams;
-        have = All-cons Filled came.stream behind.streams came.has behind.have;
-        rest = subst (λ (ss : List Stream). Fills P files (here plan before c after ss) whole) (append_assoc done (came.stream ∷ []) behind.streams) behind.rest;
+        streams = is_filled.stream ∷ behind.streams;
+        have = All-cons Filled is_filled.stream behind.streams is_filled.has behind.have;
+        rest = subst (λ (ss : List Stream). Fills P files (here plan before c after ss) whole) (append_assoc done (is_filled.stream ∷ []) behind.streams) behind.rest;
       }
 
-  record ConfigsCame (plan : Plan) (before : List Config) (whole : Plan) : Type 0 where
+  record ConfigsAreFilled (plan : Plan) (before : List Config) (whole : Plan) : Type 0 where
     configs : List Config
     have : All AllFilled configs
     is : with_configs plan (before ++ configs) ≡ whole
 
-  configs_came : (plan : Plan) (before todo : List Config) (whole : Plan) → Fills P (config_files (length before) todo) (with_configs plan (before ++ todo)) whole → ConfigsCame plan before whole
-  configs_came plan before [] whole fills = record { configs = []; have = All-nil AllFilled; is = fills }
-  configs_came plan before (c ∷ todo) whole fills =
-      let came = streams_came plan before c todo [] c.streams (config_files (length before + 1) todo) whole fills in
-      let full : Config = record c { streams = came.streams } in
+  configs_are_filled : (plan : Plan) (before todo : List Config) (whole : Plan) → Fills P (config_files (length before) todo) (with_configs plan (before ++ todo)) whole → ConfigsAreFilled plan before whole
+  configs_are_filled plan before [] whole fills = record { configs = []; have = All-nil AllFilled; is = fills }
+  configs_are_filled plan before (c ∷ todo) whole fills =
+      let is_filled = streams_are_filled plan before c todo [] c.streams (config_files (length before + 1) todo) whole fills in
+      let full : Config = record c { streams = is_filled.streams } in
       let now : List Config = before ++ full ∷ [] in
       let placed : Fills P (config_files (length before + 1) todo) (with_configs plan (now ++ todo)) whole =
-      subst (λ (cs : List Config). Fills P (config_files (length before + 1) todo) (with_configs plan cs) whole) (sym (append_assoc before (full ∷ []) todo)) came.rest in
+      subst (λ (cs : List Config). Fills P (config_files (length before + 1) todo) (with_configs plan cs) whole) (sym (append_assoc before (full ∷ []) todo)) is_filled.rest in
       let counted : Fills P (config_files (length now) todo) (with_configs plan (now ++ todo)) whole =
       subst (λ (i : ℕ). Fills P (config_files i todo) (with_configs plan (now ++ todo)) whole) (sym (one_longer before full)) placed in
-      let behind = configs_came plan now todo whole counted in
+      let behind = configs_are_filled plan now todo whole counted in
       record {
         configs = full ∷ behind.configs;
-        have = All-cons AllFilled full behind.configs came.have behind.have;
+        have = All-cons AllFilled full behind.configs is_filled.have behind.have;
         is = sym (ap (with_configs plan) (append_assoc before (full ∷ []) behind.configs)) ∙ behind.is;
       }
 
   -- what holds of the files that came holds of those of the whole plan
-  pub files_came : (plan whole : Plan) → Fills P (config_files 0 plan.configs) plan whole → EachFile P whole
-  files_came plan whole fills =
-      let came = configs_came plan [] plan.configs whole fills in
-      subst (EachFile P) came.is came.have
+  pub files_are_filled : (plan whole : Plan) → Fills P (config_files 0 plan.configs) plan whole → EachFile P whole
+  files_are_filled plan whole fills =
+      let is_filled = configs_are_filled plan [] plan.configs whole fills in
+      subst (EachFile P) is_filled.is is_filled.have
 
   -- a plan that a text can give is still one
-  pub fills_fit : (files : List Filed) (plan whole : Plan) → Fills P files plan whole → InLines plan → InLines whole
+  pub fills_fit : (files : List FileRef) (plan whole : Plan) → Fills P files plan whole → InLines plan → InLines whole
   fills_fit [] plan whole fills fits = subst InLines fills fits
   fills_fit (file ∷ files) plan whole fills fits = fills_fit files (with_file file fills.0 plan) whole fills.2 (with_file_fits file fills.0 plan fits)
 
@@ -241,11 +241,11 @@ stream_same bytes s = ap (λ (k : Content). record s { content = k }) (emptied_a
 config_same : (j : ℕ) (bytes : List ℕ) (c : Config) → config_without_bytes (filled_config j bytes c) ≡ config_without_bytes c
 config_same j bytes c = ap (λ (ss : List Stream). record c { streams = ss }) (changed_same (filled_stream bytes) without_bytes (stream_same bytes) j c.streams)
 
-with_file_same : (file : Filed) (bytes : List ℕ) (plan : Plan) → without_files (with_file file bytes plan) ≡ without_files plan
+with_file_same : (file : FileRef) (bytes : List ℕ) (plan : Plan) → without_files (with_file file bytes plan) ≡ without_files plan
 with_file_same file bytes plan =
     ap (λ (cs : List Config). record plan { configs = cs }) (changed_same (filled_config file.stream bytes) config_without_bytes (config_same file.stream bytes) file.config plan.configs)
 
 -- files that come change nothing but their bytes
-pub fills_same : (P : List ℕ → List ℕ → Type 0) (files : List Filed) (plan whole : Plan) → Fills P files plan whole → without_files plan ≡ without_files whole
+pub fills_same : (P : List ℕ → List ℕ → Type 0) (files : List FileRef) (plan whole : Plan) → Fills P files plan whole → without_files plan ≡ without_files whole
 fills_same P [] plan whole fills = ap without_files fills
 fills_same P (file ∷ files) plan whole fills = sym (with_file_same file fills.0 plan) ∙ fills_same P files (with_file file fills.0 plan) whole fills.2

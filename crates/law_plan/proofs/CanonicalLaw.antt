@@ -11,10 +11,10 @@ use Rattle.drm_schedule.specs.declared.plan.Plan.{Plan}
 use Rattle.drm_schedule.specs.Ranges.{ConfigInLines}
 use Rattle.plan_grammar.specs.declared.first_word.Keyword.TheVariants as keywords
 use Rattle.plan_grammar.specs.declared.line.Line.{Line}
-use Rattle.plan_rules.specs.declared.said.Said.{Said}
-use Rattle.plan_rules.specs.declared.said.Block.{Block}
-use Rattle.plan_rules.specs.declared.said.Read.{Read}
-use Rattle.plan_rules.specs.Said.{nothing, begin, count}
+use Rattle.plan_rules.specs.declared.said.ParsedLine.{ParsedLine}
+use Rattle.plan_rules.specs.declared.said.ConfigLines.{ConfigLines}
+use Rattle.plan_rules.specs.declared.said.ParsedText.{ParsedText}
+use Rattle.plan_rules.specs.ParsedLine.{nothing, begin, count}
 use Rattle.plan_rules.specs.Rules.{version_in, is_one, is_incomplete, is_second, is_too_many, ends_incomplete}
 use Rattle.plan_rules.specs.Steps.{check_rows, check_of}
 use Rattle.plan_writer.specs.Canonical.{front_lines, config_lines, plan_lines}
@@ -24,16 +24,16 @@ use Rattle.law_plan.proofs.ConfigLemmas.{inner_lines, all_fine}
 use Rattle.law_plan.proofs.ProjectionLemmas.{block_of, config_again, complete_again}
 
 -- what is read, with this configuration as the last one
-abbrev pub full : List Said → List Block → Block → Read
+abbrev pub full : List ParsedLine → List ConfigLines → ConfigLines → ParsedText
 full front closed block = record { front = front; closed = closed; current = Some block }
 
-abbrev pub fronted : List Said → Read
+abbrev pub fronted : List ParsedLine → ParsedText
 fronted front = record { front = front; closed = []; current = None }
 
 few_before : (k : ℕ) → k < 15 → nat_le 15 k ≡ false
 few_before k few = grind (arith, nat_tests)
 
-next_check : (front : List Said) (closed : List Block) (b : Block) (n : ℕ) → version_in front ≡ two → length closed < 15 → check_of (full front closed b) n keywords.Config ≡ Ok tt
+next_check : (front : List ParsedLine) (closed : List ConfigLines) (b : ConfigLines) (n : ℕ) → version_in front ≡ two → length closed < 15 → check_of (full front closed b) n keywords.Config ≡ Ok tt
 unfolding check_of is_second is_too_many
 next_check front closed b n version few = rw (version, few_before (length closed) few) (in_place (eqb (count keywords.Block b.lines) 0) n)
   where
@@ -41,14 +41,14 @@ next_check front closed b n version few = rw (version, few_before (length closed
     in_place true n = refl
     in_place false n = refl
 
-next_whole : (front : List Said) (closed : List Block) (b : Block) → version_in front ≡ two → is_incomplete two b.lines ≡ false → ends_incomplete (full front closed b) keywords.Config ≡ false
+next_whole : (front : List ParsedLine) (closed : List ConfigLines) (b : ConfigLines) → version_in front ≡ two → is_incomplete two b.lines ≡ false → ends_incomplete (full front closed b) keywords.Config ≡ false
 next_whole front closed b version whole = subst (λ v. is_incomplete v b.lines ≡ false) (sym version) whole
 
-next_adds : (front : List Said) (closed : List Block) (b : Block) (n : ℕ) (c : Config) → ConfigInLines c → adds n (config_lines c) (full front closed b) ≡ full front (closed ++ b ∷ []) (block_of n c)
+next_adds : (front : List ParsedLine) (closed : List ConfigLines) (b : ConfigLines) (n : ℕ) (c : Config) → ConfigInLines c → adds n (config_lines c) (full front closed b) ≡ full front (closed ++ b ∷ []) (block_of n c)
 next_adds front closed b n c fits =
     inner_adds (begin n c.start c.countdown (full front closed b)) (record { line = n; start = c.start; countdown = c.countdown; lines = [] }) [] (n + 1) (inner_lines c) (all_fine (n + 1) c fits.few_streams fits.few_blocks fits.each_block)
 
-next_fine : (front : List Said) (closed : List Block) (b : Block) (n : ℕ) (c : Config) → version_in front ≡ two → is_incomplete two b.lines ≡ false → length closed < 15 → ConfigInLines c → Fine (full front closed b) n (config_lines c)
+next_fine : (front : List ParsedLine) (closed : List ConfigLines) (b : ConfigLines) (n : ℕ) (c : Config) → version_in front ≡ two → is_incomplete two b.lines ≡ false → length closed < 15 → ConfigInLines c → Fine (full front closed b) n (config_lines c)
 next_fine front closed b n c version whole few fits = (
   ap is_one version,
   next_whole front closed b version whole,
@@ -57,10 +57,10 @@ next_fine front closed b n c version whole few fits = (
 )
 
 -- configurations behind others
-record Told (front : List Said) (closed : List Block) (b : Block) (n : ℕ) (cs : List Config) : Type 0 where
+record ClosesConfigs (front : List ParsedLine) (closed : List ConfigLines) (b : ConfigLines) (n : ℕ) (cs : List Config) : Type 0 where
   fine : Fine (full front closed b) n (flat_map config_lines cs)
-  closed_then : List Block
-  last : Block
+  closed_then : List ConfigLines
+  last : ConfigLines
   is : adds n (flat_map config_lines cs) (full front closed b) ≡ full front closed_then last
   whole : is_incomplete two last.lines ≡ false
   configs : map config_of (closed_then ++ last ∷ []) ≡ map config_of (closed ++ b ∷ []) ++ cs
@@ -69,14 +69,14 @@ append_nil : {X : Type 0} (xs : List X) → xs ++ [] ≡ xs
 append_nil [] = refl
 append_nil (x ∷ xs) = ap (λ l. x ∷ l) (append_nil xs)
 
-told : (front : List Said) (closed : List Block) (b : Block) (n : ℕ) (cs : List Config) → version_in front ≡ two → is_incomplete two b.lines ≡ false → length closed + length cs ≤ 15 → All ConfigInLines cs → Told front closed b n cs
-told front closed b n [] version whole few fit = record { fine = tt; closed_then = closed; last = b; is = refl; whole = whole; configs = sym (append_nil (map config_of (closed ++ b ∷ []))) }
-told front closed b n (c ∷ cs) version whole few fit =
+closes_configs : (front : List ParsedLine) (closed : List ConfigLines) (b : ConfigLines) (n : ℕ) (cs : List Config) → version_in front ≡ two → is_incomplete two b.lines ≡ false → length closed + length cs ≤ 15 → All ConfigInLines cs → ClosesConfigs front closed b n cs
+closes_configs front closed b n [] version whole few fit = record { fine = tt; closed_then = closed; last = b; is = refl; whole = whole; configs = sym (append_nil (map config_of (closed ++ b ∷ []))) }
+closes_configs front closed b n (c ∷ cs) version whole few fit =
     let fits = All-head ConfigInLines c cs fit in
     let flat : flat_map config_lines (c ∷ cs) ≡ config_lines c ++ flat_map config_lines cs = flat_map-cons config_lines c cs in
     let count : length (closed ++ b ∷ []) ≡ length closed + 1 = length-append closed (b ∷ []) in
     let here = next_adds front closed b n c fits in
-    let more = told front (closed ++ b ∷ []) (block_of n c) (n + length (config_lines c)) cs version (complete_again (n + 1) c fits.some_service fits.some_stream fits.some_block) (omega (arith, few, count)) (All-tail ConfigInLines c cs fit) in
+    let more = closes_configs front (closed ++ b ∷ []) (block_of n c) (n + length (config_lines c)) cs version (complete_again (n + 1) c fits.some_service fits.some_stream fits.some_block) (omega (arith, few, count)) (All-tail ConfigInLines c cs fit) in
     let behind : Fine (adds n (config_lines c) (full front closed b)) (n + length (config_lines c)) (flat_map config_lines cs) = rw here more.fine in
     record {
       fine = subst (λ (ls : List Line). Fine (full front closed b) n ls) (sym flat) (fine_append (full front closed b) n (config_lines c) (flat_map config_lines cs) (next_fine front closed b n c version whole (omega (arith, few)) fits) behind);
@@ -115,10 +115,10 @@ first_adds plan c fits =
 
 -- all lines of a plan
 pub record PlanRead (plan : Plan) : Type 0 where
-  pub read : Read
+  pub read : ParsedText
   pub fine : Fine nothing 1 (plan_lines plan)
   pub is : adds 1 (plan_lines plan) nothing ≡ read
-  pub block : Block
+  pub block : ConfigLines
   pub last : read.current ≡ Some block
   pub version : version_in read.front ≡ two
   pub whole : is_incomplete two block.lines ≡ false
@@ -126,11 +126,11 @@ pub record PlanRead (plan : Plan) : Type 0 where
 
 plan_read_of : (plan : Plan) (c : Config) (cs : List Config) → plan.configs ≡ c ∷ cs → length (c ∷ cs) ≤ 16 → All ConfigInLines (c ∷ cs) → PlanRead plan
 plan_read_of plan c cs are few fit =
-    let front : List Said = numbered 1 (front_lines plan) in
+    let front : List ParsedLine = numbered 1 (front_lines plan) in
     let fits = All-head ConfigInLines c cs fit in
     let flat : flat_map config_lines plan.configs ≡ config_lines c ++ flat_map config_lines cs = ap (flat_map config_lines) are ∙ flat_map-cons config_lines c cs in
     let n : ℕ = 5 + length (config_lines c) in
-    let more = told front [] (block_of 5 c) n cs refl (complete_again (5 + 1) c fits.some_service fits.some_stream fits.some_block) (omega (arith, few)) (All-tail ConfigInLines c cs fit) in
+    let more = closes_configs front [] (block_of 5 c) n cs refl (complete_again (5 + 1) c fits.some_service fits.some_stream fits.some_block) (omega (arith, few)) (All-tail ConfigInLines c cs fit) in
     let here = first_adds plan c fits in
     let behind : Fine (adds 5 (config_lines c) (fronted front)) n (flat_map config_lines cs) = rw here more.fine in
     let configs_fine : Fine (fronted front) 5 (flat_map config_lines plan.configs) =

@@ -22,8 +22,8 @@ use Rattle.plan_grammar.specs.declared.line.Line.{Line}
 use Rattle.plan_grammar.specs.declared.line.Line.TheVariants as lines
 use Rattle.plan_grammar.specs.Same.{same}
 use Rattle.plan_grammar.specs.Said.{keyword_said, keyword_of_body}
-use Rattle.plan_rules.specs.declared.said.Said.{Said}
-use Rattle.plan_rules.specs.Said.{count}
+use Rattle.plan_rules.specs.declared.said.ParsedLine.{ParsedLine}
+use Rattle.plan_rules.specs.ParsedLine.{count}
 use Rattle.plan_rules.specs.Rules.{is_entity, is_front, count_with, count_entities, is_out_of_order, is_second, is_too_many}
 use Rattle.plan_writer.specs.Canonical.{service_lines, stream_lines, clock_lines, entity_lines, block_lines}
 use Rattle.law_plan.proofs.AgainLemmas.{two, numbered, is_inner, InnerFine}
@@ -41,28 +41,28 @@ numbered_append n (l ∷ a) b =
     let next : n + suc (length a) ≡ n + 1 + length a = omega arith in
     ap (λ s. record { line = n; says = l } ∷ s) (numbered_append (n + 1) a b ∙ ap (λ k. numbered (n + 1) a ++ numbered k b) (sym next))
 
-pub inner_append : (said : List Said) (n : ℕ) (a b : List Line) → InnerFine said n a → InnerFine (said ++ numbered n a) (n + length a) b → InnerFine said n (a ++ b)
+pub inner_append : (said : List ParsedLine) (n : ℕ) (a b : List Line) → InnerFine said n a → InnerFine (said ++ numbered n a) (n + length a) b → InnerFine said n (a ++ b)
 inner_append said n [] b first behind =
     let same : n + 0 ≡ n = omega arith in
-    subst (λ (s : List Said). InnerFine s n b) (append_nil said) (subst (λ k. InnerFine (said ++ []) k b) same behind)
+    subst (λ (s : List ParsedLine). InnerFine s n b) (append_nil said) (subst (λ k. InnerFine (said ++ []) k b) same behind)
 inner_append said n (l ∷ a) b first behind =
     let next : n + suc (length a) ≡ n + 1 + length a = omega arith in
     let moved : InnerFine ((said ++ record { line = n; says = l } ∷ []) ++ numbered (n + 1) a) (n + 1 + length a) b =
-    subst (λ (s : List Said). InnerFine s (n + 1 + length a) b) (sym (append_assoc said (record { line = n; says = l } ∷ []) (numbered (n + 1) a))) (subst (λ k. InnerFine (said ++ record { line = n; says = l } ∷ numbered (n + 1) a) k b) next behind) in
+    subst (λ (s : List ParsedLine). InnerFine s (n + 1 + length a) b) (sym (append_assoc said (record { line = n; says = l } ∷ []) (numbered (n + 1) a))) (subst (λ k. InnerFine (said ++ record { line = n; says = l } ∷ numbered (n + 1) a) k b) next behind) in
     (first.0, first.1, first.2, first.3, inner_append (said ++ record { line = n; says = l } ∷ []) (n + 1) a b first.4 moved)
 
 -- how many lines meet a test on their keywords
-abbrev pub tested : (Keyword → Bool) → List Said → ℕ
+abbrev pub tested : (Keyword → Bool) → List ParsedLine → ℕ
 tested test said = length (filter (λ s. test (keyword_said s.says)) said)
 
-pub tested_append : (test : Keyword → Bool) (a b : List Said) → tested test (a ++ b) ≡ tested test a + tested test b
+pub tested_append : (test : Keyword → Bool) (a b : List ParsedLine) → tested test (a ++ b) ≡ tested test a + tested test b
 tested_append test a b =
-    ap (λ (l : List Said). length l) (filter-append (λ s. test (keyword_said s.says)) a b) ∙ length-append (filter (λ s. test (keyword_said s.says)) a) (filter (λ s. test (keyword_said s.says)) b)
+    ap (λ (l : List ParsedLine). length l) (filter-append (λ s. test (keyword_said s.says)) a b) ∙ length-append (filter (λ s. test (keyword_said s.says)) a) (filter (λ s. test (keyword_said s.says)) b)
 
-abbrev one_said : ℕ → Line → List Said
+abbrev one_said : ℕ → Line → List ParsedLine
 one_said n l = record { line = n; says = l } ∷ []
 
-abbrev said_if : Bool → List Said → List Said
+abbrev said_if : Bool → List ParsedLine → List ParsedLine
 said_if b said = if b then said else []
 
 tested_one : (test : Keyword → Bool) (n : ℕ) (l : Line) → tested test (one_said n l) ≡ one (test (keyword_said l))
@@ -72,7 +72,7 @@ tested_one test n l = by (test (keyword_said l))
     by true = refl
     by false = refl
 
-tested_push : (test : Keyword → Bool) (said : List Said) (n : ℕ) (l : Line) → tested test (said ++ record { line = n; says = l } ∷ []) ≡ tested test said + one (test (keyword_said l))
+tested_push : (test : Keyword → Bool) (said : List ParsedLine) (n : ℕ) (l : Line) → tested test (said ++ record { line = n; says = l } ∷ []) ≡ tested test said + one (test (keyword_said l))
 tested_push test said n l = tested_append test said (record { line = n; says = l } ∷ []) ∙ ap (λ k. tested test said + k) (tested_one test n l)
 
 -- lines of one kind, none of which meets the test
@@ -85,14 +85,14 @@ tested_all test f all n [] = refl
 tested_all test f all n (x ∷ xs) = rw (all x) (ap suc (tested_all test f all (n + 1) xs))
 
 -- a line from mode to clock stands before the first block line
-no_block_yet : (k : Keyword) (said : List Said) → is_entity k ≡ false → count keywords.Block said ≡ 0 → is_out_of_order two k said ≡ false
+no_block_yet : (k : Keyword) (said : List ParsedLine) → is_entity k ≡ false → count keywords.Block said ≡ 0 → is_out_of_order two k said ≡ false
 no_block_yet k said other none = rw none other
 
 -- and no line but a block line changes that
-still_none : (said : List Said) (n : ℕ) (l : Line) → same (keyword_said l) keywords.Block ≡ false → count keywords.Block said ≡ 0 → count keywords.Block (said ++ record { line = n; says = l } ∷ []) ≡ 0
+still_none : (said : List ParsedLine) (n : ℕ) (l : Line) → same (keyword_said l) keywords.Block ≡ false → count keywords.Block said ≡ 0 → count keywords.Block (said ++ record { line = n; says = l } ∷ []) ≡ 0
 still_none said n l other none = tested_push (λ k. same k keywords.Block) said n l ∙ rw (none, other) refl
 
-services_fine : (said : List Said) (n : ℕ) (services : List Service) → count keywords.Block said ≡ 0 → InnerFine said n (service_lines services)
+services_fine : (said : List ParsedLine) (n : ℕ) (services : List Service) → count keywords.Block said ≡ 0 → InnerFine said n (service_lines services)
 unfolding is_second is_too_many
 services_fine said n [] none = tt
 services_fine said n (s ∷ services) none =
@@ -101,7 +101,7 @@ services_fine said n (s ∷ services) none =
 few_streams : (c : ℕ) → c < 4 → nat_le 4 c ≡ false
 few_streams c few = grind (arith, nat_tests)
 
-streams_fine : (said : List Said) (n : ℕ) (streams : List Stream) → count keywords.Stream said + length streams ≤ 4 → count keywords.Block said ≡ 0 → InnerFine said n (stream_lines streams)
+streams_fine : (said : List ParsedLine) (n : ℕ) (streams : List Stream) → count keywords.Stream said + length streams ≤ 4 → count keywords.Block said ≡ 0 → InnerFine said n (stream_lines streams)
 unfolding is_second is_too_many
 streams_fine said n [] few none = tt
 streams_fine said n (s ∷ streams) few none =
@@ -113,7 +113,7 @@ streams_fine said n (s ∷ streams) few none =
       streams_fine (said ++ record { line = n; says = lines.Stream s } ∷ []) (n + 1) streams (omega (arith, few, pushed)) (still_none said n (lines.Stream s) refl none),
     )
 
-clock_fine : (said : List Said) (n : ℕ) (clock : Option Clock) → count keywords.Clock said ≡ 0 → count keywords.Block said ≡ 0 → InnerFine said n (clock_lines clock)
+clock_fine : (said : List ParsedLine) (n : ℕ) (clock : Option Clock) → count keywords.Clock said ≡ 0 → count keywords.Block said ≡ 0 → InnerFine said n (clock_lines clock)
 unfolding is_second is_too_many
 clock_fine said n None none no_block = tt
 clock_fine said n (Some c) none no_block = (refl, no_block_yet keywords.Clock said refl no_block, rw none refl, refl, tt)
@@ -122,7 +122,7 @@ entity_inner : (b : Body) → is_inner (keyword_of_body b) ≡ true
 entity_inner (bodies.Mux desc) = refl
 entity_inner _ = refl
 
-entity_single : (k : Keyword) (said : List Said) → is_entity k ≡ true → is_second k said ≡ false
+entity_single : (k : Keyword) (said : List ParsedLine) → is_entity k ≡ true → is_second k said ≡ false
 unfolding is_second
 entity_single keywords.Drmplan said e = absurd cc
 entity_single keywords.Mode said e = absurd cc
@@ -135,7 +135,7 @@ entity_single keywords.Room said e = absurd cc
 entity_single keywords.Clock said e = absurd cc
 entity_single _ said e = refl
 
-entity_few : (k : Keyword) (said : List Said) → is_entity k ≡ true → nat_le 64 (count_entities 0 said) ≡ false → is_too_many k said ≡ false
+entity_few : (k : Keyword) (said : List ParsedLine) → is_entity k ≡ true → nat_le 64 (count_entities 0 said) ≡ false → is_too_many k said ≡ false
 unfolding is_too_many
 entity_few keywords.Stream said e few = absurd cc
 entity_few keywords.Block said e few = absurd cc
@@ -152,7 +152,7 @@ below_64 : (c : ℕ) → c < 64 → nat_le 64 c ≡ false
 below_64 c few = grind (arith, nat_tests)
 
 -- one more line behind the last block line
-entities_push : (m : ℕ) (said : List Said) (n : ℕ) (l : Line) → count_entities m (said ++ record { line = n; says = l } ∷ []) ≡ count_with (count_entities m said) (keyword_said l)
+entities_push : (m : ℕ) (said : List ParsedLine) (n : ℕ) (l : Line) → count_entities m (said ++ record { line = n; says = l } ∷ []) ≡ count_with (count_entities m said) (keyword_said l)
 entities_push m [] n l = refl
 entities_push m (s ∷ said) n l = entities_push (count_with m (keyword_said s.says)) said n l
 
@@ -160,7 +160,7 @@ entity_counts : (c : ℕ) (b : Body) → count_with c (keyword_of_body b) ≡ c 
 entity_counts c b = rw (entity_is_no_block b, entity_is_one b) refl
 
 -- an entity line stands behind a block line
-behind_block : (b : Body) (said : List Said) → 1 ≤ count keywords.Block said → is_out_of_order two (keyword_of_body b) said ≡ false
+behind_block : (b : Body) (said : List ParsedLine) → 1 ≤ count keywords.Block said → is_out_of_order two (keyword_of_body b) said ≡ false
 behind_block b said some =
     by (is_front (keyword_of_body b)) (same (keyword_of_body b) keywords.Config) (same (keyword_of_body b) keywords.Block) (is_entity (keyword_of_body b)) (eqb (count keywords.Block said) 0)
     (ne_eqb (count keywords.Block said) 0 (λ e. omega (arith, some, e))) (entity_is_one b)
@@ -174,14 +174,14 @@ behind_block b said some =
     by false false false true false is one = refl
 
 -- a block line may stand anywhere
-block_anywhere : (said : List Said) → is_out_of_order two keywords.Block said ≡ false
+block_anywhere : (said : List ParsedLine) → is_out_of_order two keywords.Block said ≡ false
 block_anywhere said = by (eqb (count keywords.Block said) 0)
   where
     by : (none : Bool) → (if none then false else false) ≡ false
     by true = refl
     by false = refl
 
-entities_fine : (said : List Said) (n : ℕ) (entities : List Entity) → 1 ≤ count keywords.Block said → count_entities 0 said + length entities ≤ 64 → InnerFine said n (entity_lines entities)
+entities_fine : (said : List ParsedLine) (n : ℕ) (entities : List Entity) → 1 ≤ count keywords.Block said → count_entities 0 said + length entities ≤ 64 → InnerFine said n (entity_lines entities)
 entities_fine said n [] some few = tt
 entities_fine said n (e ∷ entities) some few =
     let one_more : count_entities 0 (said ++ record { line = n; says = lines.Entity e } ∷ []) ≡ count_entities 0 said + 1 = entities_push 0 said n (lines.Entity e) ∙ entity_counts (count_entities 0 said) e.body in
@@ -193,10 +193,10 @@ entities_fine said n (e ∷ entities) some few =
       entities_fine (said ++ record { line = n; says = lines.Entity e } ∷ []) (n + 1) entities (omega (arith, some, blocks)) (omega (arith, few, one_more)),
     )
 
-block_fine : (said : List Said) (n : ℕ) (b : Timed) → count keywords.Block said < 64 → length b.entities ≤ 64 → InnerFine said n (block_lines b)
+block_fine : (said : List ParsedLine) (n : ℕ) (b : Timed) → count keywords.Block said < 64 → length b.entities ≤ 64 → InnerFine said n (block_lines b)
 unfolding is_second is_too_many
 block_fine said n b few entities =
-    let behind : List Said = said ++ record { line = n; says = lines.Block b.from } ∷ [] in
+    let behind : List ParsedLine = said ++ record { line = n; says = lines.Block b.from } ∷ [] in
     let blocks : count keywords.Block behind ≡ count keywords.Block said + 1 = tested_push (λ k. same k keywords.Block) said n (lines.Block b.from) in
     let none : count_entities 0 behind ≡ 0 = entities_push 0 said n (lines.Block b.from) in
     (refl, block_anywhere said, refl, below_64 (count keywords.Block said) few, entities_fine behind (n + 1) b.entities (omega (arith, blocks)) (omega (arith, none, entities)))
@@ -205,10 +205,10 @@ entity_lines_no_block : (n : ℕ) (entities : List Entity) → count keywords.Bl
 entity_lines_no_block n entities = tested_none (λ k. same k keywords.Block) (λ (e : Entity). lines.Entity e) (λ e. entity_is_no_block e.body) n entities
 
 -- the blocks, one after another
-blocks_fine : (said : List Said) (n : ℕ) (blocks : List Timed) → count keywords.Block said + length blocks ≤ 64 → All TimedInLines blocks → InnerFine said n (flat_map block_lines blocks)
+blocks_fine : (said : List ParsedLine) (n : ℕ) (blocks : List Timed) → count keywords.Block said + length blocks ≤ 64 → All TimedInLines blocks → InnerFine said n (flat_map block_lines blocks)
 blocks_fine said n [] few fit = tt
 blocks_fine said n (b ∷ blocks) few fit =
-    let behind : List Said = said ++ numbered n (block_lines b) in
+    let behind : List ParsedLine = said ++ numbered n (block_lines b) in
     let own : count keywords.Block (numbered n (block_lines b)) ≡ suc (count keywords.Block (numbered (n + 1) (entity_lines b.entities))) = refl in
     let counted : count keywords.Block behind ≡ count keywords.Block said + count keywords.Block (numbered n (block_lines b)) = tested_append (λ k. same k keywords.Block) said (numbered n (block_lines b)) in
     subst (λ (ls : List Line). InnerFine said n ls) (sym (flat_map-cons block_lines b blocks))
@@ -229,7 +229,7 @@ abbrev pub inner_lines : Config → List Line
 inner_lines c = rest_settings c ++ (service_lines c.services ++ (stream_lines c.streams ++ (clock_lines c.clock ++ flat_map block_lines c.blocks)))
 
 -- the numbers of the first lines
-abbrev after_settings : ℕ → Config → List Said
+abbrev after_settings : ℕ → Config → List ParsedLine
 after_settings n c = [] ++ numbered n (rest_settings c)
 
 pub services_of : (test : Keyword → Bool) → test keywords.Service ≡ false → (n : ℕ) (services : List Service) → tested test (numbered n (service_lines services)) ≡ 0
@@ -245,13 +245,13 @@ clock_count test none n (Some c) = rw none refl
 -- all lines after the config line
 pub all_fine : (n : ℕ) (c : Config) → length c.streams ≤ 4 → length c.blocks ≤ 64 → All TimedInLines c.blocks → InnerFine [] n (inner_lines c)
 all_fine n c streams blocks fit =
-    let l1 : List Said = [] ++ numbered n (rest_settings c) in
+    let l1 : List ParsedLine = [] ++ numbered n (rest_settings c) in
     let n1 : ℕ = n + length (rest_settings c) in
-    let l2 : List Said = l1 ++ numbered n1 (service_lines c.services) in
+    let l2 : List ParsedLine = l1 ++ numbered n1 (service_lines c.services) in
     let n2 : ℕ = n1 + length (service_lines c.services) in
-    let l3 : List Said = l2 ++ numbered n2 (stream_lines c.streams) in
+    let l3 : List ParsedLine = l2 ++ numbered n2 (stream_lines c.streams) in
     let n3 : ℕ = n2 + length (stream_lines c.streams) in
-    let l4 : List Said = l3 ++ numbered n3 (clock_lines c.clock) in
+    let l4 : List ParsedLine = l3 ++ numbered n3 (clock_lines c.clock) in
     let n4 : ℕ = n3 + length (clock_lines c.clock) in
     let stream_2 : count keywords.Stream l2 ≡ 0 =
     tested_append (λ k. same k keywords.Stream) l1 (numbered n1 (service_lines c.services)) ∙ rw (services_of (λ k. same k keywords.Stream) refl n1 c.services) refl in

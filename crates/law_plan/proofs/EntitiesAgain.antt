@@ -13,7 +13,7 @@ use Rattle.text_lines.specs.Lines.{words_of, behind_two}
 use Rattle.text_lines.proofs.SpellingLaws.{decimal_is_number, decimal_value}
 use Rattle.plan_grammar.specs.declared.line.Line.{Line}
 use Rattle.plan_grammar.specs.declared.line.Line.TheVariants as lines
-use Rattle.plan_grammar.specs.Shape.{Part, number, value, bit, flag, hex, hex_value, optional_byte, optional_byte_value, bytes, bytes_value, text as label_part, reading}
+use Rattle.plan_grammar.specs.LineShape.{WordCheck, number, value, bit, flag, hex, hex_value, optional_byte, optional_byte_value, bytes, bytes_value, text as label_part, reading}
 use Rattle.plan_grammar.specs.Frequencies.{frequencies, channels}
 use Rattle.plan_grammar.specs.Entities.{says, label_line, freq_line, when_line, app_line, audio_line, language_line, raw_kind, raw_line}
 use Rattle.plan_grammar.specs.Said.{bit_word, hex6, hex4, optional_byte_word, bytes_word, config_words, channels_word, app_words}
@@ -117,7 +117,7 @@ pub audio_again : (short stream coding : ℕ) (sbr : Bool) (mode rate : ℕ) (me
 unfolding audio_line
 audio_again short stream coding sbr mode rate messages enhancement coder config fits_short fits_stream fits_coding fits_mode fits_rate fits_coder fits = by config fits
   where
-    parts : List ℕ → List Part
+    parts : List ℕ → List WordCheck
     parts config =
         number 0 3 (decimal short) ∷ number 0 3 (decimal stream) ∷ number 0 3 (decimal coding) ∷ bit (bit_word sbr) ∷ number 0 3 (decimal mode) ∷ number 0 7 (decimal rate)
         ∷ bit (bit_word messages) ∷ bit (bit_word enhancement) ∷ number 0 31 (decimal coder) ∷ bytes 125 (bytes_word config) ∷ []

@@ -8,13 +8,13 @@ use Rattle.drm_schedule.specs.declared.stream.Content.{Content}
 use Rattle.drm_schedule.specs.declared.stream.Content.TheVariants.{Fill, File}
 use Rattle.drm_schedule.specs.declared.stream.Stream.{Stream}
 use Rattle.drm_schedule.specs.declared.plan.Plan.{Plan}
-use Rattle.drm_plan.specs.declared.files.Filed.{Filed}
+use Rattle.drm_plan.specs.declared.files.FileRef.{FileRef}
 use Rattle.drm_plan.specs.Files.{file_here, stream_files, config_files, with_file, name_in, emptied, without_bytes, config_without_bytes, without_files}
 use Rattle.law_plan.specs.Whole.{file_in, files_of, files_in}
 use Rattle.law_plan.proofs.AttachLaw.{with_configs, here, one_longer, filled_here, heads, tails}
 
 -- the plan whose files get these bytes, one after another
-abbrev pub filled_with : List Filed → List (List ℕ) → Plan → Plan
+abbrev pub filled_with : List FileRef → List (List ℕ) → Plan → Plan
 filled_with [] all plan = plan
 filled_with (file ∷ files) [] plan = plan
 filled_with (file ∷ files) (bytes ∷ all) plan = filled_with files all (with_file file bytes plan)
@@ -27,7 +27,7 @@ of_content a b content = record { a = a; b = b; content = content }
 
 -- ---- a plan is filled
 
-stream_fills : (plan : Plan) (before : List Config) (c : Config) (after : List Config) (done : List Stream) (a b : ℕ) (old new : Content) (more : List Stream) (files : List Filed) (all : List (List ℕ))
+stream_fills : (plan : Plan) (before : List Config) (c : Config) (after : List Config) (done : List Stream) (a b : ℕ) (old new : Content) (more : List Stream) (files : List FileRef) (all : List (List ℕ))
     → emptied old ≡ emptied new
     → filled_with (file_here (length before) (length done) (of_content a b old) ++ files) (file_in new ++ all) (here plan before c after (done ++ of_content a b old ∷ more))
     ≡ filled_with files all (here plan before c after (done ++ of_content a b new ∷ more))
@@ -39,7 +39,7 @@ stream_fills plan before c after done a b (File n x) (File m y) more files all s
     ap (filled_with files all) (filled_here plan before c after done (of_content a b (File n x)) more y)
     ∙ ap (λ (k : List ℕ). filled_with files all (here plan before c after (done ++ of_content a b (File k y) ∷ more))) name
 
-streams_fill : (plan : Plan) (before : List Config) (c : Config) (after : List Config) (done old new : List Stream) (files : List Filed) (all : List (List ℕ))
+streams_fill : (plan : Plan) (before : List Config) (c : Config) (after : List Config) (done old new : List Stream) (files : List FileRef) (all : List (List ℕ))
     → map without_bytes old ≡ map without_bytes new
     → filled_with (stream_files (length before) (length done) old ++ files) (flat_map stream_file new ++ all) (here plan before c after (done ++ old))
     ≡ filled_with files all (here plan before c after (done ++ new))
@@ -51,9 +51,9 @@ streams_fill plan before c after done (s ∷ old) (t ∷ new) files all same =
     let others : map without_bytes old ≡ map without_bytes new = tails (without_bytes s) (without_bytes t) (map without_bytes old) (map without_bytes new) same in
     let whole : of_content s.a s.b t.content ≡ t = ap (λ (x : Stream). of_content x.a x.b t.content) first in
     let contents : emptied s.content ≡ emptied t.content = ap (λ (x : Stream). x.content) first in
-    let next : List Filed = stream_files (length before) (length done + 1) old ++ files in
+    let next : List FileRef = stream_files (length before) (length done + 1) old ++ files in
     let left : List (List ℕ) = flat_map stream_file new ++ all in
-    ap (λ (fs : List Filed). filled_with fs (flat_map stream_file (t ∷ new) ++ all) (here plan before c after (done ++ s ∷ old)))
+    ap (λ (fs : List FileRef). filled_with fs (flat_map stream_file (t ∷ new) ++ all) (here plan before c after (done ++ s ∷ old)))
     (append_assoc (file_here (length before) (length done) s) (stream_files (length before) (length done + 1) old) files)
     ∙ ap (λ (bs : List (List ℕ)). filled_with (file_here (length before) (length done) s ++ next) bs (here plan before c after (done ++ s ∷ old)))
     (ap (λ (bs : List (List ℕ)). bs ++ all) (flat_map-cons stream_file t new) ∙ append_assoc (stream_file t) (flat_map stream_file new) all)
@@ -74,7 +74,7 @@ configs_fill plan before (c ∷ old) (d ∷ new) same =
     let others : map config_without_bytes old ≡ map config_without_bytes new = tails (config_without_bytes c) (config_without_bytes d) (map config_without_bytes old) (map config_without_bytes new) same in
     let whole : record c { streams = d.streams } ≡ d = ap (λ (x : Config). record x { streams = d.streams }) first in
     let streams : map without_bytes c.streams ≡ map without_bytes d.streams = ap (λ (x : Config). x.streams) first in
-    let next : List Filed = config_files (length before + 1) old in
+    let next : List FileRef = config_files (length before + 1) old in
     let left : List (List ℕ) = flat_map files_of new in
     ap (λ (bs : List (List ℕ)). filled_with (config_files (length before) (c ∷ old)) bs (with_configs plan (before ++ c ∷ old))) (flat_map-cons files_of d new)
     ∙ streams_fill plan before c old [] c.streams d.streams next left streams

@@ -8,7 +8,7 @@ use Rattle.std.proofs.lemmas.List.Splits.{slice_split_none, slice_split_at}
 use Rattle.drm_sdc.specs.declared.channels.Channel15.{Channel15}
 use Rattle.text_lines.proofs.Lacking.{lacks, split, all_other, decimal_lacks}
 use Rattle.text_lines.proofs.SpellingLaws.{decimal_is_number, decimal_value}
-use Rattle.plan_grammar.specs.Shape.{value}
+use Rattle.plan_grammar.specs.LineShape.{value}
 use Rattle.plan_grammar.specs.Frequencies.{elements, has_plus, digits, channel, are_spelled, frequencies, channels}
 use Rattle.plan_grammar.specs.Said.{channel_word, channels_word}
 use Rattle.plan_lines.proofs.Elements.{no_plus}

@@ -14,19 +14,19 @@ use Rattle.plan_grammar.specs.declared.line.Line.{Line}
 use Rattle.plan_grammar.specs.Lines.{shape_of}
 use Rattle.plan_grammar.specs.Said.{LineInLines}
 use Rattle.plan_grammar.proofs.Keywords.{SaysKeyword}
-use Rattle.plan_grammar.specs.Shape.{Shape, reading}
+use Rattle.plan_grammar.specs.LineShape.{LineShape, reading}
 use Rattle.plan_lines.proofs.CleanLemmas.{clean, lines_are_single}
 use Rattle.plan_lines.proofs.KeywordLemmas.{says_keyword}
 use Rattle.plan_lines.proofs.KindLemmas.{line_fits}
 use Rattle.plan_lines.proofs.CleanLemmas.{utf8_cut}
-use Rattle.plan_rules.specs.declared.said.Block.{Block}
-use Rattle.plan_rules.specs.declared.said.Read.{Read}
-use Rattle.plan_rules.specs.Said.{nothing, add}
+use Rattle.plan_rules.specs.declared.said.ConfigLines.{ConfigLines}
+use Rattle.plan_rules.specs.declared.said.ParsedText.{ParsedText}
+use Rattle.plan_rules.specs.ParsedLine.{nothing, add}
 use Rattle.drm_plan.specs.Files.{config_files}
 use Rattle.plan_rules.specs.InLines.{IsSingle, EndedInLines, ReadInLines, EndsComplete}
-use Rattle.drm_plan.specs.Projection.{Drafted, drafted}
+use Rattle.drm_plan.specs.Projection.{DraftContents, drafted}
 use Rattle.text_lines.specs.Faults.{fault, first_fault, ok_unless, ◌>>=◌, lines_say}
-use Rattle.plan_rules.specs.Rules.{Fault, version_in, keyword_in, is_misplaced, is_second, is_too_many, is_17th, in_current, is_incomplete, current_line, end_rows, ended, ends_incomplete, said_shape, said_keyword, said_words, said_line, said_from, said}
+use Rattle.plan_rules.specs.Rules.{ScheduleTextFault, version_in, keyword_in, is_misplaced, is_second, is_too_many, is_17th, in_current, is_incomplete, current_line, end_rows, ended, ends_incomplete, said_shape, said_keyword, said_words, said_line, said_from, said}
 use Rattle.plan_rules.specs.Steps.{check_of}
 use Rattle.drm_plan.specs.Text.{lines_give}
 use Rattle.plan_rules.proofs.KeptLemmas.{add_fits}
@@ -55,7 +55,7 @@ lines_utf8 text is =
 -- ---- one line more
 
 -- what rows of which none holds leave
-record Clear (ends misplaced unspelled far second full : Bool) (x new : Read) : Type 0 where
+record Clear (ends misplaced unspelled far second full : Bool) (x new : ParsedText) : Type 0 where
   no_end : ends ≡ false
   placed : misplaced ≡ false
   spelled : unspelled ≡ false
@@ -64,7 +64,7 @@ record Clear (ends misplaced unspelled far second full : Bool) (x new : Read) : 
   room : full ≡ false
   same : x ≡ new
 
-clear : (ends misplaced unspelled far second full : Bool) (f0 f1 f2 f3 f4 f5 : Fault) (x new : Read)
+clear : (ends misplaced unspelled far second full : Bool) (f0 f1 f2 f3 f4 f5 : ScheduleTextFault) (x new : ParsedText)
     → ok_unless (first_fault ((ends, f0) ∷ (misplaced, f1) ∷ (unspelled, f2) ∷ (far, f3) ∷ (second, f4) ∷ (full, f5) ∷ [])) x ≡ Ok new → Clear ends misplaced unspelled far second full x new
 clear true b c d e f f0 f1 f2 f3 f4 f5 x new is = absurd cc
 clear false true c d e f f0 f1 f2 f3 f4 f5 x new is = absurd cc
@@ -75,11 +75,11 @@ clear false false false false false true f0 f1 f2 f3 f4 f5 x new is = absurd cc
 clear false false false false false false f0 f1 f2 f3 f4 f5 x new is = record { no_end = refl; placed = refl; spelled = refl; near = refl; single = refl; room = refl; same = cc }
 
 -- a line that isn't of the right words
-wordless : (ends : Bool) (f0 f1 : Fault) (x new : Read) → ok_unless (if ends then Some f0 else Some f1) x ≡ Ok new → ⊥
+wordless : (ends : Bool) (f0 f1 : ScheduleTextFault) (x new : ParsedText) → ok_unless (if ends then Some f0 else Some f1) x ≡ Ok new → ⊥
 wordless true f0 f1 x new is = cc
 wordless false f0 f1 x new is = cc
 
-shape_kept : (read new : Read) (n : ℕ) (k : Keyword) (s : Option Shape) → ((l : Line) → reading s ≡ Ok l → LineInLines l) → SaysKeyword k s → ReadInLines read → said_shape read n k s ≡ Ok new → ReadInLines new
+shape_kept : (read new : ParsedText) (n : ℕ) (k : Keyword) (s : Option LineShape) → ((l : Line) → reading s ≡ Ok l → LineInLines l) → SaysKeyword k s → ReadInLines read → said_shape read n k s ≡ Ok new → ReadInLines new
 unfolding said_shape check_of
 shape_kept read new n k None fits says kept is = absurd (wordless (ends_incomplete read k) (fault (current_line read.current) Missing) (fault n Word) read new is)
 shape_kept read new n k (Some s) fits says kept is =
@@ -89,13 +89,13 @@ shape_kept read new n k (Some s) fits says kept is =
     subst ReadInLines c.same
     (add_fits read n s.says (fits s.says reads) kept (subst (λ (x : Keyword). ends_incomplete read x ≡ false) (sym says) c.no_end) (subst (λ (x : Keyword). check_of read n x ≡ Ok tt) (sym says) found))
 
-abbrev read_ok : Read → Result Read Fault
+abbrev read_ok : ParsedText → Result ParsedText ScheduleTextFault
 read_ok read = Ok read
 
-read_is : (a b : Read) → read_ok a ≡ read_ok b → a ≡ b
+read_is : (a b : ParsedText) → read_ok a ≡ read_ok b → a ≡ b
 read_is a b e = cc
 
-words_kept : (read new : Read) (n : ℕ) (line : List ℕ) (words : List (List ℕ)) → IsUtf8 line → IsSingle line → words_of line ≡ words → ReadInLines read → said_words read n line words ≡ Ok new → ReadInLines new
+words_kept : (read new : ParsedText) (n : ℕ) (line : List ℕ) (words : List (List ℕ)) → IsUtf8 line → IsSingle line → words_of line ≡ words → ReadInLines read → said_words read n line words ≡ Ok new → ReadInLines new
 words_kept read new n line [] utf8 single cut kept is = subst ReadInLines (read_is read new is) kept
 words_kept read new n line (first ∷ words) utf8 single cut kept is = by (slice_index first 0 == 35) is
   where
@@ -107,19 +107,19 @@ words_kept read new n line (first ∷ words) utf8 single cut kept is = by (slice
     by true is = subst ReadInLines (read_is read new is) kept
     by false is = known (keyword_in (version_in read.front) first) is
 
-line_kept : (read new : Read) (n : ℕ) (line : List ℕ) → IsUtf8 line → IsSingle line → ReadInLines read → said_line read n line ≡ Ok new → ReadInLines new
+line_kept : (read new : ParsedText) (n : ℕ) (line : List ℕ) → IsUtf8 line → IsSingle line → ReadInLines read → said_line read n line ≡ Ok new → ReadInLines new
 unfolding said_line
 line_kept read new n line utf8 single kept is = words_kept read new n line (words_of line) utf8 single refl kept is
 
 -- ---- all lines
 
-lines_kept : (read new : Read) (n : ℕ) (lines : List (List ℕ)) → All IsUtf8 lines → All IsSingle lines → ReadInLines read → said_from read n lines ≡ Ok new → ReadInLines new
+lines_kept : (read new : ParsedText) (n : ℕ) (lines : List (List ℕ)) → All IsUtf8 lines → All IsSingle lines → ReadInLines read → said_from read n lines ≡ Ok new → ReadInLines new
 unfolding lines_say
 lines_kept read new n [] utf8 single kept is = subst ReadInLines (read_is read new is) kept
 lines_kept read new n (line ∷ lines) utf8 single kept is =
     by (said_line read n line) refl is (λ more. lines_kept more new (n + 1) lines (All-tail IsUtf8 line lines utf8) (All-tail IsSingle line lines single))
   where
-    by : (step : Result Read Fault) → said_line read n line ≡ step → (step >>= λ more. said_from more (n + 1) lines) ≡ Ok new → ((more : Read) → ReadInLines more → said_from more (n + 1) lines ≡ Ok new → ReadInLines new) → ReadInLines new
+    by : (step : Result ParsedText ScheduleTextFault) → said_line read n line ≡ step → (step >>= λ more. said_from more (n + 1) lines) ≡ Ok new → ((more : ParsedText) → ReadInLines more → said_from more (n + 1) lines ≡ Ok new → ReadInLines new) → ReadInLines new
     by (Ok more) now is rest = rest more (line_kept read more n line (All-head IsUtf8 line lines utf8) (All-head IsSingle line lines single) kept now) is
     by (Err e) now is rest = absurd cc
 
@@ -127,11 +127,11 @@ none_kept : ReadInLines nothing
 none_kept = record { front = All-nil _; few_closed = omega arith; closed = All-nil EndedInLines; current = tt }
 
 -- what the end of a text leaves
-record Ended (read new : Read) : Type 0 where
+record Ended (read new : ParsedText) : Type 0 where
   whole : EndsComplete new
   same : read ≡ new
 
-ended_by : (n : ℕ) (read new : Read) (version : Option Version) (current : Option Block) → read.current ≡ current → ok_unless (first_fault (end_rows version current n)) read ≡ Ok new → Ended read new
+ended_by : (n : ℕ) (read new : ParsedText) (version : Option Version) (current : Option ConfigLines) → read.current ≡ current → ok_unless (first_fault (end_rows version current n)) read ≡ Ok new → Ended read new
 ended_by n read new version None last is = absurd cc
 ended_by n read new version (Some b) last is = by (is_incomplete version b.lines) refl is
   where
@@ -139,43 +139,43 @@ ended_by n read new version (Some b) last is = by (is_incomplete version b.lines
     by true found is = absurd cc
     by false found is =
         let same = read_is read new is in
-        record { whole = record { block = b; last = sym (ap (λ (r : Read). r.current) same) ∙ last; complete = (or_parts _ _ found).0 }; same = same }
+        record { whole = record { block = b; last = sym (ap (λ (r : ParsedText). r.current) same) ∙ last; complete = (or_parts _ _ found).0 }; same = same }
 
-end_kept : (n : ℕ) (read new : Read) → ended n read ≡ Ok new → Ended read new
+end_kept : (n : ℕ) (read new : ParsedText) → ended n read ≡ Ok new → Ended read new
 unfolding ended
 end_kept n read new is = ended_by n read new (version_in read.front) read.current refl is
 
 -- all that a text says
-record Kept (read : Read) : Type 0 where
+record Kept (read : ParsedText) : Type 0 where
   in_lines : ReadInLines read
   whole : EndsComplete read
 
-said_kept : (lines : List (List ℕ)) (read : Read) → All IsUtf8 lines → All IsSingle lines → said lines ≡ Ok read → Kept read
+said_kept : (lines : List (List ℕ)) (read : ParsedText) → All IsUtf8 lines → All IsSingle lines → said lines ≡ Ok read → Kept read
 unfolding said
 said_kept lines read utf8 single is = by (said_from nothing 1 lines) refl is
   where
-    by : (all : Result Read Fault) → said_from nothing 1 lines ≡ all → (all >>= λ r. ended (length lines) r) ≡ Ok read → Kept read
+    by : (all : Result ParsedText ScheduleTextFault) → said_from nothing 1 lines ≡ all → (all >>= λ r. ended (length lines) r) ≡ Ok read → Kept read
     by (Ok r) from is =
         let end = end_kept (length lines) r read is in
         record { in_lines = subst ReadInLines end.same (lines_kept nothing r 1 lines utf8 single none_kept from); whole = end.whole }
     by (Err e) from is = absurd cc
 
 -- What lines gave: a plan that a text can give, and its files.
-pub record IsGiven (draft : Drafted) : Type 0 where
+pub record IsGiven (draft : DraftContents) : Type 0 where
   pub in_lines : InLines draft.plan
   pub files : draft.files ≡ config_files 0 draft.plan.configs
 
-abbrev draft_ok : Drafted → Result Drafted Fault
+abbrev draft_ok : DraftContents → Result DraftContents ScheduleTextFault
 draft_ok draft = Ok draft
 
-draft_is : (a b : Drafted) → draft_ok a ≡ draft_ok b → a ≡ b
+draft_is : (a b : DraftContents) → draft_ok a ≡ draft_ok b → a ≡ b
 draft_is a b e = cc
 
-pub lines_given : (text : List ℕ) (draft : Drafted) → IsUtf8 text → lines_give (lines_of text) ≡ Ok draft → IsGiven draft
+pub lines_given : (text : List ℕ) (draft : DraftContents) → IsUtf8 text → lines_give (lines_of text) ≡ Ok draft → IsGiven draft
 unfolding lines_give
 lines_given text draft utf8 is = by (said (lines_of text)) refl is
   where
-    by : (all : Result Read Fault) → said (lines_of text) ≡ all → (all >>= λ read. Ok (drafted read)) ≡ Ok draft → IsGiven draft
+    by : (all : Result ParsedText ScheduleTextFault) → said (lines_of text) ≡ all → (all >>= λ read. Ok (drafted read)) ≡ Ok draft → IsGiven draft
     by (Ok read) said_is is =
         let kept = said_kept (lines_of text) read (lines_utf8 text utf8) (lines_are_single text) said_is in
         let fits = plan_fits read kept.whole.block kept.in_lines kept.whole.last kept.whole.complete in

@@ -10,7 +10,7 @@ use lib.Utf8.{encodes}
 use Rattle.drm_schedule.specs.Ranges.{IsLabel}
 use Rattle.text_lines.specs.Lines.{words_of, behind_two}
 use Rattle.text_lines.proofs.WordLaws.{IsWord, behind_again}
-use Rattle.plan_grammar.specs.Shape.{text as label_part}
+use Rattle.plan_grammar.specs.LineShape.{text as label_part}
 use Rattle.law_plan.proofs.Parts.{Good}
 
 -- a list that has an element

@@ -23,14 +23,14 @@ use Rattle.plan_grammar.specs.declared.line.Line.TheVariants as lines
 use Rattle.plan_grammar.specs.Said.{canonical as line_of, line_text, detached, LineInLines}
 use Rattle.law_plan.proofs.LineAgain.{line_again}
 use Rattle.law_plan.proofs.SaidAgain.{said_again}
-use Rattle.plan_rules.specs.declared.said.Block.{Block}
-use Rattle.plan_rules.specs.declared.said.Read.{Read}
-use Rattle.plan_rules.specs.Said.{nothing}
-use Rattle.plan_rules.specs.Rules.{Fault, version_in, ended, is_incomplete, said_from, said}
+use Rattle.plan_rules.specs.declared.said.ConfigLines.{ConfigLines}
+use Rattle.plan_rules.specs.declared.said.ParsedText.{ParsedText}
+use Rattle.plan_rules.specs.ParsedLine.{nothing}
+use Rattle.plan_rules.specs.Rules.{ScheduleTextFault, version_in, ended, is_incomplete, said_from, said}
 use Rattle.plan_writer.specs.Canonical.{front_lines, settings_lines, service_lines, stream_lines, clock_lines, block_lines, config_lines, plan_lines, text_of, canonical}
 use Rattle.drm_plan.specs.Files.{emptied, without_bytes, config_without_bytes, without_files}
 use Rattle.law_plan.specs.Texts.{IsReadAgain}
-use Rattle.drm_plan.specs.Projection.{Drafted, drafted}
+use Rattle.drm_plan.specs.Projection.{DraftContents, drafted}
 use Rattle.drm_plan.specs.Text.{lines_give}
 use Rattle.law_plan.proofs.AgainLemmas.{two, LineAgain, lines_said}
 use Rattle.law_plan.proofs.CanonicalLaw.{plan_read}
@@ -212,13 +212,13 @@ text_is [] = refl
 text_is (l ∷ ls) = flat_map-cons line_text l ls ∙ ap (λ t. line_text l ++ t) (text_is ls) ∙ sym (flat_map-cons (λ (x : List ℕ). x ++ 10 ∷ []) (line_of l) (map line_of ls))
 
 -- a whole text that has been read
-said_whole : (ls : List (List ℕ)) (read : Read) (b : Block) → said_from nothing 1 ls ≡ Ok read → read.current ≡ Some b → version_in read.front ≡ two → is_incomplete two b.lines ≡ false → said ls ≡ Ok read
+said_whole : (ls : List (List ℕ)) (read : ParsedText) (b : ConfigLines) → said_from nothing 1 ls ≡ Ok read → read.current ≡ Some b → version_in read.front ≡ two → is_incomplete two b.lines ≡ false → said ls ≡ Ok read
 unfolding said ended
 said_whole ls read b e last version whole =
     let lacking : is_incomplete (version_in read.front) b.lines ≡ false = subst (λ v. is_incomplete v b.lines ≡ false) (sym version) whole in
     rw (e, last, lacking) refl
 
-abbrev ok_read : Read → Result Read Fault
+abbrev ok_read : ParsedText → Result ParsedText ScheduleTextFault
 ok_read read = Ok read
 
 -- the canonical text of a plan gives the plan again
@@ -238,10 +238,10 @@ read_again plan fits =
       same = read.gives;
     }
 
-abbrev ok_draft : Drafted → Result Drafted Fault
+abbrev ok_draft : DraftContents → Result DraftContents ScheduleTextFault
 ok_draft draft = Ok draft
 
-ok_is : (a b : Drafted) → ok_draft a ≡ ok_draft b → a ≡ b
+ok_is : (a b : DraftContents) → ok_draft a ≡ ok_draft b → a ≡ b
 ok_is a b e = cc
 
 -- two plans with one text
@@ -250,7 +250,7 @@ one_text a b fits_a fits_b same =
     let first = read_again a fits_a in
     let second = read_again b fits_b in
     let drafts : first.draft ≡ second.draft = ok_is first.draft second.draft (sym first.lines ∙ ap (λ (t : List ℕ). lines_give (lines_of t)) same ∙ second.lines) in
-    sym first.same ∙ ap (λ (d : Drafted). d.plan) drafts ∙ second.same
+    sym first.same ∙ ap (λ (d : DraftContents). d.plan) drafts ∙ second.same
 
 pub one_plan : (a b : Plan) → without_files a ≡ without_files b → canonical a ≡ canonical b
 one_plan a b same = sym (same_text a) ∙ ap canonical same ∙ same_text b

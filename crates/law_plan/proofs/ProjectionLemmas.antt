@@ -18,13 +18,13 @@ use Rattle.plan_grammar.specs.declared.line.Line.{Line}
 use Rattle.plan_grammar.specs.declared.line.Line.TheVariants as lines
 use Rattle.plan_grammar.specs.Same.{same}
 use Rattle.plan_grammar.specs.Said.{keyword_said, keyword_of_body}
-use Rattle.plan_rules.specs.declared.said.Said.{Said}
-use Rattle.plan_rules.specs.declared.said.Block.{Block}
-use Rattle.plan_rules.specs.Said.{count}
+use Rattle.plan_rules.specs.declared.said.ParsedLine.{ParsedLine}
+use Rattle.plan_rules.specs.declared.said.ConfigLines.{ConfigLines}
+use Rattle.plan_rules.specs.ParsedLine.{count}
 use Rattle.plan_rules.specs.Rules.{lacks_a_line, is_incomplete}
 use Rattle.plan_writer.specs.Canonical.{service_lines, stream_lines, clock_lines, entity_lines, block_lines}
 use Rattle.drm_plan.specs.Projection.{first_said, content, first_line, clock_in, service_said, stream_said, services_in, streams_in, entities_until, timed_in, or_one, blocks_in, config_of}
-use Rattle.drm_plan.specs.Parts.{into_last, before_first}
+use Rattle.drm_plan.specs.ConfigParts.{into_last, before_first}
 use Rattle.drm_plan.proofs.BlockLemmas.{until_append, timed_append, timed_counted}
 use Rattle.law_plan.proofs.AgainLemmas.{two, numbered}
 use Rattle.law_plan.proofs.ConfigLemmas.{numbered_append, inner_lines, tested, tested_append, tested_all, services_of}
@@ -80,7 +80,7 @@ lists n c =
     }
 
 -- what is listed of four parts
-four : {Y : Type 0} (h : Line → Option Y) (a b c d : List Said) → filter_map (λ s. h s.says) (a ++ (b ++ (c ++ d))) ≡ filter_map (λ s. h s.says) a ++ (filter_map (λ s. h s.says) b ++ (filter_map (λ s. h s.says) c ++ filter_map (λ s. h s.says) d))
+four : {Y : Type 0} (h : Line → Option Y) (a b c d : List ParsedLine) → filter_map (λ s. h s.says) (a ++ (b ++ (c ++ d))) ≡ filter_map (λ s. h s.says) a ++ (filter_map (λ s. h s.says) b ++ (filter_map (λ s. h s.says) c ++ filter_map (λ s. h s.says) d))
 four h a b c d =
     filter_map-append (λ s. h s.says) a (b ++ (c ++ d))
     ∙ ap (λ l. filter_map (λ s. h s.says) a ++ l) (filter_map-append (λ s. h s.says) b (c ++ d) ∙ ap (λ l. filter_map (λ s. h s.says) b ++ l) (filter_map-append (λ s. h s.says) c d))
@@ -112,7 +112,7 @@ streams_again n c =
 -- ---- the blocks
 
 -- lines that begin no block
-others_listed : {X : Type 0} (f : X → Line) → ((n : ℕ) (x : X) (rest : List Said) → timed_in (record { line = n; says = f x } ∷ rest) ≡ timed_in rest) → (n : ℕ) (xs : List X) → timed_in (numbered n (map f xs)) ≡ []
+others_listed : {X : Type 0} (f : X → Line) → ((n : ℕ) (x : X) (rest : List ParsedLine) → timed_in (record { line = n; says = f x } ∷ rest) ≡ timed_in rest) → (n : ℕ) (xs : List X) → timed_in (numbered n (map f xs)) ≡ []
 others_listed f other n [] = refl
 others_listed f other n (x ∷ xs) = other n x (numbered (n + 1) (map f xs)) ∙ others_listed f other (n + 1) xs
 
@@ -121,7 +121,7 @@ clock_others n None = refl
 clock_others n (Some c) = refl
 
 -- the blocks of lines stand behind those
-skip_timed : (said more : List Said) → timed_in said ≡ [] → timed_in (said ++ more) ≡ timed_in more
+skip_timed : (said more : List ParsedLine) → timed_in said ≡ [] → timed_in (said ++ more) ≡ timed_in more
 skip_timed said more none = timed_append said more ∙ ap (λ (l : List Timed). into_last (entities_until more) l ++ timed_in more) none
 
 -- before the first block line of blocks stands nothing
@@ -141,7 +141,7 @@ timed_blocks n [] = refl
 timed_blocks n (b ∷ blocks) =
     let behind : List Line = flat_map block_lines blocks in
     let m : ℕ = n + 1 + length (entity_lines b.entities) in
-    let own : List Said = numbered (n + 1) (entity_lines b.entities) in
+    let own : List ParsedLine = numbered (n + 1) (entity_lines b.entities) in
     let cut : numbered (n + 1) (entity_lines b.entities ++ behind) ≡ own ++ numbered m behind = numbered_append (n + 1) (entity_lines b.entities) behind in
     let none : timed_in own ≡ [] = others_listed (λ (e : Entity). lines.Entity e) (λ k e rest. refl) (n + 1) b.entities in
     let entities : entities_until (numbered (n + 1) (entity_lines b.entities ++ behind)) ≡ b.entities =
@@ -159,10 +159,10 @@ timed_blocks n (b ∷ blocks) =
 timed_again : (n : ℕ) (c : Config) → timed_in (numbered n (inner_lines c)) ≡ c.blocks
 timed_again n c =
     let l = lists (n + 1 + 1 + 1 + 1 + 1 + 1 + 1) c in
-    let services : List Said = numbered (n + 1 + 1 + 1 + 1 + 1 + 1 + 1) (service_lines c.services) in
-    let streams : List Said = numbered l.n2 (stream_lines c.streams) in
-    let clock : List Said = numbered l.n3 (clock_lines c.clock) in
-    let blocks : List Said = numbered l.n4 (flat_map block_lines c.blocks) in
+    let services : List ParsedLine = numbered (n + 1 + 1 + 1 + 1 + 1 + 1 + 1) (service_lines c.services) in
+    let streams : List ParsedLine = numbered l.n2 (stream_lines c.streams) in
+    let clock : List ParsedLine = numbered l.n3 (clock_lines c.clock) in
+    let blocks : List ParsedLine = numbered l.n4 (flat_map block_lines c.blocks) in
     ap timed_in l.is
     ∙ skip_timed services (streams ++ (clock ++ blocks)) (others_listed (λ s. lines.Service s) (λ k s rest. refl) (n + 1 + 1 + 1 + 1 + 1 + 1 + 1) c.services)
     ∙ skip_timed streams (clock ++ blocks) (others_listed (λ s. lines.Stream s) (λ k s rest. refl) l.n2 c.streams)
@@ -178,7 +178,7 @@ blocks_again n c some =
     by (b ∷ blocks) some = refl
 
 -- the clock is found behind the lines of other keywords
-skips : {X : Type 0} (k : Keyword) (f : X → Line) → ((x : X) → same (keyword_said (f x)) k ≡ false) → (n : ℕ) (xs : List X) (more : List Said) → first_said k (numbered n (map f xs) ++ more) ≡ first_said k more
+skips : {X : Type 0} (k : Keyword) (f : X → Line) → ((x : X) → same (keyword_said (f x)) k ≡ false) → (n : ℕ) (xs : List X) (more : List ParsedLine) → first_said k (numbered n (map f xs) ++ more) ≡ first_said k more
 skips k f other n [] more = refl
 skips k f other n (x ∷ xs) more = rw (other x) (skips k f other (n + 1) xs more)
 
@@ -186,7 +186,7 @@ entity_no_clock : (b : Body) → same (keyword_of_body b) keywords.Clock ≡ fal
 entity_no_clock (bodies.Mux desc) = refl
 entity_no_clock _ = refl
 
-no_clock_in : (n : ℕ) (entities : List Entity) (more : List Said) → first_said keywords.Clock (numbered n (entity_lines entities) ++ more) ≡ first_said keywords.Clock more
+no_clock_in : (n : ℕ) (entities : List Entity) (more : List ParsedLine) → first_said keywords.Clock (numbered n (entity_lines entities) ++ more) ≡ first_said keywords.Clock more
 no_clock_in n entities more = skips keywords.Clock (λ e. lines.Entity e) (λ e. entity_no_clock e.body) n entities more
 
 no_clock : (n : ℕ) (blocks : List Timed) → first_said keywords.Clock (numbered n (flat_map block_lines blocks)) ≡ None
@@ -204,7 +204,7 @@ clock_here n m (Some c) blocks = refl
 clock_again : (n : ℕ) (c : Config) → clock_in (first_line keywords.Clock (numbered n (inner_lines c))) ≡ c.clock
 clock_again n c =
     let l = lists (n + 1 + 1 + 1 + 1 + 1 + 1 + 1) c in
-    let behind : List Said = numbered l.n3 (clock_lines c.clock) ++ numbered l.n4 (flat_map block_lines c.blocks) in
+    let behind : List ParsedLine = numbered l.n3 (clock_lines c.clock) ++ numbered l.n4 (flat_map block_lines c.blocks) in
     ap (λ s. clock_in (first_line keywords.Clock s)) l.is
     ∙ ap (λ s. clock_in (content s)) (
     skips keywords.Clock (λ s. lines.Service s) (λ s. refl) (n + 1 + 1 + 1 + 1 + 1 + 1 + 1) c.services (numbered l.n2 (stream_lines c.streams) ++ behind)
@@ -213,7 +213,7 @@ clock_again n c =
     ∙ clock_here l.n3 l.n4 c.clock c.blocks
 
 -- the block of a configuration's lines
-abbrev pub block_of : ℕ → Config → Block
+abbrev pub block_of : ℕ → Config → ConfigLines
 block_of n c = record { line = n; start = c.start; countdown = c.countdown; lines = numbered (n + 1) (inner_lines c) }
 
 pub config_again : (n : ℕ) (c : Config) → 1 ≤ length c.blocks → config_of (block_of n c) ≡ c
@@ -228,11 +228,11 @@ nine a b c d e f g h i pa pb pc pd pe pf pg ph pi = rw (pa, pb, pc, pd, pe, pf, 
 lines_again : (n : ℕ) (c : Config) → 1 ≤ length c.services → 1 ≤ length c.streams → lacks_a_line (numbered n (inner_lines c)) ≡ false
 unfolding lacks_a_line
 lines_again n c services streams =
-    let said : List Said = numbered n (inner_lines c) in
+    let said : List ParsedLine = numbered n (inner_lines c) in
     let l = lists (n + 1 + 1 + 1 + 1 + 1 + 1 + 1) c in
-    let head : List Said = numbered (n + 1 + 1 + 1 + 1 + 1 + 1 + 1) (service_lines c.services) in
-    let tail : List Said = numbered l.n3 (clock_lines c.clock) ++ numbered l.n4 (flat_map block_lines c.blocks) in
-    let middle : List Said = numbered l.n2 (stream_lines c.streams) in
+    let head : List ParsedLine = numbered (n + 1 + 1 + 1 + 1 + 1 + 1 + 1) (service_lines c.services) in
+    let tail : List ParsedLine = numbered l.n3 (clock_lines c.clock) ++ numbered l.n4 (flat_map block_lines c.blocks) in
+    let middle : List ParsedLine = numbered l.n2 (stream_lines c.streams) in
     let service_count : count keywords.Service said ≡ length c.services + tested (λ k. same k keywords.Service) (middle ++ tail) =
     ap (tested (λ k. same k keywords.Service)) l.is
     ∙ tested_append (λ k. same k keywords.Service) head (middle ++ tail)

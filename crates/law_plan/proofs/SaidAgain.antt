@@ -10,7 +10,7 @@ use Rattle.text_lines.proofs.WordLaws.{decimal_is_word}
 use Rattle.plan_grammar.specs.declared.first_word.Keyword.TheVariants as keywords
 use Rattle.plan_grammar.specs.declared.line.Line.{Line}
 use Rattle.plan_grammar.specs.declared.line.Line.TheVariants as lines
-use Rattle.plan_grammar.specs.Shape.{reading}
+use Rattle.plan_grammar.specs.LineShape.{reading}
 use Rattle.plan_grammar.specs.Lines.{shape_of}
 use Rattle.plan_grammar.specs.Entities.{says}
 use Rattle.plan_grammar.specs.Said.{keyword_of_body, keyword_said, body_parts, canonical, words_said, detached, LineInLines}

@@ -22,7 +22,7 @@ use Rattle.plan_grammar.specs.declared.version.Version.{Version}
 use Rattle.plan_grammar.specs.declared.version.Version.TheVariants.{One, Two}
 use Rattle.plan_grammar.specs.declared.line.Line.{Line}
 use Rattle.plan_grammar.specs.declared.line.Line.TheVariants as lines
-use Rattle.plan_grammar.specs.Shape.{Part, number, value, bit, flag, hex, hex_value, byte_value, name, some_of, reading}
+use Rattle.plan_grammar.specs.LineShape.{WordCheck, number, value, bit, flag, hex, hex_value, byte_value, name, some_of, reading}
 use Rattle.plan_grammar.specs.Settings.{version_line, carry_line, first_line, length_line, config_line, mode_line, occupancy_line, depth_line, msc_line, sdc_line, protection_line, room_line, service_line, stream_line, clock_line, block_line}
 use Rattle.plan_grammar.specs.Said.{version_word, carry_words, depth_word, bit_word, kind_word, service_words, content_words, hex6, detached}
 use Rattle.law_plan.proofs.Parts.{Good, read_as, number_good, bit_good, flag_again, hex6_good, hex6_value, byte_good, byte_again}
@@ -128,7 +128,7 @@ service_kind : (id short : ℕ) (ca : Bool) (language : ℕ) (is_data : Bool) (d
 unfolding service_line
 service_kind id short ca language is_data descriptor data_ca fits_id fits_short fits_language fits_descriptor = by is_data
   where
-    parts : List Part
+    parts : List WordCheck
     parts = hex 3 (hex6 id) ∷ number 0 3 (decimal short) ∷ bit (bit_word ca) ∷ number 0 15 (decimal language) ∷ number 0 31 (decimal descriptor) ∷ bit (bit_word data_ca) ∷ []
 
     says : Bool → Line

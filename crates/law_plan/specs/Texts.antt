@@ -6,12 +6,12 @@ use Rattle.drm_schedule.specs.declared.plan.Plan.{Plan}
 use Rattle.text_lines.specs.Lines.{lines_of}
 use Rattle.plan_writer.specs.Canonical.{canonical}
 use Rattle.drm_plan.specs.Files.{without_files}
-use Rattle.drm_plan.specs.Projection.{Drafted}
+use Rattle.drm_plan.specs.Projection.{DraftContents}
 use Rattle.drm_plan.specs.Text.{lines_give}
 
 -- the lines of the canonical text give the plan again, without the bytes of its files
 pub record IsReadAgain (plan : Plan) : Type 0 where
-  pub draft : Drafted
+  pub draft : DraftContents
   pub lines : lines_give (lines_of (canonical plan)) ≡ Ok draft
   pub same : draft.plan ≡ without_files plan
 

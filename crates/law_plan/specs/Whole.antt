@@ -9,7 +9,7 @@ use Rattle.drm_schedule.specs.Valid.{IsSchedule}
 use Rattle.plan_writer.specs.Canonical.{canonical}
 use Rattle.text_lines.specs.Texts.{longest_text}
 use Rattle.drm_plan.specs.Draft.{attached, valid_of}
-use Rattle.drm_plan.specs.Projection.{Drafted}
+use Rattle.drm_plan.specs.Projection.{DraftContents}
 use Rattle.drm_plan.specs.Text.{draft_of, IsText}
 
 abbrev pub file_in : Content → List (List ℕ)
@@ -24,13 +24,13 @@ abbrev pub files_in : Plan → List (List ℕ)
 files_in schedule = flat_map files_of schedule.configs
 
 -- the draft with these files, the first of which has number k
-abbrev pub with_all : ℕ → List (List ℕ) → Drafted → Drafted
+abbrev pub with_all : ℕ → List (List ℕ) → DraftContents → DraftContents
 with_all k [] draft = draft
 with_all k (bytes ∷ files) draft = with_all (k + 1) files (attached draft k bytes)
 
 -- The text gives a draft, which these files, one for each line that names one and in their order, make this valid schedule.
 pub record TextMakes (text : List ℕ) (files : List (List ℕ)) (schedule : Plan) : Type 0 where
-  pub draft : Drafted
+  pub draft : DraftContents
   pub gives : draft_of text ≡ Ok draft
   pub one_each : length files ≡ length draft.files
   pub valid : valid_of (with_all 0 files draft) ≡ Ok schedule

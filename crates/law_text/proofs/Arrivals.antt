@@ -7,11 +7,11 @@ use Rattle.std.proofs.lemmas.List.{take_at, drop_at, get_or_append_left, same_fr
 use Rattle.drm_text.specs.Segment.{Segment, most_body, round_up, IsSegment}
 use Rattle.drm_text.specs.Message.{start, most_message}
 use Rattle.drm_text.specs.Reading.{body_length}
-use Rattle.drm_text.specs.Joining.{Begun, State, Gathered, Starts, Grows, Fills, made, is_start, is_complete, gather, gather_on, segment_after, same_flag, joined, bytes_with, going_on, whole, ReadsIn, begun_by, after, whole_with, GivesMessage}
+use Rattle.drm_text.specs.Joining.{OpenMessage, TextState, PieceRole, Starts, Grows, Fills, made, is_start, is_complete, gather, gather_on, segment_after, same_flag, joined, bytes_with, going_on, whole, ReadsIn, begun_by, after, whole_with, GivesMessage}
 use Rattle.drm_text.proofs.Spellings.{placed}
 use Rattle.drm_text.proofs.Joinings.{one_read}
 use Rattle.drm_text.proofs.Starts.{IsPlain, text_plain, later_piece}
-use Rattle.law_text.specs.Readings.{Reading, IsEntry, came, bytes_of, CameWhole, GoesOn, AreBegun, EndsMessage}
+use Rattle.law_text.specs.Readings.{PieceReading, IsEntry, without_gaps, bytes_of, HasNoGaps, MessageGoesOn, AreBegun, EndsMessage}
 use Rattle.law_text.specs.Runs.{JoinerRuns, with_message, messages_in}
 use Rattle.law_text.proofs.Steps.{is_the_start}
 
@@ -22,36 +22,36 @@ pub all_parts : {X : Type 0} (P : X → Type 0) (xs ys : List X) → AllByRecurs
 all_parts P [] ys h = (tt, h)
 all_parts P (x ∷ xs) ys h = let r = all_parts P xs ys h.1 in ((h.0, r.0), r.1)
 
-fours_of : (pieces : List (List ℕ)) → AllByRecursion IsEntry (came pieces) → AllByRecursion IsFour pieces
+fours_of : (pieces : List (List ℕ)) → AllByRecursion IsEntry (without_gaps pieces) → AllByRecursion IsFour pieces
 fours_of [] h = tt
 fours_of (p ∷ pieces) h = (h.0, fours_of pieces h.1)
 
 -- a run over two readings is one over each of them
-pub record Split (s : State) (xs ys : Reading) (texts : List (Option (List ℕ))) (left : State) : Type 0 where
-  pub told : List (Option (List ℕ))
+pub record Split (s : TextState) (xs ys : PieceReading) (texts : List (Option (List ℕ))) (left : TextState) : Type 0 where
+  pub answers : List (Option (List ℕ))
   pub later : List (Option (List ℕ))
-  pub mid : State
-  pub all : texts ≡ told ++ later
-  pub first : JoinerRuns s xs told mid
+  pub mid : TextState
+  pub all : texts ≡ answers ++ later
+  pub first : JoinerRuns s xs answers mid
   pub second : JoinerRuns mid ys later left
 
-pub runs_split : (s : State) (xs ys : List (Option (List ℕ))) (texts : List (Option (List ℕ))) (left : State) → JoinerRuns s (xs ++ ys) texts left → Split s xs ys texts left
-runs_split s [] ys texts left h = record { told = []; later = texts; mid = s; all = refl; first = (refl, refl); second = h }
+pub runs_split : (s : TextState) (xs ys : List (Option (List ℕ))) (texts : List (Option (List ℕ))) (left : TextState) → JoinerRuns s (xs ++ ys) texts left → Split s xs ys texts left
+runs_split s [] ys texts left h = record { answers = []; later = texts; mid = s; all = refl; first = (refl, refl); second = h }
 runs_split s (None ∷ xs) ys [] left h = absurd h
 runs_split s (None ∷ xs) ys (text ∷ texts) left h =
     let r = runs_split made xs ys texts left h.1 in
-    record { told = text ∷ r.told; later = r.later; mid = r.mid; all = ap (λ l. text ∷ l) r.all; first = (h.0, r.first); second = r.second }
+    record { answers = text ∷ r.answers; later = r.later; mid = r.mid; all = ap (λ l. text ∷ l) r.all; first = (h.0, r.first); second = r.second }
 runs_split s (Some piece ∷ xs) ys [] left h = absurd h
 runs_split s (Some piece ∷ xs) ys (text ∷ texts) left (read, reads, gives, rest) =
     let r = runs_split (after s piece read) xs ys texts left rest in
-    record { told = text ∷ r.told; later = r.later; mid = r.mid; all = ap (λ l. text ∷ l) r.all; first = (read, reads, gives, r.first); second = r.second }
+    record { answers = text ∷ r.answers; later = r.later; mid = r.mid; all = ap (λ l. text ∷ l) r.all; first = (read, reads, gives, r.first); second = r.second }
 
 -- what the last piece of a segment tells and leaves, with this message begun before it
-pub record Filled (o : Option (List ℕ)) (s : Segment) (texts : List (Option (List ℕ))) (left : State) : Type 0 where
-  pub told : List (Option (List ℕ))
+pub record Filled (o : Option (List ℕ)) (s : Segment) (texts : List (Option (List ℕ))) (left : TextState) : Type 0 where
+  pub answers : List (Option (List ℕ))
   pub text : Option (List ℕ)
-  pub texts_are : texts ≡ told ++ text ∷ []
-  pub quiet : messages_in told ≡ []
+  pub texts_are : texts ≡ answers ++ text ∷ []
+  pub quiet : messages_in answers ≡ []
   pub gives : GivesMessage (whole s o) text
   pub left_is : left ≡ record { begun = going_on s o; segment = None }
 
@@ -64,7 +64,7 @@ pub record Arriving (s : Segment) (bytes arrived : List ℕ) (pieces : List (Lis
   pub more : length arrived < length bytes
   pub fours : AllByRecursion IsFour pieces
 
-abbrev pub in_segment : Option Begun → List ℕ → State
+abbrev pub in_segment : Option OpenMessage → List ℕ → TextState
 in_segment b bytes = record { begun = b; segment = Some bytes }
 
 -- no piece of it is the start
@@ -90,7 +90,7 @@ size_with s bytes arrived piece pieces h =
     ap (λ n. round_up (n % 16 + 1) + 4) (sym byte) ∙ sym (placed s bytes h.segment).begins.size
 
 -- the last piece of it
-fill : (b : Option Begun) (s : Segment) (bytes arrived piece : List ℕ) (text : Option (List ℕ)) (texts : List (Option (List ℕ))) (left : State) → Arriving s bytes arrived (piece ∷ [])
+fill : (b : Option OpenMessage) (s : Segment) (bytes arrived piece : List ℕ) (text : Option (List ℕ)) (texts : List (Option (List ℕ))) (left : TextState) → Arriving s bytes arrived (piece ∷ [])
     → JoinerRuns (in_segment b arrived) (Some piece ∷ []) (text ∷ texts) left → Filled (bytes_with b s) s (text ∷ texts) left
 fill b s bytes arrived piece text texts left h (read, reads, gives, rest) =
     let all : bytes ≡ arrived ++ piece = h.all ∙ ap (λ l. arrived ++ l) (append-nil piece) in
@@ -99,12 +99,12 @@ fill b s bytes arrived piece text texts left h (read, reads, gives, rest) =
     let fills : gather (Some arrived) piece ≡ Fills (arrived ++ piece) =
     ap (λ t. if t then Starts true else gather_on (Some arrived) piece) (not_start s bytes arrived piece [] h)
     ∙ ap (λ t. if t then Fills (arrived ++ piece) else Grows (arrived ++ piece)) test in
-    let P : Gathered → Type 0 = λ g. ReadsIn g read in
+    let P : PieceRole → Type 0 = λ g. ReadsIn g read in
     let Q : List ℕ → Type 0 = λ l. IsSegment s l in
     let is : read ≡ Some s = one_read (arrived ++ piece) read (Some s) (subst P fills reads) (subst Q all h.segment) in
     let R : Option Segment → Type 0 = λ r. GivesMessage (whole_with b r) text in
     record {
-      told = [];
+      answers = [];
       text = text;
       texts_are = ap (λ l. text ∷ l) rest.0;
       quiet = refl;
@@ -128,54 +128,54 @@ grow s bytes arrived piece next pieces h =
     )
 
 -- a piece that isn't the last one of a segment gives nothing
-pub nothing_given : (b : Option Begun) (read : Option Segment) (text : Option (List ℕ)) → read ≡ None → GivesMessage (whole_with b read) text → text ≡ None
+pub nothing_given : (b : Option OpenMessage) (read : Option Segment) (text : Option (List ℕ)) → read ≡ None → GivesMessage (whole_with b read) text → text ≡ None
 nothing_given b read text none gives = let P : Option Segment → Type 0 = λ r. GivesMessage (whole_with b r) text in subst P none gives
 
-pub filled_on : {o : Option (List ℕ)} {s : Segment} {texts : List (Option (List ℕ))} {left : State} (text : Option (List ℕ)) → Filled o s texts left → text ≡ None → Filled o s (text ∷ texts) left
+pub filled_on : {o : Option (List ℕ)} {s : Segment} {texts : List (Option (List ℕ))} {left : TextState} (text : Option (List ℕ)) → Filled o s texts left → text ≡ None → Filled o s (text ∷ texts) left
 filled_on text r none = record {
-  told = text ∷ r.told;
+  answers = text ∷ r.answers;
   text = r.text;
   texts_are = ap (λ l. text ∷ l) r.texts_are;
-  quiet = ap (λ o. with_message o (messages_in r.told)) none ∙ r.quiet;
+  quiet = ap (λ o. with_message o (messages_in r.answers)) none ∙ r.quiet;
   gives = r.gives;
   left_is = r.left_is;
 }
 
-pub filling : (b : Option Begun) (s : Segment) (bytes arrived : List ℕ) (pieces : List (List ℕ)) (texts : List (Option (List ℕ))) (left : State) → Arriving s bytes arrived pieces
-    → JoinerRuns (in_segment b arrived) (came pieces) texts left → Filled (bytes_with b s) s texts left
+pub filling : (b : Option OpenMessage) (s : Segment) (bytes arrived : List ℕ) (pieces : List (List ℕ)) (texts : List (Option (List ℕ))) (left : TextState) → Arriving s bytes arrived pieces
+    → JoinerRuns (in_segment b arrived) (without_gaps pieces) texts left → Filled (bytes_with b s) s texts left
 filling b s bytes arrived [] texts left h run = absurd (omega (arith, h.more, ap length h.all, length-append arrived []))
 filling b s bytes arrived (piece ∷ pieces) [] left h run = absurd run
 filling b s bytes arrived (piece ∷ []) (text ∷ texts) left h run = fill b s bytes arrived piece text texts left h run
 filling b s bytes arrived (piece ∷ next ∷ pieces) (text ∷ texts) left h (read, reads, gives, rest) =
     let more = grow s bytes arrived piece next pieces h in
-    let P : Gathered → Type 0 = λ g. JoinerRuns (record { begun = begun_by b g read; segment = segment_after g }) (came (next ∷ pieces)) texts left in
-    let Q : Gathered → Type 0 = λ g. ReadsIn g read in
+    let P : PieceRole → Type 0 = λ g. JoinerRuns (record { begun = begun_by b g read; segment = segment_after g }) (without_gaps (next ∷ pieces)) texts left in
+    let Q : PieceRole → Type 0 = λ g. ReadsIn g read in
     let r = filling b s bytes (arrived ++ piece) (next ∷ pieces) texts left more.1 (subst P more.0 rest) in
     filled_on text r (nothing_given b read text (subst Q more.0 reads) gives)
 
 -- the message that is still begun after a start
-abbrev pub still_begun : State → Option Begun
+abbrev pub still_begun : TextState → Option OpenMessage
 still_begun v = if is_some v.segment then None else v.begun
 
 -- a segment that came whole
-pub whole_segment : (v : State) (s : Segment) (here : Reading) (texts : List (Option (List ℕ))) (left : State) → CameWhole s here → AllByRecursion IsEntry here → AllByRecursion IsPlain s.body → JoinerRuns v here texts left
+pub whole_segment : (v : TextState) (s : Segment) (here : PieceReading) (texts : List (Option (List ℕ))) (left : TextState) → HasNoGaps s here → AllByRecursion IsEntry here → AllByRecursion IsPlain s.body → JoinerRuns v here texts left
     → Filled (bytes_with (still_begun v) s) s texts left
-whole_segment v s here texts left came_whole entries plain run =
-    let P : Reading → Type 0 = λ l. JoinerRuns v l texts left in
-    let Q : Reading → Type 0 = λ l. AllByRecursion IsEntry l in
-    from_start texts (subst Q came_whole.all entries) (subst P came_whole.all run)
+whole_segment v s here texts left has_no_gaps entries plain run =
+    let P : PieceReading → Type 0 = λ l. JoinerRuns v l texts left in
+    let Q : PieceReading → Type 0 = λ l. AllByRecursion IsEntry l in
+    from_start texts (subst Q has_no_gaps.all entries) (subst P has_no_gaps.all run)
   where
-    from_start : (texts : List (Option (List ℕ))) → AllByRecursion IsEntry (Some start ∷ came came_whole.pieces) → JoinerRuns v (Some start ∷ came came_whole.pieces) texts left → Filled (bytes_with (still_begun v) s) s texts left
+    from_start : (texts : List (Option (List ℕ))) → AllByRecursion IsEntry (Some start ∷ without_gaps has_no_gaps.pieces) → JoinerRuns v (Some start ∷ without_gaps has_no_gaps.pieces) texts left → Filled (bytes_with (still_begun v) s) s texts left
     from_start [] entries run = absurd run
     from_start (text ∷ texts) entries (read, reads, gives, rest) =
-        let r = filling (still_begun v) s (bytes_of came_whole.pieces) [] came_whole.pieces texts left
+        let r = filling (still_begun v) s (bytes_of has_no_gaps.pieces) [] has_no_gaps.pieces texts left
         (record {
-          segment = came_whole.segment;
+          segment = has_no_gaps.segment;
           plain = plain;
           all = refl;
           even = refl;
-          more = omega (arith, (placed s (bytes_of came_whole.pieces) came_whole.segment).begins.least);
-          fours = fours_of came_whole.pieces entries.1;
+          more = omega (arith, (placed s (bytes_of has_no_gaps.pieces) has_no_gaps.segment).begins.least);
+          fours = fours_of has_no_gaps.pieces entries.1;
         })
         rest in
         filled_on text r (nothing_given v.begun read text reads gives)
@@ -187,11 +187,11 @@ same_flags false true is = absurd cc
 same_flags false false is = refl
 
 -- the bytes with a segment that goes on
-pub begins_with : (b : Option Begun) (s : Segment) → s.first ≡ true → s.number ≡ 0 → bytes_with b s ≡ Some s.body
+pub begins_with : (b : Option OpenMessage) (s : Segment) → s.first ≡ true → s.number ≡ 0 → bytes_with b s ≡ Some s.body
 begins_with b s first number =
     ap (λ f. if f then (if s.number == 0 then Some s.body else None) else joined b s) first ∙ ap (λ t. if t then Some s.body else None) (eq-eqb s.number 0 number)
 
-pub joins_with : (u : Begun) (s : Segment) → s.first ≡ false → s.toggle ≡ u.toggle → s.number ≡ u.number → length u.bytes + length s.body ≤ most_message → bytes_with (Some u) s ≡ Some (u.bytes ++ s.body)
+pub joins_with : (u : OpenMessage) (s : Segment) → s.first ≡ false → s.toggle ≡ u.toggle → s.number ≡ u.number → length u.bytes + length s.body ≤ most_message → bytes_with (Some u) s ≡ Some (u.bytes ++ s.body)
 joins_with u s first toggle number few =
     ap (λ f. if f then (if s.number == 0 then Some s.body else None) else joined (Some u) s) first
     ∙ ap (λ t. if t then Some (u.bytes ++ s.body) else None)
@@ -202,45 +202,45 @@ goes_on s bytes more full =
     ap (λ t. if t then Some (record { toggle = s.toggle; number = s.number + 1; bytes = bytes }) else None) (and_from _ _ (ap not more) (eq-eqb (length s.body) most_body full))
 
 -- what the last piece of a message, or of the front of one, tells and leaves
-record Gave (text : List ℕ) (s : Segment) (texts : List (Option (List ℕ))) (left : State) : Type 0 where
-  pub told : List (Option (List ℕ))
+record Gave (text : List ℕ) (s : Segment) (texts : List (Option (List ℕ))) (left : TextState) : Type 0 where
+  pub answers : List (Option (List ℕ))
   pub given : Option (List ℕ)
-  pub texts_are : texts ≡ told ++ given ∷ []
+  pub texts_are : texts ≡ answers ++ given ∷ []
   pub gives : GivesMessage (whole s (Some text)) given
   pub left_is : left ≡ record { begun = going_on s (Some text); segment = None }
 
-gave_behind : (s : Segment) (text : List ℕ) (o : Option (List ℕ)) (told later texts : List (Option (List ℕ))) (left : State) → texts ≡ told ++ later → o ≡ Some text → Filled o s later left → Gave text s texts left
-gave_behind s text o told later texts left all is r = record {
-  told = told ++ r.told;
+gave_behind : (s : Segment) (text : List ℕ) (o : Option (List ℕ)) (answers later texts : List (Option (List ℕ))) (left : TextState) → texts ≡ answers ++ later → o ≡ Some text → Filled o s later left → Gave text s texts left
+gave_behind s text o answers later texts left all is r = record {
+  answers = answers ++ r.answers;
   given = r.text;
-  texts_are = all ∙ (ap (λ l. told ++ l) r.texts_are ∙ sym (append_assoc told r.told (r.text ∷ [])));
+  texts_are = all ∙ (ap (λ l. answers ++ l) r.texts_are ∙ sym (append_assoc answers r.answers (r.text ∷ [])));
   gives = let P : Option (List ℕ) → Type 0 = λ x. GivesMessage (whole s x) r.text in subst P is r.gives;
   left_is = r.left_is ∙ ap (λ x. record { begun = going_on s x; segment = None }) is;
 }
 
 -- the segments of a message, up to one that came whole
-arrived : (toggle : Bool) (n : ℕ) (s : Segment) (text : List ℕ) (reading : Reading) (v : State) (texts : List (Option (List ℕ))) (left : State) → GoesOn (AreBegun toggle n) toggle n s text reading
+arrived : (toggle : Bool) (n : ℕ) (s : Segment) (text : List ℕ) (reading : PieceReading) (v : TextState) (texts : List (Option (List ℕ))) (left : TextState) → MessageGoesOn (AreBegun toggle n) toggle n s text reading
     → AllByRecursion IsEntry reading → AllByRecursion IsPlain text → length text ≤ most_message → JoinerRuns v reading texts left → Gave text s texts left
 arrived toggle zero s text reading v texts left g entries plain few run =
-    let P : Reading → Type 0 = λ l. JoinerRuns v l texts left in
-    let Q : Reading → Type 0 = λ l. AllByRecursion IsEntry l in
+    let P : PieceReading → Type 0 = λ l. JoinerRuns v l texts left in
+    let Q : PieceReading → Type 0 = λ l. AllByRecursion IsEntry l in
     let R : List ℕ → Type 0 = λ l. AllByRecursion IsPlain l in
     let split = runs_split v g.ahead g.here texts left (subst P g.all run) in
     let r = whole_segment split.mid s g.here split.later left g.whole (all_parts IsEntry g.ahead g.here (subst Q g.all entries)).1 (all_parts IsPlain g.before s.body (subst R g.text_is plain)).1 split.second in
     let body : s.body ≡ text = sym (g.text_is ∙ ap (λ l. l ++ s.body) g.begun.0) in
     let with_it : bytes_with (still_begun split.mid) s ≡ Some text = begins_with (still_begun split.mid) s g.first_is g.number_is ∙ ap Some body in
-    gave_behind s text _ split.told split.later texts left split.all with_it r
+    gave_behind s text _ split.answers split.later texts left split.all with_it r
 arrived toggle (suc n) s text reading v texts left g entries plain few run =
-    let P : Reading → Type 0 = λ l. JoinerRuns v l texts left in
-    let Q : Reading → Type 0 = λ l. AllByRecursion IsEntry l in
+    let P : PieceReading → Type 0 = λ l. JoinerRuns v l texts left in
+    let Q : PieceReading → Type 0 = λ l. AllByRecursion IsEntry l in
     let R : List ℕ → Type 0 = λ l. AllByRecursion IsPlain l in
     let split = runs_split v g.ahead g.here texts left (subst P g.all run) in
     let parts = all_parts IsEntry g.ahead g.here (subst Q g.all entries) in
     let plains = all_parts IsPlain g.before s.body (subst R g.text_is plain) in
     let size : length text ≡ length g.before + length s.body = ap length g.text_is ∙ length-append g.before s.body in
     let t : Segment = g.begun.0 in
-    let u : Begun = record { toggle = t.toggle; number = t.number + 1; bytes = g.before } in
-    let earlier = arrived toggle n t g.before g.ahead v split.told split.mid g.begun.1 parts.0 plains.0 (omega (arith, size, few)) split.first in
+    let u : OpenMessage = record { toggle = t.toggle; number = t.number + 1; bytes = g.before } in
+    let earlier = arrived toggle n t g.before g.ahead v split.answers split.mid g.begun.1 parts.0 plains.0 (omega (arith, size, few)) split.first in
     let mid : split.mid ≡ record { begun = Some u; segment = None } =
     earlier.left_is ∙ ap (λ x. record { begun = x; segment = None }) (goes_on t g.before g.begun.2 g.begun.3) in
     let r = whole_segment split.mid s g.here split.later left g.whole parts.1 plains.1 split.second in
@@ -248,7 +248,7 @@ arrived toggle (suc n) s text reading v texts left g entries plain few run =
     let with_it : bytes_with (still_begun split.mid) s ≡ Some text =
     ap (λ x. bytes_with (still_begun x) s) mid
     ∙ (joins_with u s later (g.toggle_is ∙ sym g.begun.1.toggle_is) (omega (arith, g.number_is, g.begun.1.number_is)) (omega (arith, size, few)) ∙ ap Some (sym g.text_is)) in
-    gave_behind s text _ split.told split.later texts left split.all with_it r
+    gave_behind s text _ split.answers split.later texts left split.all with_it r
 
 pub given_text : (s : Segment) (message : List ℕ) (text : Option (List ℕ)) → s.last ≡ true → GivesMessage (whole s (Some message)) text → IsUtf8 message → text ≡ Some message
 given_text s message None last gives utf8 =
@@ -262,13 +262,13 @@ given_text s message (Some given) last gives utf8 =
     ap Some g.1
 
 -- a message that ends there is given
-pub ends_given : (v : State) (reading : Reading) (message : List ℕ) (told : List (Option (List ℕ))) (text : Option (List ℕ)) (left : State) → AllByRecursion IsEntry reading → EndsMessage reading message
-    → JoinerRuns v reading (told ++ text ∷ []) left → text ≡ Some message
-ends_given v reading message told text left entries e run =
-    let P : Reading → Type 0 = λ l. JoinerRuns v l (told ++ text ∷ []) left in
-    let Q : Reading → Type 0 = λ l. AllByRecursion IsEntry l in
-    let split = runs_split v e.front e.pieces (told ++ text ∷ []) left (subst P e.all run) in
+pub ends_given : (v : TextState) (reading : PieceReading) (message : List ℕ) (answers : List (Option (List ℕ))) (text : Option (List ℕ)) (left : TextState) → AllByRecursion IsEntry reading → EndsMessage reading message
+    → JoinerRuns v reading (answers ++ text ∷ []) left → text ≡ Some message
+ends_given v reading message answers text left entries e run =
+    let P : PieceReading → Type 0 = λ l. JoinerRuns v l (answers ++ text ∷ []) left in
+    let Q : PieceReading → Type 0 = λ l. AllByRecursion IsEntry l in
+    let split = runs_split v e.front e.pieces (answers ++ text ∷ []) left (subst P e.all run) in
     let r = arrived e.toggle e.number e.segment message e.pieces split.mid split.later left e.goes (all_parts IsEntry e.front e.pieces (subst Q e.all entries)).1 (text_plain message e.utf8) e.few split.second in
-    let same = same_from_push told (split.told ++ r.told) text r.given
-    (split.all ∙ (ap (λ l. split.told ++ l) r.texts_are ∙ sym (append_assoc split.told r.told (r.given ∷ [])))) in
+    let same = same_from_push answers (split.answers ++ r.answers) text r.given
+    (split.all ∙ (ap (λ l. split.answers ++ l) r.texts_are ∙ sym (append_assoc split.answers r.answers (r.given ∷ [])))) in
     same.1 ∙ given_text e.segment message r.given e.last r.gives e.utf8

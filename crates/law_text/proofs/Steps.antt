@@ -3,35 +3,35 @@ use Rattle.std.proofs.Common.{◌≡◌, ℕ, suc, ◌+◌, ◌≤◌, ◌==◌,
 use Rattle.std.proofs.lemmas.Bool.{cases_Bool, ne_eqb, and_parts, eqb-true, leb-true}
 use Rattle.drm_text.specs.Segment.{Segment, most_body, IsSegment}
 use Rattle.drm_text.specs.Message.{start, most_message}
-use Rattle.drm_text.specs.Joining.{Begun, State, Gathered, Starts, Strays, Grows, Fills, made, is_start, is_complete, gather, gather_on, segment_after, same_flag, joined, bytes_with, going_on, ReadsIn, begun_by, whole_with, GivesMessage}
-use Rattle.law_text.specs.Readings.{Reading, came, bytes_of, CameWhole, GoesOn, AreBegun, EndsMessage}
+use Rattle.drm_text.specs.Joining.{OpenMessage, TextState, PieceRole, Starts, Strays, Grows, Fills, made, is_start, is_complete, gather, gather_on, segment_after, same_flag, joined, bytes_with, going_on, ReadsIn, begun_by, whole_with, GivesMessage}
+use Rattle.law_text.specs.Readings.{PieceReading, without_gaps, bytes_of, HasNoGaps, MessageGoesOn, AreBegun, EndsMessage}
 
 -- what was read ends in the segments of the message that was begun
-pub record StandsBegun (behind : Reading) (u : Begun) : Type 0 where
-  pub front : Reading
-  pub pieces : Reading
+pub record StandsBegun (behind : PieceReading) (u : OpenMessage) : Type 0 where
+  pub front : PieceReading
+  pub pieces : PieceReading
   pub count : ℕ
   pub all : behind ≡ front ++ pieces
   pub number : u.number ≡ suc count
   pub begun : AreBegun u.toggle (suc count) u.bytes pieces
 
-abbrev pub IsBegunBy : Reading → Option Begun → Type 0
+abbrev pub IsBegunBy : PieceReading → Option OpenMessage → Type 0
 IsBegunBy behind None = Unit {0}
 IsBegunBy behind (Some u) = StandsBegun behind u
 
 -- and behind it stand the start and the pieces of the segment so far, if there is one
-abbrev pub InSegment : Reading → Reading → Option (List ℕ) → Type 0
+abbrev pub InSegment : PieceReading → PieceReading → Option (List ℕ) → Type 0
 InSegment behind reading None = reading ≡ behind
-InSegment behind reading (Some bytes) = (pieces : List (List ℕ)) × (reading ≡ behind ++ Some start ∷ came pieces) × (bytes ≡ bytes_of pieces)
+InSegment behind reading (Some bytes) = (pieces : List (List ℕ)) × (reading ≡ behind ++ Some start ∷ without_gaps pieces) × (bytes ≡ bytes_of pieces)
 
-pub record Holds (reading : Reading) (s : State) : Type 0 where
-  pub behind : Reading
+pub record Holds (reading : PieceReading) (s : TextState) : Type 0 where
+  pub behind : PieceReading
   pub begun : IsBegunBy behind s.begun
   pub segment : InSegment behind reading s.segment
 
-pub came-push : (ps : List (List ℕ)) (p : List ℕ) → came (ps ++ p ∷ []) ≡ came ps ++ Some p ∷ []
-came-push [] p = refl
-came-push (q ∷ ps) p = ap (λ l. Some q ∷ l) (came-push ps p)
+pub without_gaps-push : (ps : List (List ℕ)) (p : List ℕ) → without_gaps (ps ++ p ∷ []) ≡ without_gaps ps ++ Some p ∷ []
+without_gaps-push [] p = refl
+without_gaps-push (q ∷ ps) p = ap (λ l. Some q ∷ l) (without_gaps-push ps p)
 
 pub bytes_of-push : (ps : List (List ℕ)) (p : List ℕ) → bytes_of (ps ++ p ∷ []) ≡ bytes_of ps ++ p
 bytes_of-push [] p = append-nil p
@@ -50,15 +50,15 @@ same_flags false true is = absurd cc
 same_flags false false is = refl
 
 -- a segment that goes on stands behind what it goes on with
-record Found (behind here : Reading) (s : Segment) (text : List ℕ) : Type 0 where
-  pub front : Reading
-  pub pieces : Reading
+record Found (behind here : PieceReading) (s : Segment) (text : List ℕ) : Type 0 where
+  pub front : PieceReading
+  pub pieces : PieceReading
   pub count : ℕ
   pub all : behind ++ here ≡ front ++ pieces
-  pub goes : GoesOn (AreBegun s.toggle count) s.toggle count s text pieces
+  pub goes : MessageGoesOn (AreBegun s.toggle count) s.toggle count s text pieces
   pub few : length text ≤ most_message
 
-found_first : (behind here : Reading) (s : Segment) (text : List ℕ) → CameWhole s here → s.first ≡ true → (if s.number == 0 then Some s.body else None) ≡ Some text → Found behind here s text
+found_first : (behind here : PieceReading) (s : Segment) (text : List ℕ) → HasNoGaps s here → s.first ≡ true → (if s.number == 0 then Some s.body else None) ≡ Some text → Found behind here s text
 found_first behind here s text is_whole first is =
     elim (cases_Bool (s.number == 0)) [
       | inl zero_is ↦
@@ -85,7 +85,7 @@ found_first behind here s text is_whole first is =
       | inr other ↦ clash_some (if s.number == 0 then Some s.body else None) text (ap (λ t. if t then Some s.body else None) other) is
     ]
 
-found_next : (behind here : Reading) (s : Segment) (b : Option Begun) (text : List ℕ) → IsBegunBy behind b → CameWhole s here → s.first ≡ false → joined b s ≡ Some text → Found behind here s text
+found_next : (behind here : PieceReading) (s : Segment) (b : Option OpenMessage) (text : List ℕ) → IsBegunBy behind b → HasNoGaps s here → s.first ≡ false → joined b s ≡ Some text → Found behind here s text
 found_next behind here s None text stands is_whole first is = clash_some (joined None s) text refl is
 found_next behind here s (Some u) text stands is_whole first is =
     let test : Bool = same_flag s.toggle u.toggle && ((s.number == u.number) && nat_le (length u.bytes + length s.body) most_message) in
@@ -118,7 +118,7 @@ found_next behind here s (Some u) text stands is_whole first is =
       | inr other ↦ clash_some (joined (Some u) s) text (ap (λ t. if t then Some (u.bytes ++ s.body) else None) other) is
     ]
 
-found : (behind here : Reading) (s : Segment) (b : Option Begun) (text : List ℕ) → IsBegunBy behind b → CameWhole s here → bytes_with b s ≡ Some text → Found behind here s text
+found : (behind here : PieceReading) (s : Segment) (b : Option OpenMessage) (text : List ℕ) → IsBegunBy behind b → HasNoGaps s here → bytes_with b s ≡ Some text → Found behind here s text
 found behind here s b text stands is_whole is =
     elim (cases_Bool s.first) [
       | inl first ↦ found_first behind here s text is_whole first (sym (ap (λ f. if f then (if s.number == 0 then Some s.body else None) else joined b s) first) ∙ is)
@@ -126,13 +126,13 @@ found behind here s b text stands is_whole is =
     ]
 
 -- the message that goes on after a segment stands there
-stands_on : (reading behind here : Reading) (s : Segment) (b : Option Begun) (o : Option (List ℕ)) → reading ≡ behind ++ here → IsBegunBy behind b → CameWhole s here → bytes_with b s ≡ o
+stands_on : (reading behind here : PieceReading) (s : Segment) (b : Option OpenMessage) (o : Option (List ℕ)) → reading ≡ behind ++ here → IsBegunBy behind b → HasNoGaps s here → bytes_with b s ≡ o
     → IsBegunBy reading (going_on s o)
 stands_on reading behind here s b None all stands is_whole is = tt
 stands_on reading behind here s b (Some text) all stands is_whole is =
     let f = found behind here s b text stands is_whole is in
-    let next : Begun = record { toggle = s.toggle; number = s.number + 1; bytes = text } in
-    let P : Option Begun → Type 0 = λ x. IsBegunBy reading x in
+    let next : OpenMessage = record { toggle = s.toggle; number = s.number + 1; bytes = text } in
+    let P : Option OpenMessage → Type 0 = λ x. IsBegunBy reading x in
     elim (cases_Bool (not s.last && (length s.body == most_body))) [
       | inl goes ↦
           let p = and_parts (not s.last) (length s.body == most_body) goes in
@@ -153,7 +153,7 @@ stands_on reading behind here s b (Some text) all stands is_whole is =
     not_true false is = refl
 
 -- a message that is given ends there
-given_ends : (reading behind here : Reading) (s : Segment) (b : Option Begun) (o text : Option (List ℕ)) (message : List ℕ) → reading ≡ behind ++ here → IsBegunBy behind b → CameWhole s here → bytes_with b s ≡ o
+given_ends : (reading behind here : PieceReading) (s : Segment) (b : Option OpenMessage) (o text : Option (List ℕ)) (message : List ℕ) → reading ≡ behind ++ here → IsBegunBy behind b → HasNoGaps s here → bytes_with b s ≡ o
     → s.last ≡ true → GivesMessage o text → text ≡ Some message → EndsMessage reading message
 given_ends reading behind here s b None text message all stands is_whole is last gives some = clash_some text message gives some
 given_ends reading behind here s b (Some bytes) None message all stands is_whole is last gives some = clash_some None message refl some
@@ -176,22 +176,22 @@ given_ends reading behind here s b (Some bytes) (Some given) message all stands 
     })
 
 -- a piece more: what holds then, and that a message that is given ends there
-pub record Stepped (reading : Reading) (b : Option Begun) (piece : List ℕ) (g : Gathered) (read : Option Segment) : Type 0 where
+pub record Stepped (reading : PieceReading) (b : Option OpenMessage) (piece : List ℕ) (g : PieceRole) (read : Option Segment) : Type 0 where
   pub holds : Holds (reading ++ Some piece ∷ []) (record { begun = begun_by b g read; segment = segment_after g })
   pub ends : (text : Option (List ℕ)) (message : List ℕ) → GivesMessage (whole_with b read) text → text ≡ Some message → EndsMessage (reading ++ Some piece ∷ []) message
 
-abbrev StepsBy : Reading → Option Begun → List ℕ → Gathered → Type 0
+abbrev StepsBy : PieceReading → Option OpenMessage → List ℕ → PieceRole → Type 0
 StepsBy reading b piece g = (read : Option Segment) → ReadsIn g read → Stepped reading b piece g read
 
-none_ends : (reading : Reading) (b : Option Begun) (read : Option Segment) → read ≡ None → (text : Option (List ℕ)) (message : List ℕ) → GivesMessage (whole_with b read) text → text ≡ Some message → EndsMessage reading message
+none_ends : (reading : PieceReading) (b : Option OpenMessage) (read : Option Segment) → read ≡ None → (text : Option (List ℕ)) (message : List ℕ) → GivesMessage (whole_with b read) text → text ≡ Some message → EndsMessage reading message
 none_ends reading b read none text message gives some =
     let P : Option Segment → Type 0 = λ r. GivesMessage (whole_with b r) text in
     clash_some text message (subst P none gives) some
 
-step_start : (reading behind : Reading) (b : Option Begun) (segment : Option (List ℕ)) (piece : List ℕ) → IsBegunBy behind b → InSegment behind reading segment → piece ≡ start
+step_start : (reading behind : PieceReading) (b : Option OpenMessage) (segment : Option (List ℕ)) (piece : List ℕ) → IsBegunBy behind b → InSegment behind reading segment → piece ≡ start
     → StepsBy reading b piece (Starts (is_some segment))
 step_start reading behind b None piece stands at is read none =
-    let P : Reading → Type 0 = λ r. IsBegunBy r b in
+    let P : PieceReading → Type 0 = λ r. IsBegunBy r b in
     record {
       holds = record { behind = reading; begun = subst P (sym at) stands; segment = ([], ap (λ p. reading ++ Some p ∷ []) is, refl) };
       ends = none_ends (reading ++ Some piece ∷ []) b read none;
@@ -201,20 +201,20 @@ step_start reading behind b (Some bytes) piece stands at is read none = record {
   ends = none_ends (reading ++ Some piece ∷ []) b read none;
 }
 
-step_stray : (reading : Reading) (b : Option Begun) (piece : List ℕ) → StepsBy reading b piece Strays
+step_stray : (reading : PieceReading) (b : Option OpenMessage) (piece : List ℕ) → StepsBy reading b piece Strays
 step_stray reading b piece read none = record {
   holds = record { behind = reading ++ Some piece ∷ []; begun = tt; segment = refl };
   ends = none_ends (reading ++ Some piece ∷ []) b read none;
 }
 
 -- the reading with the piece, by what stands behind
-with_piece : (reading behind : Reading) (pieces : List (List ℕ)) (piece : List ℕ) → reading ≡ behind ++ Some start ∷ came pieces
-    → reading ++ Some piece ∷ [] ≡ behind ++ Some start ∷ came (pieces ++ piece ∷ [])
+with_piece : (reading behind : PieceReading) (pieces : List (List ℕ)) (piece : List ℕ) → reading ≡ behind ++ Some start ∷ without_gaps pieces
+    → reading ++ Some piece ∷ [] ≡ behind ++ Some start ∷ without_gaps (pieces ++ piece ∷ [])
 with_piece reading behind pieces piece is =
     ap (λ l. l ++ Some piece ∷ []) is
-    ∙ (append_assoc behind (Some start ∷ came pieces) (Some piece ∷ []) ∙ ap (λ l. behind ++ Some start ∷ l) (sym (came-push pieces piece)))
+    ∙ (append_assoc behind (Some start ∷ without_gaps pieces) (Some piece ∷ []) ∙ ap (λ l. behind ++ Some start ∷ l) (sym (without_gaps-push pieces piece)))
 
-step_grows : (reading behind : Reading) (b : Option Begun) (bytes piece : List ℕ) → IsBegunBy behind b → InSegment behind reading (Some bytes) → StepsBy reading b piece (Grows (bytes ++ piece))
+step_grows : (reading behind : PieceReading) (b : Option OpenMessage) (bytes piece : List ℕ) → IsBegunBy behind b → InSegment behind reading (Some bytes) → StepsBy reading b piece (Grows (bytes ++ piece))
 step_grows reading behind b bytes piece stands (pieces, at, are) read none = record {
   holds = record {
     behind = behind;
@@ -224,15 +224,15 @@ step_grows reading behind b bytes piece stands (pieces, at, are) read none = rec
   ends = none_ends (reading ++ Some piece ∷ []) b read none;
 }
 
-step_fills : (reading behind : Reading) (b : Option Begun) (bytes piece : List ℕ) → IsBegunBy behind b → InSegment behind reading (Some bytes) → StepsBy reading b piece (Fills (bytes ++ piece))
+step_fills : (reading behind : PieceReading) (b : Option OpenMessage) (bytes piece : List ℕ) → IsBegunBy behind b → InSegment behind reading (Some bytes) → StepsBy reading b piece (Fills (bytes ++ piece))
 step_fills reading behind b bytes piece stands (pieces, at, are) None reads = record {
   holds = record { behind = reading ++ Some piece ∷ []; begun = tt; segment = refl };
   ends = none_ends (reading ++ Some piece ∷ []) b None refl;
 }
 step_fills reading behind b bytes piece stands (pieces, at, are) (Some s) reads =
     let P : List ℕ → Type 0 = λ l. IsSegment s l in
-    let here : Reading = Some start ∷ came (pieces ++ piece ∷ []) in
-    let whole_here : CameWhole s here = record {
+    let here : PieceReading = Some start ∷ without_gaps (pieces ++ piece ∷ []) in
+    let whole_here : HasNoGaps s here = record {
       pieces = pieces ++ piece ∷ [];
       all = refl;
       segment = subst P (ap (λ l. l ++ piece) are ∙ sym (bytes_of-push pieces piece)) reads;
@@ -267,19 +267,19 @@ is_the_start (a ∷ b ∷ c ∷ d ∷ []) four is =
 is_the_start (a ∷ b ∷ c ∷ d ∷ e ∷ piece) four is = absurd cc
 
 -- what a piece is that isn't the start
-step_on : (reading behind : Reading) (b : Option Begun) (segment : Option (List ℕ)) (piece : List ℕ) → IsBegunBy behind b → InSegment behind reading segment → StepsBy reading b piece (gather_on segment piece)
+step_on : (reading behind : PieceReading) (b : Option OpenMessage) (segment : Option (List ℕ)) (piece : List ℕ) → IsBegunBy behind b → InSegment behind reading segment → StepsBy reading b piece (gather_on segment piece)
 step_on reading behind b None piece stands at = step_stray reading b piece
 step_on reading behind b (Some bytes) piece stands at =
-    let P : Gathered → Type 0 = λ g. StepsBy reading b piece g in
+    let P : PieceRole → Type 0 = λ g. StepsBy reading b piece g in
     elim (cases_Bool (is_complete (bytes ++ piece))) [
       | inl full ↦ subst P (sym (ap (λ t. if t then Fills (bytes ++ piece) else Grows (bytes ++ piece)) full)) (step_fills reading behind b bytes piece stands at)
       | inr more ↦ subst P (sym (ap (λ t. if t then Fills (bytes ++ piece) else Grows (bytes ++ piece)) more)) (step_grows reading behind b bytes piece stands at)
     ]
 
-pub step : (reading : Reading) (s : State) (piece : List ℕ) (read : Option Segment) → length piece ≡ 4 → Holds reading s → ReadsIn (gather s.segment piece) read
+pub step : (reading : PieceReading) (s : TextState) (piece : List ℕ) (read : Option Segment) → length piece ≡ 4 → Holds reading s → ReadsIn (gather s.segment piece) read
     → Stepped reading s.begun piece (gather s.segment piece) read
 step reading s piece read four h reads =
-    let P : Gathered → Type 0 = λ g. StepsBy reading s.begun piece g in
+    let P : PieceRole → Type 0 = λ g. StepsBy reading s.begun piece g in
     let all : P (gather s.segment piece) =
     elim (cases_Bool (is_start piece)) [
       | inl is ↦
@@ -291,5 +291,5 @@ step reading s piece read four h reads =
     ] in
     all read reads
 
-pub step_gap : (reading : Reading) → Holds (reading ++ None ∷ []) made
+pub step_gap : (reading : PieceReading) → Holds (reading ++ None ∷ []) made
 step_gap reading = record { behind = reading ++ None ∷ []; begun = tt; segment = refl }

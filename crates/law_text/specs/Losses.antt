@@ -27,14 +27,14 @@ pub record IsSending (m : Sending) : Type 0 where
   pub each : length m.kept ≡ length m.pieces
 
 -- what comes: a piece where it is kept, and a gap in place of each that isn't
-abbrev pub came_of : Bool → List ℕ → Option (List ℕ)
-came_of true piece = Some piece
-came_of false piece = None
+abbrev pub piece_or_gap : Bool → List ℕ → Option (List ℕ)
+piece_or_gap true piece = Some piece
+piece_or_gap false piece = None
 
 abbrev pub kept_of : List Bool → List (List ℕ) → List (Option (List ℕ))
 kept_of [] pieces = []
 kept_of (k ∷ kept) [] = []
-kept_of (k ∷ kept) (piece ∷ pieces) = came_of k piece ∷ kept_of kept pieces
+kept_of (k ∷ kept) (piece ∷ pieces) = piece_or_gap k piece ∷ kept_of kept pieces
 
 abbrev pub all_kept : List Bool → Bool
 all_kept [] = true

@@ -1,10 +1,10 @@
 -- The whole run of a joiner of text messages: what it gives at one place of a reading after another.
 use Rattle.std.specs.Prelude.{ℕ, ◌≡◌, List, [], ◌∷◌, Option, Some, None}
 use Rattle.drm_text.specs.Segment.{Segment}
-use Rattle.drm_text.specs.Joining.{State, made, gather, ReadsIn, after, whole_with, GivesMessage}
+use Rattle.drm_text.specs.Joining.{TextState, made, gather, ReadsIn, after, whole_with, GivesMessage}
 
 -- From this state on, this is given at each place, and this state is left: of a piece what the joiner tells, and of a gap nothing.
-abbrev pub JoinerRuns : State → List (Option (List ℕ)) → List (Option (List ℕ)) → State → Type 0
+abbrev pub JoinerRuns : TextState → List (Option (List ℕ)) → List (Option (List ℕ)) → TextState → Type 0
 JoinerRuns s [] texts left = (texts ≡ []) × (left ≡ s)
 JoinerRuns s (x ∷ reading) [] left = ⊥
 JoinerRuns s (None ∷ reading) (text ∷ texts) left = (text ≡ None) × JoinerRuns made reading texts left

@@ -1,6 +1,6 @@
 //! The laws of joining pieces, each on a function that does nothing.
 
-ghost use Rattle.law_text.specs.Laws.{RunsByCalls, JoinsMessages, AnswersEach, OneList, GivesWhatIsWhole};
+ghost use Rattle.law_text.specs.Laws.{RunsByCalls, JoinsMessages, AnswersEachPiece, OneList, GivesWholeMessages};
 
 /// What a joiner's calls say one after another is its run.
 pub fn runs_by_calls()
@@ -14,7 +14,7 @@ pub fn joins_messages()
 
 /// At each place of every reading a message is given exactly where one ends there.
 pub fn answers_each()
-    ensures { AnswersEach }
+    ensures { AnswersEachPiece }
 {}
 
 /// The pieces of a message are one list.
@@ -24,5 +24,5 @@ pub fn one_list()
 
 /// Of messages whose pieces come with losses those are given that are whole.
 pub fn gives_what_is_whole()
-    ensures { GivesWhatIsWhole }
+    ensures { GivesWholeMessages }
 {}

@@ -16,12 +16,12 @@ use Rattle.mdi_items.specs.Frame.{Frame as MdiFrame}
 use Rattle.dcp_pft.specs.Loss.{is_recoverable}
 use Rattle.dcp_collect.specs.declared.taken.Taken.{Taken}
 use Rattle.dcp_collect.specs.Numbers.{end_of}
-use Rattle.dcp_collect.specs.Runs.{Item as Collected, Run}
+use Rattle.dcp_collect.specs.Runs.{CollectorItem as Collected, CollectorRun}
 use Rattle.law_collect.specs.Delivery.{got, newest_of}
 use Rattle.law_delivery.specs.Given.{IsServed, IsItemBy, IsItemAt, AreGiven}
 use Rattle.law_delivery.specs.Laws.{Delivering}
 use Rattle.law_delivery.specs.Sent.{Arrival, pairs_in, frame_at, frame_of_number, shape_at, IsDeliveryOf}
-use Rattle.mod_feed.specs.Items.{Item, Missing}
+use Rattle.mod_feed.specs.Items.{FrameItem, Missing}
 use Rattle.mod_feed.specs.Feeding.{FeedStep}
 use Rattle.cmd_unpack.specs.Streams.{stream_of}
 use Rattle.cmd_unpack.specs.Printed.{AreItems}
@@ -31,7 +31,7 @@ use Rattle.law_unpack.proofs.Numbered.{Fed, fed, run_from}
 -- ---- the stream of a frame that is given
 
 -- it is the schedule's
-pub stream_served : (plan : Plan) (k t q : ℕ) (item : Item) → (served : IsServed plan t q item)
+pub stream_served : (plan : Plan) (k t q : ℕ) (item : FrameItem) → (served : IsServed plan t q item)
     → stream_of k served.read.frame served.payload ≡ slice_get (map (stream_bytes (t - 3 * served.is_frame.config.start)) served.is_frame.config.streams) k
 stream_served plan k t q item served =
     let config : Config = served.is_frame.config in
@@ -52,93 +52,93 @@ stream_served plan k t q item served =
 -- ---- place by place
 
 -- items that are missing
-abbrev pub AreMissing : List Item → Type 0
+abbrev pub AreMissing : List FrameItem → Type 0
 AreMissing items = AllByRecursion (λ item. (q : ℕ) × (item ≡ Missing q 0 0)) items
 
-module _ (plan : Plan) (window : ℕ) (base : ℤ) (pairs : List (ℕ × ℕ)) where
+module _ (plan : Plan) (window : ℕ) (first_frame : ℤ) (pairs : List (ℕ × ℕ)) where
   abbrev pub kept_at : ℕ → ℕ → Bool
-  kept_at q = got window base pairs q
+  kept_at q = got window first_frame pairs q
 
   -- the items from number q on
-  abbrev pub AreAt : ℕ → List Item → Type 0
-  AreAt q items = (i : ℕ) (item : Item) → slice_get items i ≡ Some item → IsItemAt plan window base pairs (q + i) item
+  abbrev pub AreAt : ℕ → List FrameItem → Type 0
+  AreAt q items = (i : ℕ) (item : FrameItem) → slice_get items i ≡ Some item → IsItemAt plan window first_frame pairs (q + i) item
 
-  pub first_at : (q : ℕ) (item : Item) (items : List Item) → AreAt q (item ∷ items) → IsItemAt plan window base pairs q item
-  first_at q item items are = subst (λ n. IsItemAt plan window base pairs n item) (omega arith) (are 0 item refl)
+  pub first_at : (q : ℕ) (item : FrameItem) (items : List FrameItem) → AreAt q (item ∷ items) → IsItemAt plan window first_frame pairs q item
+  first_at q item items are = subst (λ n. IsItemAt plan window first_frame pairs n item) (omega arith) (are 0 item refl)
 
-  pub next_at : (q : ℕ) (item : Item) (items : List Item) → AreAt q (item ∷ items) → AreAt (q + 1) items
-  next_at q item items are = λ i one at. subst (λ n. IsItemAt plan window base pairs n one) (omega arith) (are (suc i) one at)
+  pub next_at : (q : ℕ) (item : FrameItem) (items : List FrameItem) → AreAt q (item ∷ items) → AreAt (q + 1) items
+  next_at q item items are = λ i one at. subst (λ n. IsItemAt plan window first_frame pairs n one) (omega arith) (are (suc i) one at)
 
   -- items of no frame of the schedule are missing
-  pub missing_by : (q : ℕ) (item : Item) → frame_of_number plan base q ≡ None → IsItemAt plan window base pairs q item → item ≡ Missing q 0 0
+  pub missing_by : (q : ℕ) (item : FrameItem) → frame_of_number plan first_frame q ≡ None → IsItemAt plan window first_frame pairs q item → item ≡ Missing q 0 0
   missing_by q item none is = subst (λ (o : Option ℕ). IsItemBy plan o q (kept_at q) item) none is
 
-module _ (base : ℤ) where
-  number_is : (t q : ℕ) → (base +ℤ pos q) ≡ pos t → (pos t -ℤ base) ≡ pos q
+module _ (first_frame : ℤ) where
+  number_is : (t q : ℕ) → (first_frame +ℤ pos q) ≡ pos t → (pos t -ℤ first_frame) ≡ pos q
   number_is t q place = omega (arith, ints, place)
 
-  pub place_next : (t q : ℕ) → (base +ℤ pos q) ≡ pos t → (base +ℤ pos (q + 1)) ≡ pos (t + 1)
+  pub place_next : (t q : ℕ) → (first_frame +ℤ pos q) ≡ pos t → (first_frame +ℤ pos (q + 1)) ≡ pos (t + 1)
   place_next t q place = omega (arith, ints, place)
 
-  pub none_behind : (plan : Plan) (t q : ℕ) → (base +ℤ pos q) ≡ pos t → frame_count plan ≤ t → frame_of_number plan base q ≡ None
+  pub none_behind : (plan : Plan) (t q : ℕ) → (first_frame +ℤ pos q) ≡ pos t → frame_count plan ≤ t → frame_of_number plan first_frame q ≡ None
   none_behind plan t q place past = ap (frame_at plan) place ∙ ap (λ b. cond b (Some t) None) (le-ltb t (frame_count plan) past)
 
 pub none_before : (plan : Plan) (z : ℤ) (m : ℕ) → (z +ℤ pos (m + 1)) ≡ pos 0 → frame_at plan z ≡ None
 none_before plan (pos n) m e = absurd (omega (arith, ints, e))
 none_before plan (negsuc n) m e = refl
 
-pub all_behind : (plan : Plan) (window : ℕ) (base : ℤ) (pairs : List (ℕ × ℕ)) (t q : ℕ) (items : List Item)
-    → (base +ℤ pos q) ≡ pos t → frame_count plan ≤ t → AreAt plan window base pairs q items → AreMissing items
-all_behind plan window base pairs t q [] place past are = tt
-all_behind plan window base pairs t q (item ∷ items) place past are = (
-  (q, missing_by plan window base pairs q item (none_behind base plan t q place past) (first_at plan window base pairs q item items are)),
-  all_behind plan window base pairs (t + 1) (q + 1) items (place_next base t q place) (omega (arith, past)) (next_at plan window base pairs q item items are),
+pub all_behind : (plan : Plan) (window : ℕ) (first_frame : ℤ) (pairs : List (ℕ × ℕ)) (t q : ℕ) (items : List FrameItem)
+    → (first_frame +ℤ pos q) ≡ pos t → frame_count plan ≤ t → AreAt plan window first_frame pairs q items → AreMissing items
+all_behind plan window first_frame pairs t q [] place past are = tt
+all_behind plan window first_frame pairs t q (item ∷ items) place past are = (
+  (q, missing_by plan window first_frame pairs q item (none_behind first_frame plan t q place past) (first_at plan window first_frame pairs q item items are)),
+  all_behind plan window first_frame pairs (t + 1) (q + 1) items (place_next first_frame t q place) (omega (arith, past)) (next_at plan window first_frame pairs q item items are),
 )
 
 -- a frame with a number below the end is given where it can be made again; no other frame is
-module _ (plan : Plan) (window : ℕ) (base : ℤ) (pairs : List (ℕ × ℕ)) (end : ℕ) where
-  pub given_within : (t q : ℕ) → (base +ℤ pos q) ≡ pos t → q < end
-      → is_given plan window base pairs end t ≡ is_recoverable (shape_at plan t) (kept_at plan window base pairs q)
+module _ (plan : Plan) (window : ℕ) (first_frame : ℤ) (pairs : List (ℕ × ℕ)) (end : ℕ) where
+  pub given_within : (t q : ℕ) → (first_frame +ℤ pos q) ≡ pos t → q < end
+      → is_given plan window first_frame pairs end t ≡ is_recoverable (shape_at plan t) (kept_at plan window first_frame pairs q)
   given_within t q place below =
-      ap (is_given_at plan window base pairs end t) (number_is base t q place)
-      ∙ ap (λ b. b && is_recoverable (shape_at plan t) (kept_at plan window base pairs q)) (lt-ltb q end below)
+      ap (is_given_at plan window first_frame pairs end t) (number_is first_frame t q place)
+      ∙ ap (λ b. b && is_recoverable (shape_at plan t) (kept_at plan window first_frame pairs q)) (lt-ltb q end below)
 
-  pub lost_past : (t q : ℕ) → (base +ℤ pos q) ≡ pos t → end ≤ q → is_given plan window base pairs end t ≡ false
+  pub lost_past : (t q : ℕ) → (first_frame +ℤ pos q) ≡ pos t → end ≤ q → is_given plan window first_frame pairs end t ≡ false
   lost_past t q place past =
-      ap (is_given_at plan window base pairs end t) (number_is base t q place)
-      ∙ ap (λ b. b && is_recoverable (shape_at plan t) (kept_at plan window base pairs q)) (le-ltb q end past)
+      ap (is_given_at plan window first_frame pairs end t) (number_is first_frame t q place)
+      ∙ ap (λ b. b && is_recoverable (shape_at plan t) (kept_at plan window first_frame pairs q)) (le-ltb q end past)
 
-  pub lost_early : (t : ℕ) (z : ℤ) (n : ℕ) → (z +ℤ pos (n + 1)) ≡ pos 0 → is_given_at plan window base pairs end t z ≡ false
+  pub lost_early : (t : ℕ) (z : ℤ) (n : ℕ) → (z +ℤ pos (n + 1)) ≡ pos 0 → is_given_at plan window first_frame pairs end t z ≡ false
   lost_early t (pos m) n e = absurd (omega (arith, ints, e))
   lost_early t (negsuc m) n e = refl
 
 -- ---- the items of a run
 
 -- the item of a step, by its place among the items
-step_at : (steps : List FeedStep) (q : ℕ) (item : Item) → slice_get (map (λ (s : FeedStep). s.item) steps) q ≡ Some item
+step_at : (steps : List FeedStep) (q : ℕ) (item : FrameItem) → slice_get (map (λ (s : FeedStep). s.item) steps) q ≡ Some item
     → (step : FeedStep) × (slice_get steps q ≡ Some step) × (step.item ≡ item)
 step_at [] q item at = absurd (let none : None ≡ Some item = at in cc)
 step_at (step ∷ steps) zero item at = (step, refl, (let same : step.item ≡ item = cc in same))
 step_at (step ∷ steps) (suc q) item at = step_at steps q item at
 
 -- They are those of the delivery, from number 0 up to the end.
-pub record ArePlaced (plan : Plan) (window : ℕ) (base : ℤ) (told : Option ℕ) (pairs : List (ℕ × ℕ)) (items : List Item) : Type 0 where
-  pub many : length items ≡ end_of told (newest_of base None pairs)
-  pub at : AreAt plan window base pairs 0 items
+pub record ArePlaced (plan : Plan) (window : ℕ) (first_frame : ℤ) (frame_limit : Option ℕ) (pairs : List (ℕ × ℕ)) (items : List FrameItem) : Type 0 where
+  pub many : length items ≡ end_of frame_limit (newest_of first_frame None pairs)
+  pub at : AreAt plan window first_frame pairs 0 items
 
-pub placed : (plan : Plan) (window reach : ℕ) (first told : Option ℕ) (base : ℤ) (arrivals : List Arrival) (datagrams : List (List ℕ))
-    (answers : List Taken) (collected : List Collected) (items : List Item) → Delivering
-    → IsSchedule plan → 1 ≤ window → IsDeliveryOf plan reach first base arrivals datagrams → Run window reach first told datagrams answers collected
-    → AreItems collected items → ArePlaced plan window base told (pairs_in arrivals) items
-placed plan window reach first told base arrivals datagrams answers collected items delivering is some followed run are =
+pub placed : (plan : Plan) (window reach : ℕ) (first frame_limit : Option ℕ) (first_frame : ℤ) (arrivals : List Arrival) (datagrams : List (List ℕ))
+    (answers : List Taken) (collected : List Collected) (items : List FrameItem) → Delivering
+    → IsSchedule plan → 1 ≤ window → IsDeliveryOf plan reach first first_frame arrivals datagrams → CollectorRun window reach first frame_limit datagrams answers collected
+    → AreItems collected items → ArePlaced plan window first_frame frame_limit (pairs_in arrivals) items
+placed plan window reach first frame_limit first_frame arrivals datagrams answers collected items delivering is some followed run are =
     let pairs : List (ℕ × ℕ) = pairs_in arrivals in
-    let steps : Fed new_tracker collected items = fed new_tracker collected items (run_from window reach first told datagrams answers collected run) are in
-    let given : AreGiven plan window base told pairs steps.steps =
-    (delivering plan window reach first told base arrivals datagrams answers collected steps.steps steps.after is some followed run steps.feeds).0 in
+    let steps : Fed new_tracker collected items = fed new_tracker collected items (run_from window reach first frame_limit datagrams answers collected run) are in
+    let given : AreGiven plan window first_frame frame_limit pairs steps.steps =
+    (delivering plan window reach first frame_limit first_frame arrivals datagrams answers collected steps.steps steps.after is some followed run steps.feeds).0 in
     record {
       many = ap length (sym steps.items_are) ∙ (length-map steps.steps (λ (s : FeedStep). s.item) ∙ given.many);
       at = λ q item at.
           let step = step_at steps.steps q item (ap (λ l. slice_get l q) steps.items_are ∙ at) in
-          let here : IsItemAt plan window base pairs q item = subst (λ one. IsItemAt plan window base pairs q one) step.2 (given.items q step.0 step.1) in
-          subst (λ n. IsItemAt plan window base pairs n item) (omega arith) here;
+          let here : IsItemAt plan window first_frame pairs q item = subst (λ one. IsItemAt plan window first_frame pairs q one) step.2 (given.items q step.0 step.1) in
+          subst (λ n. IsItemAt plan window first_frame pairs n item) (omega arith) here;
     }

@@ -1,13 +1,13 @@
 -- Links that are opened to receive over them: what went over them, and the closings where the openings end early.
 use Rattle.std.proofs.Common.{◌≡◌, ℕ, zero, suc, ◌<◌, ◌≤◌, ◌^◌, inl, inr, List, [], ◌∷◌, ◌++◌, length, take, replicate, slice_index_or, map, true, Option, None, Some, IsNone, refl, sym, ◌∙◌, ap, subst, arith}
 use Rattle.std.proofs.lemmas.List.{get_or-map, get_or_default, length-map}
-use Rattle.drm_links.specs.Told.{Known, IfBothKnown, CountsCall, Throughout, KnownThrough}
+use Rattle.drm_links.specs.Known.{Known, IfBothKnown, CountsCall, Throughout, KnownThrough}
 use Rattle.drm_links.specs.Link.{Answer, Traffic}
-use Rattle.drm_links.specs.Hearing.{AreNext, Heard, HeardTold}
-use Rattle.drm_links.specs.Dock.{DockContents, LinkStart, Over, DockOpens, over_of, first_traffic, after_close, after_failure, AreDifferent, Docked, OpeningFinds, FindsNone, HasLink, after_openings}
+use Rattle.drm_links.specs.Hearing.{AreNext, LinkHeard, HeardThroughout}
+use Rattle.drm_links.specs.Dock.{DockContents, LinkStart, Over, DockOpens, over_of, first_traffic, after_close, after_failure, AreDifferent, DockKnownThrough, OpeningFinds, FindsNone, HasLink, after_openings}
 use Rattle.drm_links.specs.declared.dock.Address.{Address}
 use Rattle.drm_links.specs.declared.dock.Opened.TheVariants as opened
-use Rattle.drm_links.proofs.ToldLemmas.{Tells-then, Tells-both}
+use Rattle.drm_links.proofs.KnownLemmas.{Tells-then, Tells-both}
 use Rattle.drm_links.proofs.Places.{index_of}
 use Rattle.link_group.specs.Reaching.{HasGone, HaveGone, after_closes, nothing, with_none}
 use Rattle.link_group.specs.Binding.{LinkHears, HearsEach, BindsFew, StopsBehind, heard}
@@ -19,23 +19,23 @@ use Rattle.link_group.proofs.RunLemmas.{choose, none_gone}
 -- ---- one link
 
 -- What told how it starts tells still: these answers came over it, and nothing else went.
-pub heard_told : (a b : Option Traffic) (start : LinkStart) (answers : List Answer) → HeardTold answers a b → a ≡ Some (first_traffic start) → length answers ≤ 2 ^ 62
+pub heard_contents : (a b : Option Traffic) (start : LinkStart) (answers : List Answer) → HeardThroughout answers a b → a ≡ Some (first_traffic start) → length answers ≤ 2 ^ 62
     → (traffic : Traffic) × (b ≡ Some traffic) × (over_of traffic ≡ heard answers) × AreNext start.ahead answers traffic.ahead
-heard_told None b start answers came is few = absurd (cc)
-heard_told (Some x) None start answers came is few =
+heard_contents None b start answers answers_heard is few = absurd (cc)
+heard_contents (Some x) None start answers answers_heard is few =
     let same : x ≡ first_traffic start = cc in
     let calls : x.calls ≡ 0 = ap (λ (t : Traffic). t.calls) same in
-    absurd (omega (arith, came, calls, few))
-heard_told (Some x) (Some y) start answers came is few =
+    absurd (omega (arith, answers_heard, calls, few))
+heard_contents (Some x) (Some y) start answers answers_heard is few =
     let same : x ≡ first_traffic start = cc in
-    let given : y.answers ≡ answers = came.given ∙ ap (λ (t : Traffic). t.answers ++ answers) same in
-    let gone : y.gone ≡ [] = came.gone ∙ ap (λ (t : Traffic). t.gone) same in
-    let waits : y.waits ≡ [] = came.waits ∙ ap (λ (t : Traffic). t.waits) same in
-    let waiting : y.waiting ≡ 0 = came.waiting ∙ ap (λ (t : Traffic). t.waiting) same in (
+    let given : y.answers ≡ answers = answers_heard.given ∙ ap (λ (t : Traffic). t.answers ++ answers) same in
+    let gone : y.gone ≡ [] = answers_heard.gone ∙ ap (λ (t : Traffic). t.gone) same in
+    let waits : y.waits ≡ [] = answers_heard.waits ∙ ap (λ (t : Traffic). t.waits) same in
+    let waiting : y.waiting ≡ 0 = answers_heard.waiting ∙ ap (λ (t : Traffic). t.waiting) same in (
       y,
       refl,
       (λ i. record { answers = given i; gone = gone i; rests = waits i ++ waiting i ∷ [] }),
-      subst (λ (t : Traffic). AreNext t.ahead answers y.ahead) same came.ahead,
+      subst (λ (t : Traffic). AreNext t.ahead answers y.ahead) same answers_heard.ahead,
     )
 
 -- what went over a link that tells it, of which P holds
@@ -43,9 +43,9 @@ abbrev pub WentOver : {L : Type 0} → (L → Known Traffic) → (List Answer �
 WentOver known P link start = (over : Over) × HasGone known link over × LinkHears P start over
 
 pub went_over : {L : Type 0} (known : L → Known Traffic) (P : List Answer → Type 0) (link link' : L) (start : LinkStart) (answers : List Answer)
-    → (known link).told ≡ Some (first_traffic start) → Heard (known link) (known link') answers → length answers ≤ 2 ^ 62 → P answers → WentOver known P link' start
-went_over known P link link' start answers told came few reading =
-    let t = heard_told (known link).told (known link').told start answers came told few in
+    → (known link).contents ≡ Some (first_traffic start) → LinkHeard (known link) (known link') answers → length answers ≤ 2 ^ 62 → P answers → WentOver known P link' start
+went_over known P link link' start answers contents answers_heard few reading =
+    let t = heard_contents (known link).contents (known link').contents start answers answers_heard contents few in
     (heard answers, (t.0, t.1, t.2), record { answers = answers; rest = t.0.ahead; next = t.3; reading = reading; over_is = refl })
 
 pub went_weaker : {L : Type 0} (known : L → Known Traffic) (P Q : List Answer → Type 0) (link : L) (start : LinkStart) → ((answers : List Answer) → P answers → Q answers) → WentOver known P link start → WentOver known Q link start
@@ -55,12 +55,12 @@ went_weaker known P Q link start weaker went =
 
 -- ---- what an opening finds
 
-pub found_once : (told : DockContents) (k : ℕ) (at : Address) (a b : LinkStart) → OpeningFinds told k at a → OpeningFinds told k at b → a ≡ b
-found_once told k at a b first second = let is : Some a ≡ Some b = sym first.stands ∙ second.stands in cc
+pub found_once : (contents : DockContents) (k : ℕ) (at : Address) (a b : LinkStart) → OpeningFinds contents k at a → OpeningFinds contents k at b → a ≡ b
+found_once contents k at a b first second = let is : Some a ≡ Some b = sym first.stands ∙ second.stands in cc
 
-pub is_found : (told : DockContents) (k : ℕ) (at : Address) (start : LinkStart) → OpeningFinds told k at start → FindsNone told k at → ⊥
-is_found told k at start finds (inl fails) = finds.allowed fails
-is_found told k at start finds (inr none) = let some : IsNone (Some start) = subst (λ o. IsNone o) finds.stands none in cc
+pub is_found : (contents : DockContents) (k : ℕ) (at : Address) (start : LinkStart) → OpeningFinds contents k at start → FindsNone contents k at → ⊥
+is_found contents k at start finds (inl fails) = finds.allowed fails
+is_found contents k at start finds (inr none) = let some : IsNone (Some start) = subst (λ o. IsNone o) finds.stands none in cc
 
 -- ---- members of several links
 
@@ -84,16 +84,16 @@ module _ {X L : Type 0} (link_of : X → L) (known : L → Known Traffic) (P : L
     (many : length before ≡ length addresses) (many' : length after ≡ length addresses) where
   -- they have the links of these addresses, in their order
   abbrev Opened : DockContents → Type 0
-  Opened told = (k : ℕ) (at : Address) (none : X) → k < length addresses → HasLink known told k (slice_index_or addresses k at) (link_of (slice_index_or before k none))
+  Opened contents = (k : ℕ) (at : Address) (none : X) → k < length addresses → HasLink known contents k (slice_index_or addresses k at) (link_of (slice_index_or before k none))
 
   abbrev Made : DockContents → ℕ → Over → Type 0
-  Made told k over =
-      (start : LinkStart) × ((at : Address) → OpeningFinds told k (slice_index_or addresses k at) start)
+  Made contents k over =
+      (start : LinkStart) × ((at : Address) → OpeningFinds contents k (slice_index_or addresses k at) start)
       × ((d : X) → HasGone known (link_of (slice_index_or after k d)) over) × LinkHears P start over
 
-  gone : (told : DockContents) (overs : List Over) → length overs ≡ length addresses → ((k : ℕ) (e : Over) → k < length addresses → Made told k (slice_index_or overs k e))
+  gone : (contents : DockContents) (overs : List Over) → length overs ≡ length addresses → ((k : ℕ) (e : Over) → k < length addresses → Made contents k (slice_index_or overs k e))
       → HaveGone known (as_members link_of after) overs
-  gone told overs size made = record {
+  gone contents overs size made = record {
     as_many = size ∙ sym (members_many link_of after ∙ many');
     each = λ k d e within.
         let last : k < length after = (let m = members_many link_of after in omega (arith, within, m)) in
@@ -103,8 +103,8 @@ module _ {X L : Type 0} (link_of : X → L) (known : L → Known Traffic) (P : L
 
   -- Where the dock tells, each link was opened as a new one, and tells at its end what went over it.
   pub hears_each : (a b c : Known DockContents) → KnownThrough a b (λ x y. y ≡ after_openings addresses x)
-      → Docked a b Opened
-      → ((k : ℕ) (d : X) (start : LinkStart) → k < length addresses → (known (link_of (slice_index_or before k d))).told ≡ Some (first_traffic start)
+      → DockKnownThrough a b Opened
+      → ((k : ℕ) (d : X) (start : LinkStart) → k < length addresses → (known (link_of (slice_index_or before k d))).contents ≡ Some (first_traffic start)
       → WentOver known P (link_of (slice_index_or after k d)) start)
       → KnownThrough b c (λ x y. (overs : List Over) → HaveGone known (as_members link_of after) overs → y ≡ after_closes overs addresses x)
       → KnownThrough a c (HearsEach P addresses)
@@ -130,11 +130,11 @@ module _ {X L : Type 0} (link_of : X → L) (known : L → Known Traffic) (P : L
         overs = made.0;
         as_many = made.1;
         each = λ k at e within. let m = made.2 k e within in (m.0, m.1 at, m.3);
-        told = q made.0 (gone x made.0 made.1 made.2) ∙ ap (after_closes made.0 addresses) p.0;
+        contents = q made.0 (gone x made.0 made.1 made.2) ∙ ap (after_closes made.0 addresses) p.0;
       })
 
 -- what held before the links were closed
-pub docked_then : (P : DockContents → Type 0) (Q : DockContents → DockContents → Type 0) (a b c : Known DockContents) → Docked a b P → KnownThrough b c Q → Docked a c P
+pub docked_then : (P : DockContents → Type 0) (Q : DockContents → DockContents → Type 0) (a b c : Known DockContents) → DockKnownThrough a b P → KnownThrough b c Q → DockKnownThrough a c P
 docked_then P Q a b c first second = Tells-then (λ x _. P x) Q (λ x _. P x) a b c first second (λ x y z p q. p)
 
 -- ---- openings that end early
@@ -158,69 +158,69 @@ Closed link_of known addresses xs before after = (overs : List Over) → HaveGon
 
 -- the first k have the links of the first k addresses
 abbrev pub HaveFirst : {X L : Type 0} → (X → L) → (L → Known Traffic) → List Address → List X → ℕ → DockContents → Type 0
-HaveFirst {X} {L} link_of known addresses xs k told =
-    (n : ℕ) (at : Address) (d : X) → n < k → HasLink known told n (slice_index_or addresses n at) (link_of (slice_index_or xs n d))
+HaveFirst {X} {L} link_of known addresses xs k contents =
+    (n : ℕ) (at : Address) (d : X) → n < k → HasLink known contents n (slice_index_or addresses n at) (link_of (slice_index_or xs n d))
 
 module _ {X L : Type 0} (link_of : X → L) (known : L → Known Traffic) (addresses : List Address) (xs : List X) (k : ℕ) (size : length xs ≡ k) where
-  first_gone : (told : DockContents) → HaveFirst link_of known addresses xs k told → HaveGone known (as_members link_of xs) (replicate k nothing)
-  first_gone told first =
-      nothing_gone known told addresses (as_members link_of xs) k (members_many link_of xs ∙ size)
+  first_gone : (contents : DockContents) → HaveFirst link_of known addresses xs k contents → HaveGone known (as_members link_of xs) (replicate k nothing)
+  first_gone contents first =
+      nothing_gone known contents addresses (as_members link_of xs) k (members_many link_of xs ∙ size)
       (λ n at m less.
       let within : n < length xs = omega (arith, less, size) in
       let d : X = (index_of xs n within).0 in
-      subst (λ (x : Member L). HasLink known told n (slice_index_or addresses n at) x.link) (sym (member_at link_of xs n d m within)) (first n at d less))
+      subst (λ (x : Member L). HasLink known contents n (slice_index_or addresses n at) x.link) (sym (member_at link_of xs n d m within)) (first n at d less))
 
-  both_told : (P : DockContents → DockContents → Type 0) (a b : Known DockContents) → Docked a b (HaveFirst link_of known addresses xs k) → KnownThrough a b P
+  both_known : (P : DockContents → DockContents → Type 0) (a b : Known DockContents) → DockKnownThrough a b (HaveFirst link_of known addresses xs k) → KnownThrough a b P
       → KnownThrough a b (λ x y. HaveFirst link_of known addresses xs k x × P x y)
-  both_told P a b first second = Tells-both (λ x _. HaveFirst link_of known addresses xs k x) P a b first second
+  both_known P a b first second = Tells-both (λ x _. HaveFirst link_of known addresses xs k x) P a b first second
 
   -- memory ran out behind these openings, and their links are closed
-  pub stopped_few : (a b c : Known DockContents) → k ≤ length addresses → Docked a b (HaveFirst link_of known addresses xs k) → KnownThrough a b (AreOpen addresses k) → KnownThrough b c (Closed link_of known addresses xs)
+  pub stopped_few : (a b c : Known DockContents) → k ≤ length addresses → DockKnownThrough a b (HaveFirst link_of known addresses xs k) → KnownThrough a b (AreOpen addresses k) → KnownThrough b c (Closed link_of known addresses xs)
       → KnownThrough a c (StopsBehind addresses)
   stopped_few a b c within first opened closed =
-      Tells-then (λ x y. HaveFirst link_of known addresses xs k x × AreOpen addresses k x y) (Closed link_of known addresses xs) (StopsBehind addresses) a b c (both_told (AreOpen addresses k) a b first opened) closed
+      Tells-then (λ x y. HaveFirst link_of known addresses xs k x × AreOpen addresses k x y) (Closed link_of known addresses xs) (StopsBehind addresses) a b c (both_known (AreOpen addresses k) a b first opened) closed
       (λ x y z p q. record {
         k = k;
         within = within;
-        told = q (replicate k nothing) (first_gone x p.0) ∙ ap (after_closes (replicate k nothing) addresses) p.1;
+        contents = q (replicate k nothing) (first_gone x p.0) ∙ ap (after_closes (replicate k nothing) addresses) p.1;
       })
 
   -- the next one failed
-  pub failed_few : (a b c : Known DockContents) → k < length addresses → Docked a b (HaveFirst link_of known addresses xs k) → KnownThrough a b (Missed addresses k) → KnownThrough b c (Closed link_of known addresses xs)
+  pub failed_few : (a b c : Known DockContents) → k < length addresses → DockKnownThrough a b (HaveFirst link_of known addresses xs k) → KnownThrough a b (Missed addresses k) → KnownThrough b c (Closed link_of known addresses xs)
       → KnownThrough a c (BindsFew addresses)
   failed_few a b c within first missed closed =
-      Tells-then (λ x y. HaveFirst link_of known addresses xs k x × Missed addresses k x y) (Closed link_of known addresses xs) (BindsFew addresses) a b c (both_told (Missed addresses k) a b first missed) closed
+      Tells-then (λ x y. HaveFirst link_of known addresses xs k x × Missed addresses k x y) (Closed link_of known addresses xs) (BindsFew addresses) a b c (both_known (Missed addresses k) a b first missed) closed
       (λ x y z p q. record {
         k = k;
         within = within;
         fails = p.1.0;
-        told = q (replicate k nothing) (first_gone x p.0) ∙ ap (after_closes (replicate k nothing) addresses) p.1.1;
+        contents = q (replicate k nothing) (first_gone x p.0) ∙ ap (after_closes (replicate k nothing) addresses) p.1.1;
       })
 
 -- ---- nothing is sent
 
-pub none_gone_few : (k : ℕ) (addresses : List Address) (told : DockContents) → k ≤ length addresses → (after_closes (replicate k nothing) addresses told).gone ≡ with_none (take k addresses) told.gone
-none_gone_few zero addresses told within = refl
-none_gone_few (suc k) [] told within = absurd (omega (arith, within))
-none_gone_few (suc k) (at ∷ addresses) told within = none_gone_few k addresses (after_close at nothing told) (omega (arith, within))
+pub none_gone_few : (k : ℕ) (addresses : List Address) (contents : DockContents) → k ≤ length addresses → (after_closes (replicate k nothing) addresses contents).gone ≡ with_none (take k addresses) contents.gone
+none_gone_few zero addresses contents within = refl
+none_gone_few (suc k) [] contents within = absurd (omega (arith, within))
+none_gone_few (suc k) (at ∷ addresses) contents within = none_gone_few k addresses (after_close at nothing contents) (omega (arith, within))
 
 pub hears_nothing_gone : (P : List Answer → Type 0) (addresses : List Address) (x y : DockContents) → HearsEach P addresses x y → y.gone ≡ with_none addresses x.gone
 hears_nothing_gone P addresses x y hears =
-    ap (λ (d : DockContents). d.gone) hears.told
+    ap (λ (d : DockContents). d.gone) hears.contents
     ∙ (none_gone hears.overs addresses (after_openings addresses x) hears.as_many
     (λ k none within. ap (λ (o : Over). o.gone) (hears.each k (record { ip = []; port = 0 }) none within).2.over_is)
     ∙ ap (with_none addresses) (openings_gone addresses x))
 
 -- ---- all links at once
 
-pub all_links : {X L : Type 0} (link_of : X → L) (known : L → Known Traffic) (addresses : List Address) (xs : List X) (n : ℕ) (a b : Known DockContents) → Docked a b (λ _. Unit {0})
-    → ((k : ℕ) (d : X) → k < n → (at : Address) → Docked a b (λ told. HasLink known told k (slice_index_or addresses k at) (link_of (slice_index_or xs k d))))
-    → Docked a b (HaveFirst link_of known addresses xs n)
-all_links {X} link_of known addresses xs n a b = linked a.told b.told
+pub all_links : {X L : Type 0} (link_of : X → L) (known : L → Known Traffic) (addresses : List Address) (xs : List X) (n : ℕ) (a b : Known DockContents) → DockKnownThrough a b (λ _. Unit {0})
+    → ((k : ℕ) (d : X) → k < n → (at : Address) → DockKnownThrough a b (λ contents. HasLink known contents k (slice_index_or addresses k at) (link_of (slice_index_or xs k d))))
+    → DockKnownThrough a b (HaveFirst link_of known addresses xs n)
+all_links {X} link_of known addresses xs n a b = linked a.contents b.contents
   where
     linked : (a b : Option DockContents) → Throughout a b (λ _ _. Unit {0})
-        → ((k : ℕ) (d : X) → k < n → (at : Address) → Throughout a b (λ told _. HasLink known told k (slice_index_or addresses k at) (link_of (slice_index_or xs k d))))
-        → Throughout a b (λ told _. HaveFirst link_of known addresses xs n told)
+        → ((k : ℕ) (d : X) → k < n → (at : Address) → Throughout a b (λ contents _. HasLink known contents k (slice_index_or addresses k at) (link_of (slice_index_or xs k d))))
+        → Throughout a b (λ contents _. HaveFirst link_of known addresses xs n contents)
     linked a None any each = tt
     linked None (Some y) any each = any
     linked (Some x) (Some y) any each = λ k at d within. each k d within at

@@ -1,11 +1,11 @@
 -- Closings, one after another.
 use Rattle.std.proofs.Common.{◌≡◌, ℕ, ◌+◌, ◌-◌, ◌<◌, ◌≤◌, List, [], ◌∷◌, length, drop, slice_index_or, Some, refl, sym, ◌∙◌, ap, subst, arith}
 use Rattle.std.proofs.lemmas.List.{drop_more, drop_all, length-drop}
-use Rattle.drm_links.specs.Told.{Known, IfBothKnown, CountsCall, KnownThrough}
+use Rattle.drm_links.specs.Known.{Known, IfBothKnown, CountsCall, KnownThrough}
 use Rattle.drm_links.specs.Link.{Traffic}
 use Rattle.drm_links.specs.Dock.{DockContents, Over, DockCloses, over_of, after_close}
 use Rattle.drm_links.specs.declared.dock.Address.{Address}
-use Rattle.drm_links.proofs.ToldLemmas.{Tells-nothing, Tells-weaker}
+use Rattle.drm_links.proofs.KnownLemmas.{Tells-nothing, Tells-weaker}
 use Rattle.link_group.specs.Reaching.{HaveGone, after_closes, nothing}
 use Rattle.link_group.specs.declared.member.Member.{Member}
 use Rattle.link_group.proofs.OpeningLemmas.{docks_more}
@@ -32,13 +32,13 @@ module _ {L : Type 0} (known : L → Known Traffic) (members : List (Member L)) 
   closing_first a = Tells-nothing (Closing known members addresses 0) a (λ x overs gone. refl)
 
   close_one : (k : ℕ) (at : Address) (link : L) → k < length members → k < length addresses → at ≡ slice_index_or addresses k at → ((d : Member L) → (slice_index_or members k d).link ≡ link)
-      → Member L → (x y z : DockContents) → Closing known members addresses k x y → DockCloses (known link).told at y z → Closing known members addresses (k + 1) x z
+      → Member L → (x y z : DockContents) → Closing known members addresses k x y → DockCloses (known link).contents at y z → Closing known members addresses (k + 1) x z
   close_one k at link there within is links any x y z before now overs gone =
       let over : Over = slice_index_or overs k nothing in
       let many = gone.as_many in
       let has = gone.each k any nothing there in
-      let told : (known link).told ≡ Some has.0 = ap (λ l. (known l).told) (sym (links any)) ∙ has.1 in
-      let closed : z ≡ after_close at (over_of has.0) y = subst (λ t. DockCloses t at y z) told now in
+      let contents : (known link).contents ≡ Some has.0 = ap (λ l. (known l).contents) (sym (links any)) ∙ has.1 in
+      let closed : z ≡ after_close at (over_of has.0) y = subst (λ t. DockCloses t at y z) contents now in
       let so : z ≡ after_close at over y = closed ∙ ap (λ o. after_close at o y) has.2 in
       let all_overs : drop k overs ≡ over ∷ drop (k + 1) overs = drop_more overs k nothing (omega (arith, many, there)) in
       let all_addresses : drop k addresses ≡ at ∷ drop (k + 1) addresses = drop_more addresses k at within ∙ ap (λ e. e ∷ drop (k + 1) addresses) (sym is) in
@@ -46,10 +46,10 @@ module _ {L : Type 0} (known : L → Known Traffic) (members : List (Member L)) 
       ∙ (sym (λ i. after_closes (all_overs i) (all_addresses i) y) ∙ before overs gone)
 
   pub close_more : (k : ℕ) (at : Address) (link : L) → k < length members → k < length addresses → at ≡ slice_index_or addresses k at → ((d : Member L) → (slice_index_or members k d).link ≡ link)
-      → Member L → (a b c : Known DockContents) → KnownThrough a b (Closing known members addresses k) → IfBothKnown b c (DockCloses (known link).told at) → CountsCall (λ (d : DockContents). d.calls) b c
+      → Member L → (a b c : Known DockContents) → KnownThrough a b (Closing known members addresses k) → IfBothKnown b c (DockCloses (known link).contents at) → CountsCall (λ (d : DockContents). d.calls) b c
       → KnownThrough a c (Closing known members addresses (k + 1))
   close_more k at link there within is links any a b c before now counts =
-      docks_more (Closing known members addresses k) (DockCloses (known link).told at) (Closing known members addresses (k + 1)) a b c before now counts
+      docks_more (Closing known members addresses k) (DockCloses (known link).contents at) (Closing known members addresses (k + 1)) a b c before now counts
       (λ x y z p q. close_one k at link there within is links any x y z p q)
 
   pub closed_all : (k : ℕ) (a b : Known DockContents) → length members ≤ k → KnownThrough a b (Closing known members addresses k)

@@ -9,12 +9,12 @@ use Rattle.std.specs.Cmp.Lexicographic.{slice_cmp, nat_list_cmp_total}
 use Rattle.std.proofs.lemmas.Map.Views.{tells_apart}
 use Rattle.std.proofs.lemmas.Grind.{take_at_read}
 use Rattle.std.proofs.lemmas.List.{take_all, get_or_default, same_from_push}
-use Rattle.drm_links.specs.Told.{Known, IfBothKnown, CountsCall, IfBoth, CountsTold, Throughout, KnownThrough}
+use Rattle.drm_links.specs.Known.{Known, IfBothKnown, CountsCall, IfBoth, CountsOneCall, Throughout, KnownThrough}
 use Rattle.drm_links.specs.Link.{Traffic}
-use Rattle.drm_links.specs.Dock.{DockContents, DockOpens, after_opening, after_failure, address_key, AreDifferent, Docked, FindsNone, after_openings, FailsAfter, HasLink}
+use Rattle.drm_links.specs.Dock.{DockContents, DockOpens, after_opening, after_failure, address_key, AreDifferent, DockKnownThrough, FindsNone, after_openings, FailsAfter, HasLink}
 use Rattle.drm_links.specs.declared.dock.Address.{Address}
 use Rattle.drm_links.specs.declared.dock.Opened.TheVariants as opened
-use Rattle.drm_links.proofs.ToldLemmas.{Opens-started, Tells-then, Tells-weaker, Tells-one}
+use Rattle.drm_links.proofs.KnownLemmas.{Opens-started, Tells-then, Tells-weaker, Tells-one}
 
 -- ---- addresses that are different
 
@@ -43,19 +43,19 @@ pub docks_more : (P S Q : DockContents → DockContents → Type 0) (a b c : Kno
 docks_more P S Q a b c first second counts both =
     Tells-then P S Q a b c first (Tells-one (λ (d : DockContents). d.calls) S b c counts second) both
 
-while_told : (P Q : DockContents → DockContents → Type 0) (a b : Option DockContents) → Throughout a b P → ((x y : DockContents) → P x y → Q x y) → IfBoth a b Q
-while_told P Q None b first weaker = tt
-while_told P Q (Some x) None first weaker = tt
-while_told P Q (Some x) (Some y) first weaker = weaker x y first
+throughout_weaker : (P Q : DockContents → DockContents → Type 0) (a b : Option DockContents) → Throughout a b P → ((x y : DockContents) → P x y → Q x y) → IfBoth a b Q
+throughout_weaker P Q None b first weaker = tt
+throughout_weaker P Q (Some x) None first weaker = tt
+throughout_weaker P Q (Some x) (Some y) first weaker = weaker x y first
 
 pub docks_while : (P Q : DockContents → DockContents → Type 0) (a b : Known DockContents) → KnownThrough a b P → ((x y : DockContents) → P x y → Q x y) → IfBothKnown a b Q
-docks_while P Q a b = while_told P Q a.told b.told
+docks_while P Q a b = throughout_weaker P Q a.contents b.contents
 
-pub docked_weaker : (P Q : DockContents → Type 0) (a b : Known DockContents) → Docked a b P → ((x : DockContents) → P x → Q x) → Docked a b Q
+pub docked_weaker : (P Q : DockContents → Type 0) (a b : Known DockContents) → DockKnownThrough a b P → ((x : DockContents) → P x → Q x) → DockKnownThrough a b Q
 docked_weaker P Q a b first weaker = Tells-weaker (λ x _. P x) (λ x _. Q x) a b first (λ x y. weaker x)
 
-pub docked_both : (P Q : DockContents → Type 0) (a b : Known DockContents) → Docked a b P → Docked a b Q → Docked a b (λ told. P told × Q told)
-docked_both P Q a b = both_docked a.told b.told
+pub docked_both : (P Q : DockContents → Type 0) (a b : Known DockContents) → DockKnownThrough a b P → DockKnownThrough a b Q → DockKnownThrough a b (λ contents. P contents × Q contents)
+docked_both P Q a b = both_docked a.contents b.contents
   where
     both_docked : (a b : Option DockContents) → Throughout a b (λ x _. P x) → Throughout a b (λ x _. Q x) → Throughout a b (λ x _. P x × Q x)
     both_docked a None p q = tt
@@ -63,10 +63,10 @@ docked_both P Q a b = both_docked a.told b.told
     both_docked (Some before) (Some after) p q = (p, q)
 
 -- what held, after one more call
-pub docked_still : (P : DockContents → Type 0) (a b c : Known DockContents) → Docked a b P → CountsCall (λ (d : DockContents). d.calls) b c → Docked a c P
-docked_still P a b c = still a.told b.told c.told
+pub docked_still : (P : DockContents → Type 0) (a b c : Known DockContents) → DockKnownThrough a b P → CountsCall (λ (d : DockContents). d.calls) b c → DockKnownThrough a c P
+docked_still P a b c = still a.contents b.contents c.contents
   where
-    still : (a b c : Option DockContents) → Throughout a b (λ x _. P x) → CountsTold (λ (d : DockContents). d.calls) b c → Throughout a c (λ x _. P x)
+    still : (a b c : Option DockContents) → Throughout a b (λ x _. P x) → CountsOneCall (λ (d : DockContents). d.calls) b c → Throughout a c (λ x _. P x)
     still a b None first counts = tt
     still a None (Some z) first counts = cc
     still None (Some y) (Some z) first counts = absurd first
@@ -75,18 +75,18 @@ docked_still P a b c = still a.told b.told c.told
 -- ---- the dock after the openings at the first k addresses
 
 -- one more opening
-openings_more : (addresses : List Address) (at : Address) (told : DockContents) → after_openings (addresses ++ at ∷ []) told ≡ after_opening at (after_openings addresses told)
-openings_more [] at told = refl
-openings_more (a ∷ addresses) at told = openings_more addresses at (after_opening a told)
+openings_more : (addresses : List Address) (at : Address) (contents : DockContents) → after_openings (addresses ++ at ∷ []) contents ≡ after_opening at (after_openings addresses contents)
+openings_more [] at contents = refl
+openings_more (a ∷ addresses) at contents = openings_more addresses at (after_opening a contents)
 
 take_next : (addresses : List Address) (k : ℕ) (d : Address) → k < length addresses → take (k + 1) addresses ≡ take k addresses ++ slice_index_or addresses k d ∷ []
 take_next addresses k d within = (take_at_read addresses k d within).1
 
-openings_next : (addresses : List Address) (k : ℕ) (at : Address) (told : DockContents) → k < length addresses → at ≡ slice_index_or addresses k at
-    → after_openings (take (k + 1) addresses) told ≡ after_opening at (after_openings (take k addresses) told)
-openings_next addresses k at told within is =
-    ap (λ l. after_openings l told) (take_next addresses k at within ∙ ap (λ a. take k addresses ++ a ∷ []) (sym is))
-    ∙ openings_more (take k addresses) at told
+openings_next : (addresses : List Address) (k : ℕ) (at : Address) (contents : DockContents) → k < length addresses → at ≡ slice_index_or addresses k at
+    → after_openings (take (k + 1) addresses) contents ≡ after_opening at (after_openings (take k addresses) contents)
+openings_next addresses k at contents within is =
+    ap (λ l. after_openings l contents) (take_next addresses k at within ∙ ap (λ a. take k addresses ++ a ∷ []) (sym is))
+    ∙ openings_more (take k addresses) at contents
 
 record AreOpened (addresses : List Address) (k : ℕ) (before after : DockContents) : Type 0 where
   pub openings : after.openings ≡ before.openings + k
@@ -94,8 +94,8 @@ record AreOpened (addresses : List Address) (k : ℕ) (before after : DockConten
   pub links : (q : List ℕ) → ((i : ℕ) (at : Address) → i < k → address_key (slice_index_or addresses i at) ≡ q → ⊥)
       → map.get after.links q ≡ map.get before.links q
 
-opened_none : (addresses : List Address) (told : DockContents) → AreOpened addresses 0 told told
-opened_none addresses told = record { openings = omega arith; failing = refl; links = λ q none. refl }
+opened_none : (addresses : List Address) (contents : DockContents) → AreOpened addresses 0 contents contents
+opened_none addresses contents = record { openings = omega arith; failing = refl; links = λ q none. refl }
 
 other_key_by : (q key : List ℕ) (b : Bool) → eq_by_cmp (slice_cmp nat_cmp) q key ≡ b → (q ≡ key → ⊥) → eq_by_cmp (slice_cmp nat_cmp) q key ≡ false
 other_key_by q key true is other = absurd (other (tells_apart (map.slice_cmp-IsAntisymmetric map.nat_cmp-IsAntisymmetric) q key is))
@@ -117,17 +117,17 @@ opened_more addresses k at within is x y before = record {
 }
 
 -- what the dock tells after the first k openings
-are_opened : (addresses : List Address) (k : ℕ) (told : DockContents) → k ≤ length addresses → AreOpened addresses k told (after_openings (take k addresses) told)
-are_opened addresses zero told within = opened_none addresses told
-are_opened addresses (suc k) told within =
+are_opened : (addresses : List Address) (k : ℕ) (contents : DockContents) → k ≤ length addresses → AreOpened addresses k contents (after_openings (take k addresses) contents)
+are_opened addresses zero contents within = opened_none addresses contents
+are_opened addresses (suc k) contents within =
     let d : Address = record { ip = []; port = 0 } in
     let at : Address = slice_index_or addresses k d in
     let less : k < length addresses = omega (arith, within) in
     let is : at ≡ slice_index_or addresses k at = get_or_default addresses k d at less in
-    let next : after_openings (take (k + 1) addresses) told ≡ after_opening at (after_openings (take k addresses) told) = openings_next addresses k at told less is in
-    let more = opened_more addresses k at less is told (after_openings (take k addresses) told) (are_opened addresses k told (omega (arith, within))) in
-    subst (λ n. AreOpened addresses n told (after_openings (take n addresses) told)) (omega arith)
-    (subst (λ (y : DockContents). AreOpened addresses (k + 1) told y) (sym next) more)
+    let next : after_openings (take (k + 1) addresses) contents ≡ after_opening at (after_openings (take k addresses) contents) = openings_next addresses k at contents less is in
+    let more = opened_more addresses k at less is contents (after_openings (take k addresses) contents) (are_opened addresses k contents (omega (arith, within))) in
+    subst (λ n. AreOpened addresses n contents (after_openings (take n addresses) contents)) (omega arith)
+    (subst (λ (y : DockContents). AreOpened addresses (k + 1) contents y) (sym next) more)
 
 -- the dock tells what it does after the first k openings
 abbrev pub Opened : List Address → ℕ → DockContents → DockContents → Type 0
@@ -178,11 +178,11 @@ module _ (addresses : List Address) (k : ℕ) (at : Address) (within : k < lengt
       → Opened addresses k x y → DockOpens known at opened.Failed y z → FailsAfter addresses x z
   not_found known x y z different before now =
       let none = not_found_at known x y z different before now in
-      record { k = k; within = within; fails = none.0; told = none.1 }
+      record { k = k; within = within; fails = none.0; contents = none.1 }
 
   pub found_now : {L : Type 0} (known : L → Known Traffic) (link : L) (a b c : Known DockContents) → AreDifferent addresses
       → KnownThrough a b (Opened addresses k) → IfBothKnown b c (DockOpens known at (opened.Link link)) → CountsCall (λ (d : DockContents). d.calls) b c
-      → (d : Address) → Docked a c (λ told. HasLink known told k (slice_index_or addresses k d) link)
+      → (d : Address) → DockKnownThrough a c (λ contents. HasLink known contents k (slice_index_or addresses k d) link)
   found_now known link a b c different before now counts d =
       docks_more (Opened addresses k) (DockOpens known at (opened.Link link)) (λ x _. HasLink known x k (slice_index_or addresses k d) link) a b c before now counts
       (λ x y z p q. found known link x y z different p q d)
@@ -200,10 +200,10 @@ opened_all addresses k a b last opened =
     Tells-weaker (Opened addresses k) (λ before after. after ≡ after_openings addresses before) a b opened
     (λ x y is. is ∙ ap (λ l. after_openings l x) (take_all k addresses last))
 
-pub docked_any : (P : DockContents → DockContents → Type 0) (a b : Known DockContents) → KnownThrough a b P → Docked a b (λ _. Unit {0})
-docked_any P a b told = Tells-weaker P (λ _ _. Unit {0}) a b told (λ x y any. tt)
+pub docked_any : (P : DockContents → DockContents → Type 0) (a b : Known DockContents) → KnownThrough a b P → DockKnownThrough a b (λ _. Unit {0})
+docked_any P a b contents = Tells-weaker P (λ _ _. Unit {0}) a b contents (λ x y any. tt)
 
 -- nothing has gone over any link
-pub openings_gone : (addresses : List Address) (told : DockContents) → (after_openings addresses told).gone ≡ told.gone
-openings_gone [] told = refl
-openings_gone (at ∷ addresses) told = openings_gone addresses (after_opening at told)
+pub openings_gone : (addresses : List Address) (contents : DockContents) → (after_openings addresses contents).gone ≡ contents.gone
+openings_gone [] contents = refl
+openings_gone (at ∷ addresses) contents = openings_gone addresses (after_opening at contents)

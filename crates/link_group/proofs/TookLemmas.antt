@@ -1,11 +1,11 @@
 -- More datagrams, over one of several links.
 use Rattle.std.proofs.Common.{◌≡◌, ◌≤◌, ℕ, List, [], ◌++◌, length, refl, sym, ◌∙◌, ap, arith, append_assoc, length-append}
-use Rattle.drm_links.specs.Told.{Known, HasFailed}
+use Rattle.drm_links.specs.Known.{Known, HasFailed}
 use Rattle.drm_links.specs.Transmission.{LinkTransmits, SendsAll, SendsNoMore}
-use Rattle.drm_links.proofs.ToldLemmas.{once_then}
+use Rattle.drm_links.proofs.KnownLemmas.{once_then}
 use Rattle.drm_links.specs.Link.{Traffic}
 use Rattle.drm_links.proofs.TransmissionLemmas.{Transmits-nothing, Transmits-then, SendsAll-then, SendsAll-no_more}
-use Rattle.link_group.specs.Took.{TookAll, TookSome}
+use Rattle.link_group.specs.MemberTook.{TookAll, TookSome}
 
 -- none yet
 pub took_none : (start : Known Traffic) → TookAll [] start start

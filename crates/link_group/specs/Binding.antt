@@ -24,7 +24,7 @@ pub record HearsEach (P : List Answer → Type 0) (addresses : List Address) (be
   pub as_many : length overs ≡ length addresses
   pub each : (k : ℕ) (at : Address) (none : Over) → k < length addresses
       → (start : LinkStart) × OpeningFinds before k (slice_index_or addresses k at) start × LinkHears P start (slice_index_or overs k none)
-  pub told : after ≡ after_closes overs addresses (after_openings addresses before)
+  pub contents : after ≡ after_closes overs addresses (after_openings addresses before)
 
 -- The openings at the first k addresses were made, and the next one failed. The links that were opened are closed: nothing went over
 -- them.
@@ -32,10 +32,10 @@ pub record BindsFew (addresses : List Address) (before after : DockContents) : T
   pub k : ℕ
   pub within : k < length addresses
   pub fails : (at : Address) → FindsNone before k (slice_index_or addresses k at)
-  pub told : after ≡ after_closes (replicate k nothing) addresses (after_failure (after_openings (take k addresses) before))
+  pub contents : after ≡ after_closes (replicate k nothing) addresses (after_failure (after_openings (take k addresses) before))
 
 -- The openings at the first k addresses were made, and no more. These links are closed: nothing went over them.
 pub record StopsBehind (addresses : List Address) (before after : DockContents) : Type 0 where
   pub k : ℕ
   pub within : k ≤ length addresses
-  pub told : after ≡ after_closes (replicate k nothing) addresses (after_openings (take k addresses) before)
+  pub contents : after ≡ after_closes (replicate k nothing) addresses (after_openings (take k addresses) before)

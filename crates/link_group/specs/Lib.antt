@@ -1,4 +1,4 @@
 pub mod Reaching
-pub mod Took
+pub mod MemberTook
 pub mod Binding
 pub mod Listed

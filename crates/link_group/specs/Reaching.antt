@@ -3,7 +3,7 @@ use Rattle.std.specs.Prelude.{ℕ, ◌≡◌, ◌+◌, ◌<◌, true, false, Lis
 use Rattle.std.specs.FinMap as map
 use Rattle.std.specs.Ordering.{nat_cmp}
 use Rattle.std.specs.Cmp.Lexicographic.{slice_cmp}
-use Rattle.drm_links.specs.Told.{Known}
+use Rattle.drm_links.specs.Known.{Known}
 use Rattle.drm_links.specs.Link.{Traffic}
 use Rattle.drm_links.specs.Dock.{DockContents, LinkStart, Over, over_of, address_key, after_failure, after_close, OpeningFinds, FindsNone, HasLink, after_openings}
 use Rattle.drm_links.specs.declared.dock.Address.{Address}
@@ -13,17 +13,17 @@ use Rattle.link_group.specs.declared.member.Member.{Member}
 
 -- what a dock tells once so many more openings by `reach` are counted
 abbrev pub with_reaches : ℕ → DockContents → DockContents
-with_reaches n told = record told { reaches = told.reaches + n }
+with_reaches n contents = record contents { reaches = contents.reaches + n }
 
 -- and after links were opened at these addresses, one after another, to send over them
 abbrev pub after_reaches : List Address → DockContents → DockContents
-after_reaches addresses told = after_openings addresses (with_reaches (length addresses) told)
+after_reaches addresses contents = after_openings addresses (with_reaches (length addresses) contents)
 
 -- the members have the links of these addresses, in their order
 abbrev pub HaveLinks : {L : Type 0} → (L → Known Traffic) → DockContents → List Address → List (Member L) → Type 0
-HaveLinks {L} known told addresses members =
+HaveLinks {L} known contents addresses members =
     (k : ℕ) (at : Address) (none : Member L) → k < length addresses
-    → HasLink known told k (slice_index_or addresses k at) (slice_index_or members k none).link
+    → HasLink known contents k (slice_index_or addresses k at) (slice_index_or members k none).link
 
 -- no link has failed
 abbrev pub AreUp : {L : Type 0} → List (Member L) → Type 0
@@ -41,13 +41,13 @@ nothing = record { answers = []; gone = []; rests = 0 ∷ [] }
 
 -- what a dock tells after links were closed at these addresses over which this went
 abbrev pub after_closes : List Over → List Address → DockContents → DockContents
-after_closes [] addresses told = told
-after_closes (over ∷ overs) [] told = told
-after_closes (over ∷ overs) (at ∷ addresses) told = after_closes overs addresses (after_close at over told)
+after_closes [] addresses contents = contents
+after_closes (over ∷ overs) [] contents = contents
+after_closes (over ∷ overs) (at ∷ addresses) contents = after_closes overs addresses (after_close at over contents)
 
 -- this went over a link that tells it
 abbrev pub HasGone : {L : Type 0} → (L → Known Traffic) → L → Over → Type 0
-HasGone known link over = (traffic : Traffic) × ((known link).told ≡ Some traffic) × (over_of traffic ≡ over)
+HasGone known link over = (traffic : Traffic) × ((known link).contents ≡ Some traffic) × (over_of traffic ≡ over)
 
 -- and over each of several
 pub record HaveGone {L : Type 0} (known : L → Known Traffic) (members : List (Member L)) (overs : List Over) : Type 0 where
@@ -57,10 +57,10 @@ pub record HaveGone {L : Type 0} (known : L → Known Traffic) (members : List (
 -- ---- an opening that fails
 
 -- opening a link at some of these addresses, one after another, is to fail
-pub record ReachesNone (told : DockContents) (addresses : List Address) : Type 0 where
+pub record ReachesNone (contents : DockContents) (addresses : List Address) : Type 0 where
   pub k : ℕ
   pub within : k < length addresses
-  pub fails : (at : Address) → FindsNone told k (slice_index_or addresses k at)
+  pub fails : (at : Address) → FindsNone contents k (slice_index_or addresses k at)
 
 -- The openings at the first k addresses were made, to send, and the next one failed. The links that were opened are closed: nothing
 -- has gone over them.
@@ -68,22 +68,22 @@ pub record ReachesFew (addresses : List Address) (before after : DockContents) :
   pub k : ℕ
   pub within : k < length addresses
   pub fails : (at : Address) → FindsNone before k (slice_index_or addresses k at)
-  pub told : after ≡ after_closes (replicate k nothing) addresses (after_failure (after_openings (take k addresses) (with_reaches (k + 1) before)))
+  pub contents : after ≡ after_closes (replicate k nothing) addresses (after_failure (after_openings (take k addresses) (with_reaches (k + 1) before)))
 
 -- ---- a run over several links
 
 -- What goes over the link at each address is what Goes says of its place, of how it starts, and of this. Nothing is received on any.
-pub record EachGoes (Goes : ℕ → LinkStart → Over → Type 0) (told : DockContents) (addresses : List Address) (overs : List Over) : Type 0 where
+pub record EachGoes (Goes : ℕ → LinkStart → Over → Type 0) (contents : DockContents) (addresses : List Address) (overs : List Over) : Type 0 where
   pub as_many : length overs ≡ length addresses
   pub each : (k : ℕ) (at : Address) (none : Over) → k < length addresses
-      → (start : LinkStart) × OpeningFinds told k (slice_index_or addresses k at) start × Goes k start (slice_index_or overs k none)
+      → (start : LinkStart) × OpeningFinds contents k (slice_index_or addresses k at) start × Goes k start (slice_index_or overs k none)
   pub received : (k : ℕ) (none : Over) → k < length addresses → (slice_index_or overs k none).answers ≡ []
 
 -- A link was opened at each address, this went over them, and they were closed.
 pub record GoesOver (Goes : ℕ → LinkStart → Over → Type 0) (addresses : List Address) (before after : DockContents) : Type 0 where
   pub overs : List Over
   pub goes : EachGoes Goes before addresses overs
-  pub told : after ≡ after_closes overs addresses (after_reaches addresses before)
+  pub contents : after ≡ after_closes overs addresses (after_reaches addresses before)
 
 -- ---- nothing is sent
 

@@ -1,7 +1,7 @@
 //! Links that are closed.
 
 ghost use Rattle.std.specs.Prelude.{◌≡◌, ◌≤◌, List, length, vec_len};
-ghost use Rattle.drm_links.specs.Told.{KnownThrough};
+ghost use Rattle.drm_links.specs.Known.{KnownThrough};
 ghost use Rattle.drm_links.specs.Dock.{Over};
 ghost use Rattle.link_group.specs.Reaching.{HaveGone, after_closes};
 

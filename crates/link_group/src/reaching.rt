@@ -1,8 +1,8 @@
 //! Links that are opened to send over them.
 
 ghost use Rattle.std.specs.Prelude.{◌≡◌, ◌≤◌, Err, IsErr, length, vec_len, vec_capacity, IfOk, IfErr};
-ghost use Rattle.drm_links.specs.Told.{HasCause, KnownThrough};
-ghost use Rattle.drm_links.specs.Dock.{AreDifferent, Docked};
+ghost use Rattle.drm_links.specs.Known.{HasCause, KnownThrough};
+ghost use Rattle.drm_links.specs.Dock.{AreDifferent, DockKnownThrough};
 ghost use Rattle.link_group.specs.Reaching.{HaveLinks, AreUp, ReachesFew, after_reaches};
 
 use crate::{Member, close_each};
@@ -51,8 +51,8 @@ pub fn reach_in<D: Dock>(
     ensures up { IfOk result (λ members. AreUp members.items) }
     ensures opened { IfOk result (λ _. KnownThrough (D.known dock.old) (D.known dock.new)
         (λ before after. after ≡ after_reaches addresses.now before)) }
-    ensures links { IfOk result (λ members. Docked (D.known dock.old) (D.known dock.new) (λ told.
-        HaveLinks D.L.known told addresses.now members.items)) }
+    ensures links { IfOk result (λ members. DockKnownThrough (D.known dock.old) (D.known dock.new) (λ contents.
+        HaveLinks D.L.known contents addresses.now members.items)) }
     ensures failed { IfErr result (λ _. KnownThrough (D.known dock.old) (D.known dock.new)
         (λ before after. ReachesFew addresses.now before after)) }
     ensures cause { HasCause (D.known dock.old) (D.known dock.new) (IsErr result) }
@@ -85,8 +85,8 @@ pub fn reach_each<D: Dock>(
     ensures up { IfOk result (λ members. AreUp members.items) }
     ensures opened { IfOk result (λ _. KnownThrough (D.known dock.old) (D.known dock.new)
         (λ before after. after ≡ after_reaches addresses.now before)) }
-    ensures links { IfOk result (λ members. Docked (D.known dock.old) (D.known dock.new) (λ told.
-        HaveLinks D.L.known told addresses.now members.items)) }
+    ensures links { IfOk result (λ members. DockKnownThrough (D.known dock.old) (D.known dock.new) (λ contents.
+        HaveLinks D.L.known contents addresses.now members.items)) }
     ensures failed { result ≡ Err ReachFault.Link → KnownThrough (D.known dock.old) (D.known dock.new)
         (λ before after. ReachesFew addresses.now before after) }
     ensures cause { HasCause (D.known dock.old) (D.known dock.new) (result ≡ Err ReachFault.Link) }

@@ -8,7 +8,7 @@ use Rattle.drm_timeline.specs.Numbers.{frame_count}
 use Rattle.live_streams.specs.Live.{live_schedule, piece_at}
 use Rattle.live_streams.specs.Input.{bytes_before, pieces_of}
 use Rattle.live_streams.proofs.InputLemmas.{offset_next, pieces_are_whole, piece_here, none_here}
-use Rattle.drm_server.specs.Serving.{Serving, HasFrame, only_at}
+use Rattle.drm_server.specs.ServerState.{ServerState, HasFrame, only_at}
 use Rattle.drm_server.proofs.SameFrame.{live_has, plain_has, empty_has}
 use Rattle.live_server.specs.Feeding.{fed, AreTaken}
 use Rattle.live_server.specs.Loading.{LoadsBehind}
@@ -20,11 +20,11 @@ asks_for live plan standing t len room enough most is same = (length-take-le len
 
 module _ (live : Live) (plan : Plan) (first t : ℕ) (valid : IsSchedule plan) (within : t < frame_count plan) (behind : first ≤ t) where
   -- the frame of the schedule itself
-  abbrev own : Serving
+  abbrev own : ServerState
   own = record { base = plan; plan = plan; frame = t }
 
   -- and with this piece
-  abbrev with_piece : List ℕ → Serving
+  abbrev with_piece : List ℕ → ServerState
   with_piece piece = record { base = plan; plan = live_schedule live (only_at t piece) plan; frame = t }
 
   own_shows : (bytes : List ℕ) → pieces_of live plan first bytes t ≡ None → HasFrame own (fed live plan first bytes)
@@ -46,13 +46,13 @@ module _ (live : Live) (plan : Plan) (first t : ℕ) (valid : IsSchedule plan) (
       subst (λ l. pieces_of live plan first l t ≡ None) (sym same) (none_here live plan first t bytes behind short)
 
   -- input has ended before
-  pub loads_ended : (server server' : Serving) (bytes : List ℕ) → server.base ≡ plan → server' ≡ own → AreTaken true live server.base first t bytes → LoadsBehind live first t true true server server' bytes []
+  pub loads_ended : (server server' : ServerState) (bytes : List ℕ) → server.base ≡ plan → server' ≡ own → AreTaken true live server.base first t bytes → LoadsBehind live first t true true server server' bytes []
   loads_ended server server' bytes base is taken =
       let here : length bytes < bytes_before live plan first t = subst (λ p. length bytes < bytes_before live p first t) base taken in
       let same : bytes ++ [] ≡ bytes = append-nil bytes in
       let short : length (bytes ++ []) < bytes_before live plan first (t + 1) = subst (λ l. length l < bytes_before live plan first (t + 1)) (sym same) (short_too bytes here) in
       record {
-        frame = ap (λ (s : Serving). s.frame) is;
+        frame = ap (λ (s : ServerState). s.frame) is;
         taken = subst (λ p. length (bytes ++ []) < bytes_before live p first (t + 1)) (sym base) short;
         shows = λ more none.
             subst (λ p. HasFrame server' (fed live p first ((bytes ++ []) ++ more))) (sym base)
@@ -61,7 +61,7 @@ module _ (live : Live) (plan : Plan) (first t : ℕ) (valid : IsSchedule plan) (
       }
 
   -- the frame asks for nothing
-  pub loads_nothing : (server server' : Serving) (bytes : List ℕ) → server.base ≡ plan → server' ≡ own → piece_at live plan t ≡ 0 → AreTaken false live server.base first t bytes
+  pub loads_nothing : (server server' : ServerState) (bytes : List ℕ) → server.base ≡ plan → server' ≡ own → piece_at live plan t ≡ 0 → AreTaken false live server.base first t bytes
       → LoadsBehind live first t false false server server' bytes []
   loads_nothing server server' bytes base is nothing taken =
       let here : length bytes ≡ bytes_before live plan first t = subst (λ p. length bytes ≡ bytes_before live p first t) base taken in
@@ -69,7 +69,7 @@ module _ (live : Live) (plan : Plan) (first t : ℕ) (valid : IsSchedule plan) (
       let long : length (bytes ++ []) ≡ length bytes = ap (λ (l : List ℕ). length l) (append-nil bytes) in
       let all : length (bytes ++ []) ≡ bytes_before live plan first (t + 1) = omega (arith, here, next, nothing, long) in
       record {
-        frame = ap (λ (s : Serving). s.frame) is;
+        frame = ap (λ (s : ServerState). s.frame) is;
         taken = subst (λ p. length (bytes ++ []) ≡ bytes_before live p first (t + 1)) (sym base) all;
         shows = λ more none.
             subst (λ p. HasFrame server' (fed live p first ((bytes ++ []) ++ more))) (sym base)
@@ -77,7 +77,7 @@ module _ (live : Live) (plan : Plan) (first t : ℕ) (valid : IsSchedule plan) (
       }
 
   -- its piece is cut
-  pub loads_cut : (server server' : Serving) (bytes got : List ℕ) → server.base ≡ plan → server' ≡ own → length got < piece_at live plan t → AreTaken false live server.base first t bytes
+  pub loads_cut : (server server' : ServerState) (bytes got : List ℕ) → server.base ≡ plan → server' ≡ own → length got < piece_at live plan t → AreTaken false live server.base first t bytes
       → LoadsBehind live first t false true server server' bytes got
   loads_cut server server' bytes got base is cut taken =
       let here : length bytes ≡ bytes_before live plan first t = subst (λ p. length bytes ≡ bytes_before live p first t) base taken in
@@ -85,7 +85,7 @@ module _ (live : Live) (plan : Plan) (first t : ℕ) (valid : IsSchedule plan) (
       let long : length (bytes ++ got) ≡ length bytes + length got = length-append bytes got in
       let short : length (bytes ++ got) < bytes_before live plan first (t + 1) = omega (arith, here, next, cut, long) in
       record {
-        frame = ap (λ (s : Serving). s.frame) is;
+        frame = ap (λ (s : ServerState). s.frame) is;
         taken = subst (λ p. length (bytes ++ got) < bytes_before live p first (t + 1)) (sym base) short;
         shows = λ more none.
             subst (λ p. HasFrame server' (fed live p first ((bytes ++ got) ++ more))) (sym base)
@@ -94,7 +94,7 @@ module _ (live : Live) (plan : Plan) (first t : ℕ) (valid : IsSchedule plan) (
       }
 
   -- it came whole
-  pub loads_whole : (server server' : Serving) (bytes piece : List ℕ) → server.base ≡ plan → server' ≡ with_piece piece → length piece ≡ piece_at live plan t → AreTaken false live server.base first t bytes
+  pub loads_whole : (server server' : ServerState) (bytes piece : List ℕ) → server.base ≡ plan → server' ≡ with_piece piece → length piece ≡ piece_at live plan t → AreTaken false live server.base first t bytes
       → LoadsBehind live first t false false server server' bytes piece
   loads_whole server server' bytes piece base is size taken =
       let here : length bytes ≡ bytes_before live plan first t = subst (λ p. length bytes ≡ bytes_before live p first t) base taken in
@@ -102,7 +102,7 @@ module _ (live : Live) (plan : Plan) (first t : ℕ) (valid : IsSchedule plan) (
       let long : length (bytes ++ piece) ≡ length bytes + length piece = length-append bytes piece in
       let all : length (bytes ++ piece) ≡ bytes_before live plan first (t + 1) = omega (arith, here, next, size, long) in
       record {
-        frame = ap (λ (s : Serving). s.frame) is;
+        frame = ap (λ (s : ServerState). s.frame) is;
         taken = subst (λ p. length (bytes ++ piece) ≡ bytes_before live p first (t + 1)) (sym base) all;
         shows = λ more none.
             subst (λ p. HasFrame server' (fed live p first ((bytes ++ piece) ++ more))) (sym base)

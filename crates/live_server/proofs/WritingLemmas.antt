@@ -2,14 +2,14 @@
 use Rattle.std.proofs.Common.{◌≡◌, ◌<◌, ◌+◌, ◌-◌, ℕ, [], ◌++◌, refl, sym, subst, ◌∙◌}
 use Rattle.std.specs.List.{concat}
 use Rattle.std.proofs.lemmas.List.{append-nil}
-use Rattle.drm_links.specs.Told.{Known}
-use Rattle.drm_links.specs.Sink.{Output, Outputs}
-use Rattle.drm_links.proofs.ToldLemmas.{Outputs-nothing, Outputs-weaker}
+use Rattle.drm_links.specs.Known.{Known}
+use Rattle.drm_links.specs.Sink.{Output, OutputsText}
+use Rattle.drm_links.proofs.KnownLemmas.{OutputsText-nothing, OutputsText-weaker}
 use Rattle.drm_schedule.specs.declared.plan.Plan.{Plan}
 use Rattle.drm_timeline.specs.Numbers.{frame_count}
-use Rattle.drm_server.specs.Capture.{IsCapture, IsFrontOfCapture}
+use Rattle.drm_server.specs.Capture.{IsCapture, IsPrefixOfCapture}
 use Rattle.drm_server.specs.Datagrams.{AreOfFrames}
-use Rattle.drm_server.specs.Gathering.{GathersDatagrams, WroteFrame, IsFrontOfFrame}
+use Rattle.drm_server.specs.Gathering.{GathersDatagrams, WroteFrame, IsPrefixOfFrame}
 use Rattle.drm_server.proofs.DatagramLemmas.{next_frame}
 use Rattle.drm_server.proofs.CaptureLemmas.{gathers_frame, part_written}
 use Rattle.live_server.specs.Capture.{AreWritten}
@@ -17,23 +17,23 @@ use Rattle.live_server.specs.Going.{WroteEach}
 
 module _ (plan : Plan) (first : ℕ) where
   pub wrote_none : (a : Known Output) → WroteEach first 0 a a plan
-  wrote_none a = ([], refl, Outputs-nothing a (λ text. [] ≡ text ++ []) refl)
+  wrote_none a = ([], refl, OutputsText-nothing a (λ text. [] ≡ text ++ []) refl)
 
   pub wrote_more : (n m : ℕ) (a b c : Known Output) → WroteEach first n a b plan → WroteFrame plan (first + n) m b c → WroteEach first (n + 1) a c plan
   wrote_more n m a b c before frame =
-      let whole : GathersDatagrams [] (concat frame.0) [] b c = Outputs-weaker (λ text. text ≡ concat frame.0) (λ text. concat frame.0 ≡ text ++ []) b c frame.3 (λ text is. sym is ∙ sym (append-nil text)) in
+      let whole : GathersDatagrams [] (concat frame.0) [] b c = OutputsText-weaker (λ text. text ≡ concat frame.0) (λ text. concat frame.0 ≡ text ++ []) b c frame.3 (λ text is. sym is ∙ sym (append-nil text)) in
       (before.0 ++ frame.0, next_frame plan first n before.0 frame.0 before.1 frame.1, gathers_frame before.0 frame.0 [] [] a b c before.2 whole)
 
   -- a front of the next one
-  pub front_written : (n : ℕ) (a b c : Known Output) → first + n < frame_count plan → WroteEach first n a b plan → Outputs b c (IsFrontOfFrame plan (first + n) []) → Outputs a c (IsFrontOfCapture plan first)
+  pub front_written : (n : ℕ) (a b c : Known Output) → first + n < frame_count plan → WroteEach first n a b plan → OutputsText b c (IsPrefixOfFrame plan (first + n) []) → OutputsText a c (IsPrefixOfCapture plan first)
   front_written n a b c within before front = part_written plan first n before.0 [] a b c within before.1 before.2 front
 
-  pub frames_written : (n : ℕ) (a b : Known Output) → WroteEach first n a b plan → Outputs a b (AreWritten plan first n)
+  pub frames_written : (n : ℕ) (a b : Known Output) → WroteEach first n a b plan → OutputsText a b (AreWritten plan first n)
   frames_written n a b before =
-      Outputs-weaker (λ text. concat before.0 ≡ text ++ []) (AreWritten plan first n) a b before.2 (λ text is. (before.0, before.1, sym (append-nil text) ∙ sym is))
+      OutputsText-weaker (λ text. concat before.0 ≡ text ++ []) (AreWritten plan first n) a b before.2 (λ text is. (before.0, before.1, sym (append-nil text) ∙ sym is))
 
   -- all of them
-  pub capture_written : (n : ℕ) (a b : Known Output) → n ≡ frame_count plan - first → WroteEach first n a b plan → Outputs a b (IsCapture plan first)
+  pub capture_written : (n : ℕ) (a b : Known Output) → n ≡ frame_count plan - first → WroteEach first n a b plan → OutputsText a b (IsCapture plan first)
   capture_written n a b all before =
-      Outputs-weaker (AreWritten plan first n) (IsCapture plan first) a b (frames_written n a b before)
+      OutputsText-weaker (AreWritten plan first n) (IsCapture plan first) a b (frames_written n a b before)
       (λ text w. (w.0, subst (λ k. AreOfFrames plan first k w.0) all w.1, w.2))

@@ -1,7 +1,7 @@
 -- What a schedule with live streams takes of input, frame by frame.
 use Rattle.std.specs.Prelude.{ℕ, ◌≡◌, ◌+◌, ◌<◌, ◌≤◌, Bool, true, false, List, [], ◌++◌, length}
-use Rattle.drm_links.specs.Told.{Known}
-use Rattle.drm_links.specs.Source.{Input, Inputs}
+use Rattle.drm_links.specs.Known.{Known}
+use Rattle.drm_links.specs.Source.{Input, InputsBytes}
 use Rattle.drm_schedule.specs.declared.live.Live.{Live}
 use Rattle.drm_schedule.specs.declared.plan.Plan.{Plan}
 use Rattle.live_streams.specs.Live.{live_schedule}
@@ -19,8 +19,8 @@ AreTaken true live plan first t bytes = length bytes < bytes_before live plan fi
 
 -- These bytes were read of input, and where it has ended nothing is left.
 pub record HasRead (ended : Bool) (bytes : List ℕ) (before after : Known Input) : Type 0 where
-  pub read : Inputs before after (λ left rest. left ≡ bytes ++ rest)
-  pub all : ended ≡ true → Inputs before after (λ left rest. rest ≡ [])
+  pub read : InputsBytes before after (λ left rest. left ≡ bytes ++ rest)
+  pub all : ended ≡ true → InputsBytes before after (λ left rest. rest ≡ [])
 
 -- A read failed within the piece of frame t: those before it have theirs.
 pub record BreaksOff (live : Live) (plan : Plan) (first t : ℕ) (bytes : List ℕ) : Type 0 where

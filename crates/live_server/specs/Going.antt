@@ -1,7 +1,7 @@
 -- What a run with live streams keeps from frame to frame.
 use Rattle.std.specs.Prelude.{ℕ, ◌+◌, Bool, List, []}
 use Rattle.std.specs.List.{concat}
-use Rattle.drm_links.specs.Told.{Known}
+use Rattle.drm_links.specs.Known.{Known}
 use Rattle.drm_links.specs.Source.{Input}
 use Rattle.drm_links.specs.Sink.{Output}
 use Rattle.drm_links.specs.Link.{Traffic}

@@ -1,6 +1,6 @@
 -- A schedule with live streams over several links.
 use Rattle.std.specs.Prelude.{ℕ, ◌≡◌, ◌+◌, ◌-◌, ◌<◌, ◌⊎◌, Bool, false, not, List, length, slice_index_or, Result, Ok, Err}
-use Rattle.drm_links.specs.Told.{Known}
+use Rattle.drm_links.specs.Known.{Known}
 use Rattle.drm_links.specs.Source.{Input}
 use Rattle.drm_links.specs.Link.{Traffic}
 use Rattle.link_group.specs.Reaching.{AreDown}
@@ -9,13 +9,13 @@ use Rattle.cmd_faults.specs.declared.fault.Fault.{Fault}
 use Rattle.drm_schedule.specs.declared.live.Live.{Live}
 use Rattle.drm_schedule.specs.declared.plan.Plan.{Plan}
 use Rattle.drm_timeline.specs.Numbers.{frame_count}
-use Rattle.drm_server.specs.Several.{Served}
+use Rattle.drm_server.specs.Several.{MemberServed}
 use Rattle.live_server.specs.Feeding.{AreTaken, HasRead, BreaksOff, OfEach}
 
 -- over each of the links n frames from `first` on went, or it failed before
 abbrev pub ServedEach : {L : Type 0} → Plan → ℕ → ℕ → ℕ → (L → Known Traffic) → List (Member L) → List (Member L) → Type 0
 ServedEach {L} plan first pace n known members members' =
-    (k : ℕ) (d : Member L) → k < length members → Served plan first pace n known (known (slice_index_or members k d).link) (slice_index_or members' k d)
+    (k : ℕ) (d : Member L) → k < length members → MemberServed plan first pace n known (known (slice_index_or members k d).link) (slice_index_or members' k d)
 
 -- All frames were sent that could be: n of them were begun, all, or as many as until no link was left. These bytes came for them, and
 -- `whole` says whether each had its piece.

@@ -1,7 +1,7 @@
 //! The next frame, with its piece of input.
 
 ghost use Rattle.std.specs.Prelude.{List, ℕ, false, ◌≡◌, ◌<◌, ◌≤◌, length, IfOk, IfErr, OnOk, OnErr, IsErr};
-ghost use Rattle.drm_links.specs.Told.{HasCause};
+ghost use Rattle.drm_links.specs.Known.{HasCause};
 ghost use Rattle.cmd_input.specs.Input.{FailsBehind};
 ghost use Rattle.drm_timeline.specs.Numbers.{frame_count};
 ghost use Rattle.live_streams.specs.Live.{piece_at};
@@ -18,7 +18,7 @@ use std::alloc::Global;
 
 /// Room for the piece of a frame.
 pub fn piece_room(alloc: Global) -> Result<Vec<u8>, NoMemory>
-    ensures { IfOk result (λ room. length room.items ≡ 32760) }
+    ensures { IfOk result (λ scratch. length scratch.items ≡ 32760) }
 {
     zeros(alloc, MOST_PIECE)
 }
@@ -30,11 +30,11 @@ pub(crate) fn load_next<I: Source>(
     t: u32,
     live: &Live,
     input: &mut I,
-    room: &mut [u8],
+    scratch: &mut [u8],
     ended: &mut bool,
 ) -> Result<(), Fault>
     requires frame { t < frame_count server.old.base }
-    requires room { 32760 ≤ length room.old }
+    requires room { 32760 ≤ length scratch.old }
     ensures loaded { OnOk result ((first : ℕ) (bytes : List ℕ) → first ≤ t
         → LoadsNext live.now first t ended.old ended.new server.old server.new bytes
         (I.known input.old) (I.known input.new)) }
@@ -44,7 +44,7 @@ pub(crate) fn load_next<I: Source>(
     ensures fault { IfErr result (λ fault. fault ≡ Fault.Read) }
     ensures cause { HasCause (I.known input.old) (I.known input.new) (IsErr result) }
     ensures base { server.new.base ≡ server.old.base }
-    ensures room { length room.new ≡ length room.old }
+    ensures room { length scratch.new ≡ length scratch.old }
 {
     server.schedule().always_valid();
     if *ended {
@@ -56,9 +56,9 @@ pub(crate) fn load_next<I: Source>(
         server.load(t);
         return Ok(());
     }
-    let piece = &mut room[..len];
-    let came = read_front(input, piece)?;
-    if came < len {
+    let piece = &mut scratch[..len];
+    let len_read = read_front(input, piece)?;
+    if len_read < len {
         *ended = true;
         server.load(t);
     } else {

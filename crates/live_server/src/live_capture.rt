@@ -1,7 +1,7 @@
 //! A schedule with live streams to a sink.
 
 ghost use Rattle.std.specs.Prelude.{◌≡◌, ◌≤◌, length, Err};
-ghost use Rattle.drm_links.specs.Told.{HasCause};
+ghost use Rattle.drm_links.specs.Known.{HasCause};
 ghost use Rattle.live_server.specs.Capture.{WroteLive};
 
 use crate::feeding::load_next;
@@ -18,10 +18,10 @@ pub fn serve_live_sink<I: Source, O: Sink>(
     first: u32,
     live: &Live,
     input: &mut I,
-    room: &mut [u8],
+    scratch: &mut [u8],
     out: &mut O,
 ) -> Result<bool, Fault>
-    requires { 32760 ≤ length room.old }
+    requires { 32760 ≤ length scratch.old }
     ensures wrote { WroteLive live.now server.old.base first result (I.known input.old) (I.known input.new)
         (O.known out.old) (O.known out.new) }
     ensures read { HasCause (I.known input.old) (I.known input.new) (result ≡ Err Fault.Read) }
@@ -30,7 +30,7 @@ pub fn serve_live_sink<I: Source, O: Sink>(
 {
     let mut ended = false;
     for n in 0..server.frames().saturating_sub(first) {
-        load_next(server, first + n, live, input, room, &mut ended)?;
+        load_next(server, first + n, live, input, scratch, &mut ended)?;
         write_frame(server, out)?;
     }
     Ok(!ended)

@@ -1,7 +1,7 @@
 //! A schedule with live streams over several links.
 
 ghost use Rattle.std.specs.Prelude.{ℕ, ◌≡◌, ◌<◌, ◌≤◌, length, slice_index_or, IfErr, IsErr};
-ghost use Rattle.drm_links.specs.Told.{HasCause};
+ghost use Rattle.drm_links.specs.Known.{HasCause};
 ghost use Rattle.link_group.specs.Reaching.{AreUp};
 ghost use Rattle.link_group.specs.declared.member.Member.{Member};
 ghost use Rattle.live_server.specs.Links.{ServedLive};
@@ -23,10 +23,10 @@ pub fn serve_live_links<L: Link, I: Source>(
     pace: u32,
     live: &Live,
     input: &mut I,
-    room: &mut [u8],
+    scratch: &mut [u8],
 ) -> Result<bool, Fault>
     requires up { AreUp members.old }
-    requires room { 32760 ≤ length room.old }
+    requires room { 32760 ≤ length scratch.old }
     ensures served { ServedLive live.now server.old.base first pace result (I.known input.old) (I.known input.new)
         L.known members.old members.new }
     ensures idle { (k : ℕ) (d : Member L) → k < length members.old
@@ -41,7 +41,7 @@ pub fn serve_live_links<L: Link, I: Source>(
         if none_up(members) {
             break;
         }
-        load_next(server, first + n, live, input, room, &mut ended)?;
+        load_next(server, first + n, live, input, scratch, &mut ended)?;
         serve_each(server, n, members, pace);
     }
     Ok(!ended)

@@ -10,7 +10,7 @@ use Rattle.drm_schedule.specs.declared.plan.Plan.{Plan}
 use Rattle.drm_schedule.specs.Contents.{stream_bytes}
 use Rattle.drm_schedule.specs.Live.{is_live}
 use Rattle.drm_schedule.specs.Sizes.{stream_size}
-use Rattle.live_streams.specs.Live.{Given, AreWhole, own_streams, streams_with, bytes_with, stream_with, streams_from, config_with}
+use Rattle.live_streams.specs.Live.{LivePieces, AreWhole, own_streams, streams_with, bytes_with, stream_with, streams_from, config_with}
 use Rattle.live_streams.proofs.Placing.{IsPlaced}
 use Rattle.live_streams.proofs.SizeLemmas.{sizes_with, own_kept_with}
 
@@ -49,38 +49,38 @@ length_at [] j = refl
 length_at (x ∷ xs) zero = refl
 length_at (x ∷ xs) (suc j) = length_at xs j
 
-module _ (live : Live) (given : Given) (plan : Plan) (c : Config) (frames : ℕ) (placed : IsPlaced plan frames c) (whole : AreWhole live given plan) where
+module _ (live : Live) (given : LivePieces) (plan : Plan) (c : Config) (frames : ℕ) (placed : IsPlaced plan frames c) (whole : AreWhole live given plan) where
   -- the streams of the n-th frame
-  abbrev came : ℕ → List (List ℕ)
-  came n = streams_with live (given (3 * c.start + n)) (own_streams c n)
+  abbrev streams_given : ℕ → List (List ℕ)
+  streams_given n = streams_with live (given (3 * c.start + n)) (own_streams c n)
 
   -- in each frame, those from the k-th on have the sizes of these
   abbrev pub AreSized : ℕ → List Stream → Type 0
-  AreSized k streams = (n : ℕ) → n < frames → (i j : ℕ) → i ≡ k + j → length (get_or (came n) i []) ≡ get_or (map stream_size streams) j 0
+  AreSized k streams = (n : ℕ) → n < frames → (i j : ℕ) → i ≡ k + j → length (get_or (streams_given n) i []) ≡ get_or (map stream_size streams) j 0
 
   pub all_sized : AreSized 0 c.streams
   all_sized n lt i j is =
-      length_at (came n) i ∙ ap (λ l. get_or l i 0) (sizes_with live given plan c frames n placed whole lt) ∙ ap (λ m. get_or (map stream_size c.streams) m 0) (omega (arith, is))
+      length_at (streams_given n) i ∙ ap (λ l. get_or l i 0) (sizes_with live given plan c frames n placed whole lt) ∙ ap (λ m. get_or (map stream_size c.streams) m 0) (omega (arith, is))
 
   pub sized_more : (k : ℕ) (s : Stream) (streams : List Stream) → AreSized k (s ∷ streams) → AreSized (k + 1) streams
   sized_more k s streams sized n lt i j is = sized n lt i (suc j) (omega (arith, is))
 
   pub file_size : (k : ℕ) (s : Stream) (streams : List Stream) → AreSized k (s ∷ streams) → length (bytes_with live given c frames k) ≡ stream_size s * frames
   file_size k s streams sized =
-      all_parts (λ n. get_or (came n) k []) (stream_size s) 0 frames (λ n le lt. sized n (omega (arith, lt)) k 0 (omega arith))
+      all_parts (λ n. get_or (streams_given n) k []) (stream_size s) 0 frames (λ n le lt. sized n (omega (arith, lt)) k 0 (omega arith))
 
   -- the n-th frame of a stream
   one_stream : (n k : ℕ) (s : Stream) (streams : List Stream) → n < frames → AreSized k (s ∷ streams)
-      → (is_live live k ≡ false → get_or (came n) k [] ≡ stream_bytes n s) → stream_bytes n (stream_with live given c frames k s) ≡ get_or (came n) k []
+      → (is_live live k ≡ false → get_or (streams_given n) k [] ≡ stream_bytes n s) → stream_bytes n (stream_with live given c frames k s) ≡ get_or (streams_given n) k []
   one_stream n k s streams lt sized own = by (is_live live k) refl
     where
-      by : (b : Bool) → is_live live k ≡ b → stream_bytes n (if b then record s { content = File (codes "live") (bytes_with live given c frames k) } else s) ≡ get_or (came n) k []
-      by true is = part_at (λ n. get_or (came n) k []) (stream_size s) 0 frames n n (λ m le lt. sized m (omega (arith, lt)) k 0 (omega arith)) lt (omega arith)
+      by : (b : Bool) → is_live live k ≡ b → stream_bytes n (if b then record s { content = File (codes "live") (bytes_with live given c frames k) } else s) ≡ get_or (streams_given n) k []
+      by true is = part_at (λ n. get_or (streams_given n) k []) (stream_size s) 0 frames n n (λ m le lt. sized m (omega (arith, lt)) k 0 (omega arith)) lt (omega arith)
       by false is = sym (own is)
 
   streams_at : (n k : ℕ) (streams : List Stream) (rest : List (List ℕ)) → n < frames → AreSized k streams
-      → ((i j : ℕ) → i ≡ k + j → get_or (came n) i [] ≡ get_or rest j [])
-      → ((i j : ℕ) → i ≡ k + j → is_live live i ≡ false → get_or (came n) i [] ≡ get_or (map (stream_bytes n) streams) j [])
+      → ((i j : ℕ) → i ≡ k + j → get_or (streams_given n) i [] ≡ get_or rest j [])
+      → ((i j : ℕ) → i ≡ k + j → is_live live i ≡ false → get_or (streams_given n) i [] ≡ get_or (map (stream_bytes n) streams) j [])
       → length rest ≡ length streams
       → map (stream_bytes n) (streams_from live given c frames k streams) ≡ rest
   streams_at n k [] [] lt sized there own count = refl
@@ -93,10 +93,10 @@ module _ (live : Live) (given : Given) (plan : Plan) (c : Config) (frames : ℕ)
       (streams_at n (k + 1) streams rest lt (sized_more k s streams sized) (λ i j is. there i (suc j) (omega (arith, is))) (λ i j is. own i (suc j) (omega (arith, is))) (omega (arith, count)))
 
   -- the streams of a frame by the files are those that came
-  pub files_give : (n : ℕ) → n < frames → own_streams (config_with live given frames c) n ≡ came n
+  pub files_give : (n : ℕ) → n < frames → own_streams (config_with live given frames c) n ≡ streams_given n
   files_give n lt =
-      let sizes : map length (came n) ≡ map stream_size c.streams = sizes_with live given plan c frames n placed whole lt in
-      streams_at n 0 c.streams (came n) lt all_sized
-      (λ i j is. ap (λ m. get_or (came n) m []) (omega (arith, is)))
+      let sizes : map length (streams_given n) ≡ map stream_size c.streams = sizes_with live given plan c frames n placed whole lt in
+      streams_at n 0 c.streams (streams_given n) lt all_sized
+      (λ i j is. ap (λ m. get_or (streams_given n) m []) (omega (arith, is)))
       (λ i j is own. own_kept_with live (given (3 * c.start + n)) (own_streams c n) i own ∙ ap (λ m. get_or (own_streams c n) m []) (omega (arith, is)))
-      (omega (arith, ap length sizes, length-map (came n) length, length-map c.streams stream_size))
+      (omega (arith, ap length sizes, length-map (streams_given n) length, length-map c.streams stream_size))

@@ -11,19 +11,19 @@ use Rattle.drm_schedule.specs.declared.config.Config.{Config}
 use Rattle.drm_schedule.specs.declared.plan.Plan.{Plan}
 use Rattle.drm_schedule.specs.Sizes.{packet_len, stream_size}
 use Rattle.drm_timeline.specs.Announcing.{announced_by}
-use Rattle.drm_timeline.specs.Blocks.{block_of, block_with, told_in}
+use Rattle.drm_timeline.specs.Blocks.{block_of, block_with, own_entities}
 use Rattle.drm_timeline.specs.FastAccess.{fac_of, fac_under}
 use Rattle.drm_timeline.specs.Numbers.{frame_count, packet_size, sequence_number}
 use Rattle.drm_timeline.specs.Standing.{config_of, announced_in, index_of, frames_before}
-use Rattle.live_streams.specs.Live.{Given, AreWhole, own_streams, streams_with, config_with, live_schedule}
-use Rattle.live_streams.proofs.LikeLemmas.{option_with, same_packet_len, same_told, same_announced}
+use Rattle.live_streams.specs.Live.{LivePieces, AreWhole, own_streams, streams_with, config_with, live_schedule}
+use Rattle.live_streams.proofs.LikeLemmas.{option_with, same_packet_len, same_own, same_announced}
 use Rattle.live_streams.proofs.Placing.{IsLike, config_like, announced_like}
 use Rattle.live_streams.proofs.SizeLemmas.{sizes_with}
 use Rattle.live_streams.proofs.FrameFiles.{files_give}
 pub use Rattle.live_streams.proofs.LikeLemmas.{same_description}
 pub use Rattle.live_streams.proofs.Placing.{HoldsWith, config_holds}
 
-module _ (live : Live) (given : Given) (plan : Plan) where
+module _ (live : Live) (given : LivePieces) (plan : Plan) where
   abbrev with_ : Plan
   with_ = live_schedule live given plan
 
@@ -85,17 +85,17 @@ module _ (live : Live) (given : Given) (plan : Plan) where
       ∙ ap (block (option_with live given like.0 (config_of plan sf))) next.1
       ∙ by like.0 next.0 (config_of plan sf)
     where
-      told : ℕ → List Entity → Option (List Entity) → Option Block
-      told room own announced = option_map (block_with room) (option_map (λ entities. own ++ entities) announced)
+      block_by : ℕ → List Entity → Option (List Entity) → Option Block
+      block_by room own announced = option_map (block_with room) (option_map (λ entities. own ++ entities) announced)
 
       block : Option Config → Option Config → Option Block
-      block o next = chain o (λ c. told c.room (told_in c sf) (announced_by c sf next))
+      block o next = chain o (λ c. block_by c.room (own_entities c sf) (announced_by c sf next))
 
       by : (frames later : ℕ) (o : Option Config) → block (option_with live given frames o) (option_with live given later (announced_in plan sf)) ≡ block o (announced_in plan sf)
       by frames later None = refl
       by frames later (Some c) =
-          ap (λ own. told c.room own (announced_by (config_with live given frames c) sf (option_with live given later (announced_in plan sf)))) (same_told live given c frames sf)
-          ∙ ap (told c.room (told_in c sf)) (same_announced live given c frames later sf (announced_in plan sf))
+          ap (λ own. block_by c.room own (announced_by (config_with live given frames c) sf (option_with live given later (announced_in plan sf)))) (same_own live given c frames sf)
+          ∙ ap (block_by c.room (own_entities c sf)) (same_announced live given c frames later sf (announced_in plan sf))
 
   pub same_packet_size : (t : ℕ) → packet_size with_ t ≡ packet_size plan t
   unfolding packet_size
@@ -134,5 +134,5 @@ module _ (live : Live) (given : Given) (plan : Plan) where
     -- and there are as many as the configuration has
     pub same_stream_count : length (streams_with live (given t) (own_streams c (t - 3 * c.start))) ≡ length c.streams
     same_stream_count =
-        let came : List (List ℕ) = streams_with live (given t) (own_streams c (t - 3 * c.start)) in
-        omega (arith, ap length same_stream_sizes, length-map came length, length-map c.streams stream_size)
+        let streams_given : List (List ℕ) = streams_with live (given t) (own_streams c (t - 3 * c.start)) in
+        omega (arith, ap length same_stream_sizes, length-map streams_given length, length-map c.streams stream_size)

@@ -50,16 +50,16 @@ module _ (live : Live) (plan : Plan) (first : ℕ) where
   -- ---- the piece of a frame
 
   -- whether it came, where so many bytes did
-  abbrev came : ℕ → ℕ → Bool
-  came t count = nat_le first t && nat_le (bytes_before live plan first t + piece_at live plan t) count
+  abbrev has_piece : ℕ → ℕ → Bool
+  has_piece t count = nat_le first t && nat_le (bytes_before live plan first t + piece_at live plan t) count
 
   abbrev piece_in : ℕ → List ℕ → List ℕ
   piece_in t bytes = take (piece_at live plan t) (drop (bytes_before live plan first t) bytes)
 
   pub pieces_are_whole : (bytes : List ℕ) → AreWhole live (pieces_of live plan first bytes) plan
-  pieces_are_whole bytes t piece is = by (came t (length bytes)) refl is
+  pieces_are_whole bytes t piece is = by (has_piece t (length bytes)) refl is
     where
-      by : (b : Bool) → came t (length bytes) ≡ b → (if b then Some (piece_in t bytes) else None) ≡ Some piece → length piece ≡ piece_at live plan t
+      by : (b : Bool) → has_piece t (length bytes) ≡ b → (if b then Some (piece_in t bytes) else None) ≡ Some piece → length piece ≡ piece_at live plan t
       by true so is =
           let enough : bytes_before live plan first t + piece_at live plan t ≤ length bytes = leb-true _ _ (and_parts (nat_le first t) _ so).1 in
           ap (λ o. length (unwrap_or o [])) (sym is)

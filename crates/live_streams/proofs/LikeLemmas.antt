@@ -20,11 +20,11 @@ use Rattle.drm_schedule.specs.Announcement.{announced, all_repeated, countdown_s
 use Rattle.drm_schedule.specs.SameLines.{tells_others}
 use Rattle.drm_schedule.specs.Services.{block_disagrees, lack_one_audio_line, lack_an_app_line, have_a_stray_audio_line, have_a_stray_line, have_two_labels, have_a_line_without_stream}
 use Rattle.drm_timeline.specs.Announcing.{announced_by, announcement_of, packed_in, next, as_next}
-use Rattle.drm_timeline.specs.Blocks.{told_in, current, clock_in}
+use Rattle.drm_timeline.specs.Blocks.{own_entities, current, clock_in}
 use Rattle.drm_timeline.specs.Description.{description_of, part_of, parameters_of}
-use Rattle.live_streams.specs.Live.{Given, bytes_with, stream_with, streams_from, config_with}
+use Rattle.live_streams.specs.Live.{LivePieces, bytes_with, stream_with, streams_from, config_with}
 
-module _ (live : Live) (given : Given) where
+module _ (live : Live) (given : LivePieces) where
   -- the sizes of a stream's parts
   parts_with : {X : Type 0} (f : ℕ → ℕ → X) (c : Config) (frames k : ℕ) (s : Stream) → f (stream_with live given c frames k s).a (stream_with live given c frames k s).b ≡ f s.a s.b
   parts_with f c frames k s = by (is_live live k)
@@ -114,8 +114,8 @@ module _ (live : Live) (given : Given) where
   same_announcement c frames =
       ap (λ description. option_map (λ parameters. next (Mux description) ∷ next parameters ∷ map as_next (all_repeated c)) (parameters_of c)) (same_description c frames)
 
-  pub same_told : (c : Config) (frames sf : ℕ) → told_in (config_with live given frames c) sf ≡ told_in c sf
-  same_told c frames sf = ap (λ description. current (Mux description) ∷ (entities_in_force c sf ++ clock_in c sf)) (same_description c frames)
+  pub same_own : (c : Config) (frames sf : ℕ) → own_entities (config_with live given frames c) sf ≡ own_entities c sf
+  same_own c frames sf = ap (λ description. current (Mux description) ∷ (entities_in_force c sf ++ clock_in c sf)) (same_description c frames)
 
   pub same_announced : (before : Config) (frames later sf : ℕ) (o : Option Config) → announced_by (config_with live given frames before) sf (option_with later o) ≡ announced_by before sf o
   same_announced before frames later sf None = refl

@@ -10,7 +10,7 @@ use Rattle.drm_schedule.specs.Valid.{is_short, next_start, end_before, AreFaultl
 use Rattle.drm_schedule.proofs.Faultless.{all_faultless}
 use Rattle.drm_timeline.specs.Standing.{has_started, is_counting, config_of, announced_in}
 use Rattle.drm_timeline.proofs.ScheduleLemmas.{follows}
-use Rattle.live_streams.specs.Live.{Given, config_with, configs_with, live_schedule}
+use Rattle.live_streams.specs.Live.{LivePieces, config_with, configs_with, live_schedule}
 use Rattle.live_streams.proofs.LikeLemmas.{option_with}
 
 -- A configuration stands in all of so many frames from its start on, and its files reach as far.
@@ -71,14 +71,14 @@ all_placed plan is = by plan.configs (λ sf. refl) (all_faultless plan 0 None pl
 
 -- What stands in a super frame of a schedule with live streams, where this configuration stands without: the same one, with bytes
 -- for so many frames.
-pub record HoldsWith (live : Live) (given : Given) (plan : Plan) (sf : ℕ) (c : Config) : Type 0 where
+pub record HoldsWith (live : Live) (given : LivePieces) (plan : Plan) (sf : ℕ) (c : Config) : Type 0 where
   pub frames : ℕ
   pub holds : config_of (live_schedule live given plan) sf ≡ Some (config_with live given frames c)
   pub placed : IsPlaced plan frames c
   pub started : c.start ≤ sf
   pub reaches : 3 * sf + 3 ≤ 3 * c.start + frames
 
-module _ (live : Live) (given : Given) (plan : Plan) (sf : ℕ) where
+module _ (live : Live) (given : LivePieces) (plan : Plan) (sf : ℕ) where
   -- this may stand with live streams, where that does without
   abbrev IsWith : Option Config → Option Config → Type 0
   IsWith None with_ = with_ ≡ None

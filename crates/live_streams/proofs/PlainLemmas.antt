@@ -13,7 +13,7 @@ use Rattle.drm_schedule.specs.Ranges.{StreamInLines, ConfigInLines}
 use Rattle.drm_schedule.specs.Sizes.{stream_size}
 use Rattle.drm_schedule.specs.Valid.{end_before}
 use Rattle.drm_timeline.specs.Standing.{config_of}
-use Rattle.live_streams.specs.Live.{Given, own_streams, given_from, streams_with, size_from, piece_at, bytes_with, streams_from, configs_with, live_schedule}
+use Rattle.live_streams.specs.Live.{LivePieces, own_streams, given_from, streams_with, size_from, piece_at, bytes_with, streams_from, configs_with, live_schedule}
 use Rattle.live_streams.proofs.SizeLemmas.{piece_is}
 
 -- ---- a frame that asks for nothing
@@ -31,8 +31,8 @@ unasked_from live k piece (s ∷ streams) (o ∷ own) fit unasked few =
     by rest false unasked = ap (λ more. o ∷ more) (rest (omega (arith, unasked)))
 
 -- has the schedule's own streams, whatever came
-pub nothing_asked : (live : Live) (plan : Plan) (t : ℕ) (c : Config) (came : Option (List ℕ)) (frame : ℕ) → config_of plan (t / 3) ≡ Some c → ConfigInLines c
-    → piece_at live plan t ≡ 0 → streams_with live came (own_streams c frame) ≡ own_streams c frame
+pub nothing_asked : (live : Live) (plan : Plan) (t : ℕ) (c : Config) (input : Option (List ℕ)) (frame : ℕ) → config_of plan (t / 3) ≡ Some c → ConfigInLines c
+    → piece_at live plan t ≡ 0 → streams_with live input (own_streams c frame) ≡ own_streams c frame
 nothing_asked live plan t c None frame holds fits unasked = refl
 nothing_asked live plan t c (Some piece) frame holds fits unasked =
     unasked_from live 0 piece c.streams (own_streams c frame) fits.each_stream
@@ -47,7 +47,7 @@ none_is_live (suc (suc zero)) = refl
 none_is_live (suc (suc (suc zero))) = refl
 none_is_live (suc (suc (suc (suc k)))) = refl
 
-module _ (live : Live) (given : Given) (plain : (k : ℕ) → is_live live k ≡ false) where
+module _ (live : Live) (given : LivePieces) (plain : (k : ℕ) → is_live live k ≡ false) where
   plain_streams : (c : Config) (frames k : ℕ) (streams : List Stream) → streams_from live given c frames k streams ≡ streams
   plain_streams c frames k [] = refl
   plain_streams c frames k (s ∷ streams) =

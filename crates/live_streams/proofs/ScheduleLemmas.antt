@@ -14,7 +14,7 @@ use Rattle.drm_schedule.specs.Ranges.{IsName, StreamInLines, ConfigInLines, InLi
 use Rattle.drm_schedule.specs.Sizes.{stream_size}
 use Rattle.drm_schedule.specs.Valid.{starts_wrongly, counts_wrongly, is_short, next_start, end_before, BeginRightly, IsFaultless, AreFaultless, IsSchedule}
 use Rattle.drm_schedule.proofs.Faultless.{all_faultless}
-use Rattle.live_streams.specs.Live.{Given, AreWhole, bytes_with, stream_with, streams_from, config_with, configs_with, live_schedule}
+use Rattle.live_streams.specs.Live.{LivePieces, AreWhole, bytes_with, stream_with, streams_from, config_with, configs_with, live_schedule}
 use Rattle.live_streams.specs.Laws.{LiveIsASchedule}
 use Rattle.live_streams.proofs.LikeLemmas.{count_with, same_packet_len, same_room, same_disagreement, same_lack, option_with}
 use Rattle.live_streams.proofs.Placing.{IsPlaced, ArePlaced, all_placed}
@@ -43,7 +43,7 @@ live_name =
       few = omega arith;
     }
 
-module _ (live : Live) (given : Given) where
+module _ (live : Live) (given : LivePieces) where
   stream_in_lines : (c : Config) (frames k : ℕ) (s : Stream) → StreamInLines s → StreamInLines (stream_with live given c frames k s)
   stream_in_lines c frames k s is = by (is_live live k)
     where

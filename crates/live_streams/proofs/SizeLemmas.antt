@@ -14,7 +14,7 @@ use Rattle.drm_schedule.specs.Live.{is_live}
 use Rattle.drm_schedule.specs.Sizes.{stream_size}
 use Rattle.drm_schedule.specs.Valid.{is_short}
 use Rattle.drm_timeline.specs.Standing.{config_of}
-use Rattle.live_streams.specs.Live.{Given, AreWhole, own_streams, given_from, streams_with, size_from, piece_size, piece_at}
+use Rattle.live_streams.specs.Live.{LivePieces, AreWhole, own_streams, given_from, streams_with, size_from, piece_size, piece_at}
 use Rattle.live_streams.proofs.Placing.{IsPlaced}
 
 own_size : (n frames : ℕ) (s : Stream) → n < frames → is_short frames s ≡ false → length (stream_bytes n s) ≡ stream_size s
@@ -75,7 +75,7 @@ own_kept live k piece (o ∷ more) i (suc j) is own = by (λ rest. own_kept live
     by rest false = rest piece
 
 -- the same of a frame for which a piece or none came
-pub own_kept_with : (live : Live) (came : Option (List ℕ)) (own : List (List ℕ)) (j : ℕ) → is_live live j ≡ false → get_or (streams_with live came own) j [] ≡ get_or own j []
+pub own_kept_with : (live : Live) (input : Option (List ℕ)) (own : List (List ℕ)) (j : ℕ) → is_live live j ≡ false → get_or (streams_with live input own) j [] ≡ get_or own j []
 own_kept_with live None own j is = refl
 own_kept_with live (Some piece) own j is = own_kept live 0 piece own j j (omega arith) is
 
@@ -84,11 +84,11 @@ pub piece_is : (live : Live) (plan : Plan) (t : ℕ) (c : Config) → config_of 
 piece_is live plan t c holds = ap (λ (o : Option Config). unwrap_or (option_map (piece_size live) o) 0) holds
 
 -- so whatever came for a frame, each of its streams has its size
-pub sizes_with : (live : Live) (given : Given) (plan : Plan) (c : Config) (frames n : ℕ) → IsPlaced plan frames c → AreWhole live given plan → n < frames
+pub sizes_with : (live : Live) (given : LivePieces) (plan : Plan) (c : Config) (frames n : ℕ) → IsPlaced plan frames c → AreWhole live given plan → n < frames
     → map length (streams_with live (given (3 * c.start + n)) (own_streams c n)) ≡ map stream_size c.streams
 sizes_with live given plan c frames n placed whole lt = by (given (3 * c.start + n)) refl
   where
-    by : (came : Option (List ℕ)) → given (3 * c.start + n) ≡ came → map length (streams_with live came (own_streams c n)) ≡ map stream_size c.streams
+    by : (input : Option (List ℕ)) → given (3 * c.start + n) ≡ input → map length (streams_with live input (own_streams c n)) ≡ map stream_size c.streams
     by None is = own_sizes n frames c.streams lt placed.files
     by (Some piece) is =
         given_sizes live 0 piece c.streams (own_streams c n) (own_sizes n frames c.streams lt placed.files)

@@ -9,7 +9,7 @@ use Rattle.drm_schedule.specs.declared.plan.Plan.{Plan}
 use Rattle.drm_schedule.specs.Live.{is_live}
 use Rattle.drm_schedule.specs.Valid.{end_before}
 use Rattle.drm_timeline.specs.Numbers.{frame_count}
-use Rattle.live_streams.specs.Live.{Given, own_streams, streams_with, bytes_with, streams_from, config_with, configs_with, live_schedule}
+use Rattle.live_streams.specs.Live.{LivePieces, own_streams, streams_with, bytes_with, streams_from, config_with, configs_with, live_schedule}
 use Rattle.live_streams.specs.Input.{bytes_for, pieces_of}
 use Rattle.live_streams.proofs.InputLemmas.{taken_is_enough}
 
@@ -20,14 +20,14 @@ same_parts part other first (suc count) same =
     ap (λ l. l ++ flat_map part (range_with_len (first + 1) count)) (same first (omega arith) (omega arith))
     ∙ ap (λ more. other first ++ more) (same_parts part other (first + 1) count (λ n le lt. same n (omega (arith, le)) (omega (arith, lt))))
 
-module _ (live : Live) (given other : Given) where
+module _ (live : Live) (given other : LivePieces) where
   -- they give the same for so many frames of a configuration
   abbrev AreSame : Config → ℕ → Type 0
   AreSame c frames = (n : ℕ) → n < frames → given (3 * c.start + n) ≡ other (3 * c.start + n)
 
   same_bytes : (c : Config) (frames k : ℕ) → AreSame c frames → bytes_with live given c frames k ≡ bytes_with live other c frames k
   same_bytes c frames k same =
-      let part : Given → ℕ → List ℕ = λ came n. get_or (streams_with live (came (3 * c.start + n)) (own_streams c n)) k [] in
+      let part : LivePieces → ℕ → List ℕ = λ input n. get_or (streams_with live (input (3 * c.start + n)) (own_streams c n)) k [] in
       same_parts (part given) (part other) 0 frames
       (λ n le lt. ap (λ (piece : Option (List ℕ)). get_or (streams_with live piece (own_streams c n)) k []) (same n (omega (arith, lt))))
 

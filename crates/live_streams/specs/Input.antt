@@ -4,7 +4,7 @@ use Rattle.std.specs.List.{range_with_len}
 use Rattle.drm_schedule.specs.declared.live.Live.{Live}
 use Rattle.drm_schedule.specs.declared.plan.Plan.{Plan}
 use Rattle.drm_timeline.specs.Numbers.{frame_count}
-use Rattle.live_streams.specs.Live.{Given, piece_at}
+use Rattle.live_streams.specs.Live.{LivePieces, piece_at}
 
 -- how many bytes the pieces have together of the frames from `first` on that are before frame t
 abbrev pub bytes_before : Live → Plan → ℕ → ℕ → ℕ
@@ -15,7 +15,7 @@ abbrev pub bytes_for : Live → Plan → ℕ → ℕ
 bytes_for live plan first = bytes_before live plan first (frame_count plan)
 
 -- Where these bytes came, the frames from `first` on get theirs of them, one after another, as long as whole pieces are there.
-abbrev pub pieces_of : Live → Plan → ℕ → List ℕ → Given
+abbrev pub pieces_of : Live → Plan → ℕ → List ℕ → LivePieces
 pieces_of live plan first bytes t =
     if nat_le first t && nat_le (bytes_before live plan first t + piece_at live plan t) (length bytes)
     then Some (take (piece_at live plan t) (drop (bytes_before live plan first t) bytes))

@@ -47,36 +47,36 @@ piece_at live plan t = unwrap_or (option_map (piece_size live) (config_of plan (
 -- ---- a schedule
 
 -- the piece that came for each frame of a schedule, where one did
-abbrev pub Given : Type 0
-Given = ℕ → Option (List ℕ)
+abbrev pub LivePieces : Type 0
+LivePieces = ℕ → Option (List ℕ)
 
 -- the bytes of stream k in so many frames of a configuration, one frame after another
-abbrev pub bytes_with : Live → Given → Config → ℕ → ℕ → List ℕ
+abbrev pub bytes_with : Live → LivePieces → Config → ℕ → ℕ → List ℕ
 bytes_with live given c frames k =
     flat_map (λ n. slice_index_or (streams_with live (given (3 * c.start + n)) (own_streams c n)) k []) (range_with_len 0 frames)
 
 -- a live stream has these as the bytes of a file; any other one is as it is
-abbrev pub stream_with : Live → Given → Config → ℕ → ℕ → Stream → Stream
+abbrev pub stream_with : Live → LivePieces → Config → ℕ → ℕ → Stream → Stream
 stream_with live given c frames k s = if is_live live k then record s { content = File (codes "live") (bytes_with live given c frames k) } else s
 
 -- those from the k-th on
-abbrev pub streams_from : Live → Given → Config → ℕ → ℕ → List Stream → List Stream
+abbrev pub streams_from : Live → LivePieces → Config → ℕ → ℕ → List Stream → List Stream
 streams_from live given c frames k [] = []
 streams_from live given c frames k (s ∷ streams) = stream_with live given c frames k s ∷ streams_from live given c frames (k + 1) streams
 
 -- a configuration of so many frames
-abbrev pub config_with : Live → Given → ℕ → Config → Config
+abbrev pub config_with : Live → LivePieces → ℕ → Config → Config
 config_with live given frames c = record c { streams = streams_from live given c frames 0 c.streams }
 
 -- each of these configurations, in a schedule of this length
-abbrev pub configs_with : Live → Given → ℕ → List Config → List Config
+abbrev pub configs_with : Live → LivePieces → ℕ → List Config → List Config
 configs_with live given len [] = []
 configs_with live given len (c ∷ more) = config_with live given (3 * (end_before len more - c.start)) c ∷ configs_with live given len more
 
 -- The schedule whose live streams have, frame by frame, the pieces that came, and their own bytes where none came.
-unfoldable pub live_schedule : Live → Given → Plan → Plan
+unfoldable pub live_schedule : Live → LivePieces → Plan → Plan
 live_schedule live given plan = record plan { configs = configs_with live given plan.length plan.configs }
 
 -- Each piece is as long as that of its frame.
-abbrev pub AreWhole : Live → Given → Plan → Type 0
+abbrev pub AreWhole : Live → LivePieces → Plan → Type 0
 AreWhole live given plan = (t : ℕ) (piece : List ℕ) → given t ≡ Some piece → length piece ≡ piece_at live plan t

@@ -11,10 +11,10 @@ use Rattle.drm_fac.specs.Mode.{mode_code}
 use Rattle.drm_fac.proofs.ModeLemmas.{one_code}
 use Rattle.drm_sdc.specs.declared.block.BlockInfo.{BlockInfo}
 use Rattle.drm_sdc.specs.Block.{info_of}
-use Rattle.drm_sdc.proofs.BlockLaws.{one_told}
+use Rattle.drm_sdc.proofs.BlockLaws.{one_info}
 use Rattle.dcp_tag.specs.Tag.{TagItem}
 use Rattle.dcp_tag.proofs.TagLemmas.{payload_once}
-use Rattle.mdi_items.specs.declared.known.Found.{Found}
+use Rattle.mdi_items.specs.declared.known.ItemSpan.{ItemSpan}
 use Rattle.mdi_items.specs.declared.fault.MdiFault.{MdiFault}
 use Rattle.mdi_items.specs.declared.view.SdcSpan.{SdcSpan}
 use Rattle.mdi_items.specs.declared.view.MdiView.{MdiView}
@@ -30,22 +30,22 @@ use Rattle.mdi_items.proofs.TableLemmas.{one_place, one_value, one_mux}
 one_mode : (m n : Mode) → mode_code m ∷ [] ≡ mode_code n ∷ [] → m ≡ n
 one_mode m n same = one_code m n (ap (λ (l : List ℕ). get_or l 0 0) same)
 
-no_bits : (known : List (Option Found)) (found : Found) → bits_there (get_or known sdc_ None) ≡ 0 → IsAt known sdc_ found → found.bits ≢ 0 → ⊥
+no_bits : (known : List (Option ItemSpan)) (found : ItemSpan) → bits_there (get_or known sdc_ None) ≡ 0 → IsAt known sdc_ found → found.bits ≢ 0 → ⊥
 no_bits known found none at some = some (sym (ap bits_there at) ∙ none)
 
-one_span : (payload : List ℕ) (known : List (Option Found)) (a b : Option SdcSpan) → IsBlockSpan payload known a → IsBlockSpan payload known b → a ≡ b
+one_span : (payload : List ℕ) (known : List (Option ItemSpan)) (a b : Option SdcSpan) → IsBlockSpan payload known a → IsBlockSpan payload known b → a ≡ b
 one_span payload known None None h k = refl
 one_span payload known None (Some b) h (found, block, at, some, is_block, is) = absurd (no_bits known found h at some)
 one_span payload known (Some a) None (found, block, at, some, is_block, is) k = absurd (no_bits known found k at some)
 one_span payload known (Some a) (Some b) (found, block, at, some, is_block, is) (found', block', at', some', is_block', is') =
     let same : found' ≡ found = one_place known sdc_ found' found at' at in
-    let told : BlockInfo = info_of block' (block_bits payload found') is_block' in
-    let infos : info_of block (block_bits payload found) is_block ≡ told =
-    one_told block block' (block_bits payload found) (block_bits payload found') (ap (λ (x : Found). block_bits payload x) (sym same)) is_block is_block' in
+    let other_info : BlockInfo = info_of block' (block_bits payload found') is_block' in
+    let infos : info_of block (block_bits payload found) is_block ≡ other_info =
+    one_info block block' (block_bits payload found) (block_bits payload found') (ap (λ (x : ItemSpan). block_bits payload x) (sym same)) is_block is_block' in
     let spans : a ≡ b =
     is
     ∙ (ap (λ (i : BlockInfo). record { at = found.at; bits = found.bits; info = i }) infos
-    ∙ (ap (λ (x : Found). record { at = x.at; bits = x.bits; info = told }) (sym same) ∙ sym is')) in
+    ∙ (ap (λ (x : ItemSpan). record { at = x.at; bits = x.bits; info = other_info }) (sym same) ∙ sym is')) in
     ap (λ (s : SdcSpan). Some s) spans
 
 frame_from : ℕ → ℕ → ℕ → List ℕ → Fac → MuxDesc → Mode → Option SdcSpan → Spans → Frame
@@ -57,7 +57,7 @@ unfolding frame_from
 frame_again f = refl
 
 -- items say one frame at most
-one_says : (payload : List ℕ) (known : List (Option Found)) (f g : Frame) → FrameSays payload known f → FrameSays payload known g → f ≡ g
+one_says : (payload : List ℕ) (known : List (Option ItemSpan)) (f g : Frame) → FrameSays payload known f → FrameSays payload known g → f ≡ g
 one_says payload known f g s t =
     let pointer : s.pointer ≡ t.pointer = one_value payload known ptr s.pointer t.pointer s.pointer_stands t.pointer_stands in
     let count : s.count ≡ t.count = one_value payload known dlfc s.count t.count s.count_stands t.count_stands in

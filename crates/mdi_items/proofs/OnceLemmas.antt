@@ -1,6 +1,6 @@
 -- A payload's items have one order, and one first fault at most.
 use Rattle.std.proofs.Common.{◌≡◌, ◌<◌, ℕ, List, [], ◌∷◌, ◌++◌, length, sym, subst, ap, ◌∙◌, append_assoc, arith, length-append}
-use Rattle.dcp_tag.specs.Tag.{TagItem, head, IsPayload, IsCut}
+use Rattle.dcp_tag.specs.Tag.{TagItem, head, IsPayload, IsItemCut}
 use Rattle.dcp_tag.proofs.TagLemmas.{one_front, spelling_size, cut_front, behind_size, cut_is_no_payload}
 use Rattle.mdi_items.specs.declared.fault.MdiFault.{MdiFault}
 use Rattle.mdi_items.specs.declared.fault.MdiFault.TheVariants.{Tag, Twice}
@@ -11,7 +11,7 @@ one_begin : (i o : TagItem) (bytes rest more : List ℕ) → BeginsWithItem i by
 one_begin i o bytes rest more b c = one_front i o bytes b.spelling rest c.spelling more b.spelled c.spelled b.stands c.stands
 
 -- a cut item is none that stands there
-cut_no_item : (item : TagItem) (bytes rest : List ℕ) → IsCut bytes → BeginsWithItem item bytes rest → ⊥
+cut_no_item : (item : TagItem) (bytes rest : List ℕ) → IsItemCut bytes → BeginsWithItem item bytes rest → ⊥
 cut_no_item item bytes rest cut b =
     let p = b.spelled.1 in
     let stands : bytes ≡ head item.name (length item.value) ++ (p.behind ++ rest) =

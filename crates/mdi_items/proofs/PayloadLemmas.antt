@@ -6,7 +6,7 @@ use Rattle.std.specs.Cmp.Lexicographic.{pointwise, same_text}
 use Rattle.drm_bits.specs.Bits.{bits_of}
 use Rattle.dcp_tag.specs.Tag.{TagItem, bytes_for, head, IsSpelling, IsPayload}
 use Rattle.dcp_tag.proofs.TagLemmas.{length-head, behind_size, item_is}
-use Rattle.mdi_items.specs.declared.known.Found.{Found}
+use Rattle.mdi_items.specs.declared.known.ItemSpan.{ItemSpan}
 use Rattle.mdi_items.specs.Names.{name_at}
 use Rattle.mdi_items.specs.Items.{size, find_from, known_of, ItemStands}
 use Rattle.mdi_items.specs.Frame.{AreInside, block_bits, bytes_at}
@@ -28,7 +28,7 @@ value_stands item spelling rest payload from (padding, p) stands =
     ap (take (bytes_for (length item.value))) behind ∙ take_at p.behind rest (bytes_for (length item.value)) (behind_size item padding spelling p) in
     ap (λ (l : List ℕ). take (length item.value) (bits_of l)) bytes ∙ ap (λ (t : TagItem). t.value) (item_is item padding spelling p)
 
-stands_behind : (first : TagItem) (items : List TagItem) (name payload : List ℕ) (from : ℕ) (found : Found) → ItemStands items name payload (from + size first) found → ItemStands (first ∷ items) name payload from found
+stands_behind : (first : TagItem) (items : List TagItem) (name payload : List ℕ) (from : ℕ) (found : ItemSpan) → ItemStands items name payload (from + size first) found → ItemStands (first ∷ items) name payload from found
 stands_behind first items name payload from found s = record {
   before = first ∷ s.before;
   item = s.item;
@@ -41,11 +41,11 @@ stands_behind first items name payload from found s = record {
 }
 
 -- the item that was found, or one of those behind it
-found_or : (b : Bool) (x : Found) (y : Option Found) (found : Found) (P : Found → Type 0) → cond b (Some x) y ≡ Some found → (b ≡ true → P x) → (y ≡ Some found → P found) → P found
+found_or : (b : Bool) (x : ItemSpan) (y : Option ItemSpan) (found : ItemSpan) (P : ItemSpan → Type 0) → cond b (Some x) y ≡ Some found → (b ≡ true → P x) → (y ≡ Some found → P found) → P found
 found_or true x y found P is here there = let same : x ≡ found = cc in subst P same (here refl)
 found_or false x y found P is here there = there is
 
-pub find_stands : (items : List TagItem) (name payload : List ℕ) (from : ℕ) (found : Found) → from ≤ length payload → IsPayload items (drop from payload) → find_from from name items ≡ Some found
+pub find_stands : (items : List TagItem) (name payload : List ℕ) (from : ℕ) (found : ItemSpan) → from ≤ length payload → IsPayload items (drop from payload) → find_from from name items ≡ Some found
     → ItemStands items name payload from found
 find_stands [] name payload from found within stand is = cc
 find_stands (item ∷ items) name payload from found within (spelling, rest, stands, spelled, more) is =

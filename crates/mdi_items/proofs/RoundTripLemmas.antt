@@ -25,16 +25,16 @@ use Rattle.drm_sdc.specs.declared.block.Block.{Block}
 use Rattle.drm_sdc.specs.Block.{IsBlock, IsBlockFault, info_of}
 use Rattle.drm_sdc.proofs.BlockLaws.{framed_length, block_or_fault}
 use Rattle.dcp_tag.specs.Tag.{TagItem, bytes_for, IsPayload}
-use Rattle.mdi_items.specs.declared.known.Found.{Found}
+use Rattle.mdi_items.specs.declared.known.ItemSpan.{ItemSpan}
 use Rattle.mdi_items.specs.declared.view.SdcSpan.{SdcSpan}
 use Rattle.mdi_items.specs.Names.{names, ptr, dlfc, fac_, sdci, robm, sdc_, str}
 use Rattle.mdi_items.specs.Items.{known_of, AreOnce}
-use Rattle.mdi_items.specs.Frame.{IsFirst, HasBytes, IsBlockSpan, bytes_at, block_bits, bits_there, place_there, of_streams, spans_of}
-use Rattle.mdi_items.specs.Streams.{IsRight, AreRight}
+use Rattle.mdi_items.specs.Frame.{IsFirstOfSuperFrame, HasBytes, IsBlockSpan, bytes_at, block_bits, bits_there, place_there, of_streams, spans_of}
+use Rattle.mdi_items.specs.Streams.{IsStreamWellFormed, AreRight}
 use Rattle.mdi_items.specs.Table.{NoneApplies, HasFac, HasDescription, due_rows, ptr_rows, fac_rows, sdci_rows, robm_rows, sdc_rows}
-use Rattle.mdi_items.specs.Written.{Piece, whole, spelled, spelling, head_pieces, block_piece, stream_pieces}
+use Rattle.mdi_items.specs.Written.{WrittenItem, whole, spelled, spelling, head_pieces, block_piece, stream_pieces}
 use Rattle.mdi_items.proofs.PieceItems.{items_of}
-use Rattle.mdi_items.specs.RoundTrip.{Parts, BlockBytes, Suit, SuitsBlock, IsWrittenOf, IsFrameOf, IsBlockOf, block_pieces}
+use Rattle.mdi_items.specs.RoundTrip.{Parts, BlockBytes, PartsSuit, SuitsBlock, IsWrittenOf, IsFrameOf, IsBlockOf, block_pieces}
 use Rattle.mdi_items.proofs.TableLemmas.{ThreeRight, one_place, one_value, none_in_table}
 use Rattle.mdi_items.proofs.RowLemmas.{one_fac_there}
 use Rattle.mdi_items.proofs.PieceLemmas.{IsFine, Rise, Lacks, IsFound, has_behind, lacks_both, pieces_payload, known_piece, known_none, pieces_once, streams_have, streams_lack}
@@ -57,7 +57,7 @@ fine_whole : (place : ℕ) (value : List ℕ) → place < 10 → length value < 
 fine_whole place value lt few = record { place = lt; four = four_at names place names_four lt; bits = omega arith; long = omega arith }
 
 -- pieces, and then others
-pub spelling-append : (front back : List Piece) → spelling (front ++ back) ≡ spelling front ++ spelling back
+pub spelling-append : (front back : List WrittenItem) → spelling (front ++ back) ≡ spelling front ++ spelling back
 spelling-append [] back = refl
 spelling-append (p ∷ front) back = ap (λ (l : List ℕ). spelled p ++ l) (spelling-append front back) ∙ sym (append_assoc (spelled p) (spelling front) (spelling back))
 
@@ -83,12 +83,12 @@ lacks_block k None le = tt
 lacks_block k (Some b) le = ((λ same. absurd (omega arith)), tt)
 
 -- what is known of the block
-abbrev BlockFound : List ℕ → List (Option Found) → Option BlockBytes → Type 0
+abbrev BlockFound : List ℕ → List (Option ItemSpan) → Option BlockBytes → Type 0
 BlockFound payload known None = get_or known sdc_ None ≡ None
 BlockFound payload known (Some b) = IsFound payload (get_or known sdc_ None) (block_piece b.bits b.value)
 
 -- What is known of the items that are written.
-record AreFound (payload : List ℕ) (known : List (Option Found)) (p : Parts) (fac description : List ℕ) : Type 0 where
+record AreFound (payload : List ℕ) (known : List (Option ItemSpan)) (p : Parts) (fac description : List ℕ) : Type 0 where
   ptr_found : IsFound payload (get_or known ptr None) (whole ptr (codes "DMDI" ++ replicate 4 0))
   dlfc_found : IsFound payload (get_or known dlfc None) (whole dlfc (to_be_bytes w32 p.count))
   fac_found : IsFound payload (get_or known fac_ None) (whole fac_ fac)
@@ -98,7 +98,7 @@ record AreFound (payload : List ℕ) (known : List (Option Found)) (p : Parts) (
   stream_found : (k : ℕ) → k < length p.streams → IsFound payload (get_or known (str k) None) (whole (str k) (get_or p.streams k []))
   no_stream : (k : ℕ) → k < 4 → length p.streams ≤ k → get_or known (str k) None ≡ None
 
-block_is_found : (head : List Piece) (block : Option BlockBytes) (streams : List (List ℕ)) (payload : List ℕ) → Lacks sdc_ head → Rise 0 (head ++ (block_pieces block ++ stream_pieces 0 streams))
+block_is_found : (head : List WrittenItem) (block : Option BlockBytes) (streams : List (List ℕ)) (payload : List ℕ) → Lacks sdc_ head → Rise 0 (head ++ (block_pieces block ++ stream_pieces 0 streams))
     → payload ≡ spelling (head ++ (block_pieces block ++ stream_pieces 0 streams)) → BlockFound payload (known_of (items_of (head ++ (block_pieces block ++ stream_pieces 0 streams)))) block
 block_is_found head None streams payload lacks rise is =
     known_none (head ++ stream_pieces 0 streams) sdc_ 0 (omega arith) rise (lacks_both sdc_ head (stream_pieces 0 streams) lacks (streams_lack streams 0 sdc_ (inl (omega arith))))
@@ -111,9 +111,9 @@ all_found : (p : Parts) (payload fac description : List ℕ)
     → payload ≡ spelling (head_pieces p.count fac description p.mode ++ (block_pieces p.block ++ stream_pieces 0 p.streams))
     → AreFound payload (known_of (items_of (head_pieces p.count fac description p.mode ++ (block_pieces p.block ++ stream_pieces 0 p.streams)))) p fac description
 all_found p payload fac description rise fits is =
-    let head : List Piece = head_pieces p.count fac description p.mode in
-    let rest : List Piece = block_pieces p.block ++ stream_pieces 0 p.streams in
-    let all : List Piece = head ++ rest in record {
+    let head : List WrittenItem = head_pieces p.count fac description p.mode in
+    let rest : List WrittenItem = block_pieces p.block ++ stream_pieces 0 p.streams in
+    let all : List WrittenItem = head ++ rest in record {
       ptr_found = known_piece all (whole ptr (codes "DMDI" ++ replicate 4 0)) payload 0 (omega arith) rise is (inl refl);
       dlfc_found = known_piece all (whole dlfc (to_be_bytes w32 p.count)) payload 0 (omega arith) rise is (inr ((λ same. absurd (omega arith)), inl refl));
       fac_found =
@@ -136,16 +136,16 @@ all_found p payload fac description rise fits is =
     }
 
 -- the rows of each item
-due_none : (payload : List ℕ) (known : List (Option Found)) (k bits : ℕ) (p : Piece) → IsFound payload (get_or known k None) p → p.bits ≡ bits → NoneApplies payload known (due_rows k bits)
+due_none : (payload : List ℕ) (known : List (Option ItemSpan)) (k bits : ℕ) (p : WrittenItem) → IsFound payload (get_or known k None) p → p.bits ≡ bits → NoneApplies payload known (due_rows k bits)
 due_none payload known k bits p h is = (
   (λ f x. let same : Some h.found ≡ None = sym h.there ∙ x.0 in cc),
-  ((λ f x. x.2 (ap (λ (y : Found). y.bits) (one_place known k x.0 h.found x.1 h.there) ∙ (h.bits ∙ is))), tt),
+  ((λ f x. x.2 (ap (λ (y : ItemSpan). y.bits) (one_place known k x.0 h.found x.1 h.there) ∙ (h.bits ∙ is))), tt),
 )
 
-has_bytes : (payload : List ℕ) (known : List (Option Found)) (k : ℕ) (p : Piece) → IsFound payload (get_or known k None) p → HasBytes payload known k p.value
+has_bytes : (payload : List ℕ) (known : List (Option ItemSpan)) (k : ℕ) (p : WrittenItem) → IsFound payload (get_or known k None) p → HasBytes payload known k p.value
 has_bytes payload known k p h = (h.found, h.there, h.bytes)
 
-ptr_none : (payload : List ℕ) (known : List (Option Found)) → IsFound payload (get_or known ptr None) (whole ptr (codes "DMDI" ++ replicate 4 0)) → NoneApplies payload known ptr_rows
+ptr_none : (payload : List ℕ) (known : List (Option ItemSpan)) → IsFound payload (get_or known ptr None) (whole ptr (codes "DMDI" ++ replicate 4 0)) → NoneApplies payload known ptr_rows
 ptr_none payload known h =
     let due = due_none payload known ptr 64 (whole ptr (codes "DMDI" ++ replicate 4 0)) h refl in
     let value : List ℕ = codes "DMDI" ++ replicate 4 0 in (
@@ -153,7 +153,7 @@ ptr_none payload known h =
       (due.1.0, ((λ f x. x.2 (ap (take 4) (one_value payload known ptr x.0 value x.1 (has_bytes payload known ptr (whole ptr value) h)))), tt)),
     )
 
-fac_none : (payload : List ℕ) (known : List (Option Found)) (fac : Fac) (bytes : List ℕ) → IsFound payload (get_or known fac_ None) (whole fac_ bytes) → IsFac fac bytes
+fac_none : (payload : List ℕ) (known : List (Option ItemSpan)) (fac : Fac) (bytes : List ℕ) → IsFound payload (get_or known fac_ None) (whole fac_ bytes) → IsFac fac bytes
     → (((fac.channel.msc ≡ 1) ⊎ (fac.channel.msc ≡ 2)) → ⊥) → NoneApplies payload known fac_rows
 fac_none payload known fac bytes h is plain =
     let due = due_none payload known fac_ 72 (whole fac_ bytes) h (ap (λ (n : ℕ). 8 * n) is.nine) in
@@ -178,13 +178,13 @@ sdci_right d bytes (SdciLength n) is h = h.1 (d.count, is.description.count, len
 sdci_right d bytes SdciFront is h = h.1 is.fields.1
 sdci_right d bytes cause is h = absurd h
 
-sdci_none : (payload : List ℕ) (known : List (Option Found)) (d : MuxDesc) (bytes : List ℕ) → IsFound payload (get_or known sdci None) (whole sdci bytes) → IsSdci d bytes → NoneApplies payload known sdci_rows
+sdci_none : (payload : List ℕ) (known : List (Option ItemSpan)) (d : MuxDesc) (bytes : List ℕ) → IsFound payload (get_or known sdci None) (whole sdci bytes) → IsSdci d bytes → NoneApplies payload known sdci_rows
 sdci_none payload known d bytes h is = (
   (λ f x. let same : Some h.found ≡ None = sym h.there ∙ x.0 in cc),
   (
     (λ f x.
         let same : x.0 ≡ h.found = one_place known sdci x.0 h.found x.2 h.there in
-        let moved : IsSdciFault h.found.bits (bytes_at payload h.found) x.1 = subst (λ (y : Found). IsSdciFault y.bits (bytes_at payload y) x.1) same x.3 in
+        let moved : IsSdciFault h.found.bits (bytes_at payload h.found) x.1 = subst (λ (y : ItemSpan). IsSdciFault y.bits (bytes_at payload y) x.1) same x.3 in
         let here : IsSdciFault (8 * length bytes) bytes x.1 =
         subst (λ (n : ℕ). IsSdciFault n bytes x.1) h.bits (subst (λ (l : List ℕ). IsSdciFault h.found.bits l x.1) h.bytes moved) in
         sdci_right d bytes x.1 is here),
@@ -192,7 +192,7 @@ sdci_none payload known d bytes h is = (
   ),
 )
 
-robm_none : (payload : List ℕ) (known : List (Option Found)) (mode : Mode) → IsFound payload (get_or known robm None) (whole robm (mode_code mode ∷ [])) → NoneApplies payload known robm_rows
+robm_none : (payload : List ℕ) (known : List (Option ItemSpan)) (mode : Mode) → IsFound payload (get_or known robm None) (whole robm (mode_code mode ∷ [])) → NoneApplies payload known robm_rows
 robm_none payload known mode h =
     let due = due_none payload known robm 8 (whole robm (mode_code mode ∷ [])) h refl in (
       due.0,
@@ -208,7 +208,7 @@ robm_none payload known mode h =
       ),
     )
 
-block_is : (payload : List ℕ) (o : Option Found) (b : BlockBytes) (h : IsFound payload o (block_piece b.bits b.value)) → block_bits payload h.found ≡ take b.bits (bits_of b.value)
+block_is : (payload : List ℕ) (o : Option ItemSpan) (b : BlockBytes) (h : IsFound payload o (block_piece b.bits b.value)) → block_bits payload h.found ≡ take b.bits (bits_of b.value)
 block_is payload o b h = ap (λ (n : ℕ). take n (bits_of (bytes_at payload h.found))) h.bits ∙ ap (λ (l : List ℕ). take b.bits (bits_of l)) h.bytes
 
 block_some : (b : BlockBytes) (block : Block) → length b.value ≡ bytes_for b.bits → IsBlock block (take b.bits (bits_of b.value)) → b.bits ≢ 0
@@ -216,10 +216,10 @@ block_some b block long is none =
     let count : length (take b.bits (bits_of b.value)) ≡ b.bits = length-take-le b.bits (bits_of b.value) (omega (arith, length-bits_of b.value, long)) in
     elim (framed_length block.afs is.field is.check (take b.bits (bits_of b.value)) is.framed) [ inl short ↦ absurd (omega (arith, count, short)) | inr wide ↦ absurd (omega (arith, count, wide)) ]
 
-sdc_none : (payload : List ℕ) (known : List (Option Found)) (fac : Fac) (block : Option BlockBytes) → HasFac payload known fac → BlockFound payload known block → SuitsBlock fac block
+sdc_none : (payload : List ℕ) (known : List (Option ItemSpan)) (fac : Fac) (block : Option BlockBytes) → HasFac payload known fac → BlockFound payload known block → SuitsBlock fac block
     → NoneApplies payload known sdc_rows
 sdc_none payload known fac None has none suits = (
-  (λ f x. let same : x.0 ≡ fac = one_fac_there payload known x.0 fac x.1 has in suits (subst IsFirst same x.2)),
+  (λ f x. let same : x.0 ≡ fac = one_fac_there payload known x.0 fac x.1 has in suits (subst IsFirstOfSuperFrame same x.2)),
   (
     (λ f x. let same : Some x.1 ≡ None = sym x.4 ∙ none in cc),
     ((λ f x. let same : Some x.0 ≡ None = sym x.2 ∙ none in cc), tt),
@@ -228,40 +228,40 @@ sdc_none payload known fac None has none suits = (
 sdc_none payload known fac (Some b) has h (first, fits, long, (block, is)) = (
   (λ f x. let bits : b.bits ≡ 0 = sym h.bits ∙ (sym (ap bits_there h.there) ∙ x.3) in block_some b block long is bits),
   (
-    (λ f x. let same : fac ≡ x.0 = one_fac_there payload known fac x.0 has x.2 in x.3 (subst IsFirst same first)),
+    (λ f x. let same : fac ≡ x.0 = one_fac_there payload known fac x.0 has x.2 in x.3 (subst IsFirstOfSuperFrame same first)),
     (
       (λ f x.
           let same : x.0 ≡ h.found = one_place known sdc_ x.0 h.found x.2 h.there in
-          let moved : IsBlockFault (block_bits payload h.found) x.1 = subst (λ (y : Found). IsBlockFault (block_bits payload y) x.1) same x.4 in
+          let moved : IsBlockFault (block_bits payload h.found) x.1 = subst (λ (y : ItemSpan). IsBlockFault (block_bits payload y) x.1) same x.4 in
           block_or_fault block x.1 (take b.bits (bits_of b.value)) is (subst (λ (l : List Bool). IsBlockFault l x.1) (block_is payload (get_or known sdc_ None) b h) moved)),
       tt,
     ),
   ),
 )
 
-stream_right : (payload : List ℕ) (known : List (Option Found)) (d : MuxDesc) (k : ℕ) (stream : List ℕ) → k < d.count → length stream ≡ stream_length d k
-    → IsFound payload (get_or known (str k) None) (whole (str k) stream) → IsRight known d k
+stream_right : (payload : List ℕ) (known : List (Option ItemSpan)) (d : MuxDesc) (k : ℕ) (stream : List ℕ) → k < d.count → length stream ≡ stream_length d k
+    → IsFound payload (get_or known (str k) None) (whole (str k) stream) → IsStreamWellFormed known d k
 stream_right payload known d k stream lt long h = record {
   there = λ f x. let same : Some h.found ≡ None = sym h.there ∙ x.2 in cc;
   whole = λ f x.
       let same : x.0 ≡ h.found = one_place known (str k) x.0 h.found x.1 h.there in
-      let bits : x.0.bits ≡ 8 * length stream = ap (λ (y : Found). y.bits) same ∙ h.bits in
+      let bits : x.0.bits ≡ 8 * length stream = ap (λ (y : ItemSpan). y.bits) same ∙ h.bits in
       elim x.2 [ inl odd ↦ odd.1 (omega (arith, bits)) | inr out ↦ absurd (omega (arith, out.0)) ];
   long = λ f x.
       let same : x.0 ≡ h.found = one_place known (str k) x.0 h.found x.1 h.there in
-      let bits : x.0.bits ≡ 8 * length stream = ap (λ (y : Found). y.bits) same ∙ h.bits in
+      let bits : x.0.bits ≡ 8 * length stream = ap (λ (y : ItemSpan). y.bits) same ∙ h.bits in
       let bytes : x.0.bits / 8 ≡ length stream = omega (arith, bits) in
       x.3 (bytes ∙ long);
 }
 
-other_right : (known : List (Option Found)) (d : MuxDesc) (k : ℕ) → d.count ≤ k → get_or known (str k) None ≡ None → IsRight known d k
+other_right : (known : List (Option ItemSpan)) (d : MuxDesc) (k : ℕ) → d.count ≤ k → get_or known (str k) None ≡ None → IsStreamWellFormed known d k
 other_right known d k le none = record {
   there = λ f x. absurd (omega (arith, x.0));
   whole = λ f x. let same : Some x.0 ≡ None = sym x.1 ∙ none in cc;
   long = λ f x. let same : Some x.0 ≡ None = sym x.1 ∙ none in cc;
 }
 
-right_at : (payload : List ℕ) (known : List (Option Found)) (p : Parts) (fac description : List ℕ) (k : ℕ) → k < 4 → Suit p → AreFound payload known p fac description → IsRight known p.mux k
+right_at : (payload : List ℕ) (known : List (Option ItemSpan)) (p : Parts) (fac description : List ℕ) (k : ℕ) → k < 4 → PartsSuit p → AreFound payload known p fac description → IsStreamWellFormed known p.mux k
 right_at payload known p fac description k lt suit h =
     elim (cases_lt k p.mux.count) [
       | inl below ↦ stream_right payload known p.mux k (get_or p.streams k []) below (suit.lengths k below) (h.stream_found k (omega (arith, suit.all_streams)))
@@ -269,7 +269,7 @@ right_at payload known p fac description k lt suit h =
     ]
 
 -- the block that is read
-block_read : (payload : List ℕ) (known : List (Option Found)) (fac : Fac) (block : Option BlockBytes) → BlockFound payload known block → SuitsBlock fac block
+block_read : (payload : List ℕ) (known : List (Option ItemSpan)) (fac : Fac) (block : Option BlockBytes) → BlockFound payload known block → SuitsBlock fac block
     → (span : Option SdcSpan) × IsBlockSpan payload known span × IsBlockOf payload block span
 block_read payload known fac None none suits = (None, ap bits_there none, tt)
 block_read payload known fac (Some b) h (first, fits, long, (block, is)) =
@@ -287,25 +287,25 @@ block_read payload known fac (Some b) h (first, fits, long, (block, is)) =
       (h.bits, h.bytes),
     )
 
-of_streams-at : (what : Option Found → ℕ) (known : List (Option Found)) (k : ℕ) → k < 4 → get_or (of_streams what known) k 0 ≡ what (get_or known (str k) None)
+of_streams-at : (what : Option ItemSpan → ℕ) (known : List (Option ItemSpan)) (k : ℕ) → k < 4 → get_or (of_streams what known) k 0 ≡ what (get_or known (str k) None)
 of_streams-at what known zero lt = refl
 of_streams-at what known (suc zero) lt = refl
 of_streams-at what known (suc (suc zero)) lt = refl
 of_streams-at what known (suc (suc (suc zero))) lt = refl
 of_streams-at what known (suc (suc (suc (suc k)))) lt = absurd (omega arith)
 
-stream_bytes : (payload : List ℕ) (known : List (Option Found)) (k : ℕ) (stream : List ℕ) → k < 4 → IsFound payload (get_or known (str k) None) (whole (str k) stream)
+stream_bytes : (payload : List ℕ) (known : List (Option ItemSpan)) (k : ℕ) (stream : List ℕ) → k < 4 → IsFound payload (get_or known (str k) None) (whole (str k) stream)
     → take (get_or (spans_of known).len k 0) (drop (get_or (spans_of known).at k 0) payload) ≡ stream
 stream_bytes payload known k stream lt h =
     let at : get_or (spans_of known).at k 0 ≡ h.found.at = of_streams-at place_there known k lt ∙ ap place_there h.there in
-    let bits : get_or (spans_of known).len k 0 ≡ h.found.bits / 8 = of_streams-at (λ there. bits_there there / 8) known k lt ∙ ap (λ (o : Option Found). bits_there o / 8) h.there in
+    let bits : get_or (spans_of known).len k 0 ≡ h.found.bits / 8 = of_streams-at (λ there. bits_there there / 8) known k lt ∙ ap (λ (o : Option ItemSpan). bits_there o / 8) h.there in
     let len : get_or (spans_of known).len k 0 ≡ bytes_for h.found.bits = bits ∙ omega (arith, h.bits) in
     ap (λ (n : ℕ). take n (drop (get_or (spans_of known).at k 0) payload)) len ∙ (ap (λ (n : ℕ). take (bytes_for h.found.bits) (drop n payload)) at ∙ h.bytes)
 
-is_frame : (p : Parts) (payload fac description : List ℕ) (items : List TagItem) → IsPayload items payload → AreOnce [] items → Suit p → IsFac p.fac fac → IsSdci p.mux description
+is_frame : (p : Parts) (payload fac description : List ℕ) (items : List TagItem) → IsPayload items payload → AreOnce [] items → PartsSuit p → IsFac p.fac fac → IsSdci p.mux description
     → AreFound payload (known_of items) p fac description → IsFrameOf p payload
 is_frame p payload fac description items stand once suit is_fac is_sdci h =
-    let known : List (Option Found) = known_of items in
+    let known : List (Option ItemSpan) = known_of items in
     let read = block_read payload known p.fac p.block h.block_found suit.block in
     let has_fac : HasFac payload known p.fac = (fac, has_bytes payload known fac_ (whole fac_ fac) h.fac_found, is_fac) in
     let has_sdci : HasDescription payload known p.mux = (description, has_bytes payload known sdci (whole sdci description) h.sdci_found, is_sdci) in
@@ -364,12 +364,12 @@ is_frame p payload fac description items stand once suit is_fac is_sdci h =
     }
 
 -- what is written is read again
-pub written_is_read : (p : Parts) (payload : List ℕ) → Suit p → IsWrittenOf p payload → IsFrameOf p payload
+pub written_is_read : (p : Parts) (payload : List ℕ) → PartsSuit p → IsWrittenOf p payload → IsFrameOf p payload
 written_is_read p payload suit (head, is_head, is) =
     let fac : List ℕ = is_head.fac_bytes in
     let description : List ℕ = is_head.description in
-    let front : List Piece = head_pieces p.count fac description p.mode in
-    let rest : List Piece = block_pieces p.block ++ stream_pieces 0 p.streams in
+    let front : List WrittenItem = head_pieces p.count fac description p.mode in
+    let rest : List WrittenItem = block_pieces p.block ++ stream_pieces 0 p.streams in
     let fits : length p.streams ≤ 4 = omega (arith, suit.all_streams, suit.description.count) in
     let few : (k : ℕ) → k < length p.streams → length (get_or p.streams k []) < 2 ^ 29 = λ k lt. suit.few k (omega (arith, suit.all_streams)) in
     let long : length description < 2 ^ 29 = omega (arith, length-value p.mux description is_head.is_description, suit.description.count) in

@@ -14,19 +14,19 @@ use Rattle.drm_fac.specs.declared.mode.Mode.{Mode}
 use Rattle.dcp_tag.specs.Tag.{head}
 use Rattle.mdi_items.specs.Names.{name_at, ptr, dlfc, fac_, sdci, robm, str}
 use Rattle.drm_fac.specs.Mode.{mode_code}
-use Rattle.mdi_items.specs.Written.{Piece, whole, spelled, spelling, head_pieces, stream_pieces, IsHead}
+use Rattle.mdi_items.specs.Written.{WrittenItem, whole, spelled, spelling, head_pieces, stream_pieces, AreHeadItems}
 use Rattle.mdi_items.specs.RoundTrip.{Parts, IsWrittenOf, block_pieces}
 use Rattle.mdi_items.proofs.RoundTripLemmas.{spelling-append}
 
 -- one piece more, and one stream more
-pub spelling-push : (pieces : List Piece) (p : Piece) → spelling (pieces ++ p ∷ []) ≡ spelling pieces ++ spelled p
+pub spelling-push : (pieces : List WrittenItem) (p : WrittenItem) → spelling (pieces ++ p ∷ []) ≡ spelling pieces ++ spelled p
 spelling-push pieces p = spelling-append pieces (p ∷ []) ∙ ap (λ (l : List ℕ). spelling pieces ++ l) (append-nil (spelled p))
 
 pub stream_pieces-push : (k : ℕ) (streams : List (List ℕ)) (stream : List ℕ) → stream_pieces k (streams ++ stream ∷ []) ≡ stream_pieces k streams ++ whole (str (k + length streams)) stream ∷ []
 stream_pieces-push k [] stream = let same : k ≡ k + 0 = omega arith in ap (λ (n : ℕ). whole (str n) stream ∷ []) same
 stream_pieces-push k (s ∷ streams) stream =
     let same : k + 1 + length streams ≡ k + length (s ∷ streams) = omega arith in
-    ap (λ (l : List Piece). whole (str k) s ∷ l) (stream_pieces-push (k + 1) streams stream ∙ ap (λ (n : ℕ). stream_pieces (k + 1) streams ++ whole (str n) stream ∷ []) same)
+    ap (λ (l : List WrittenItem). whole (str k) s ∷ l) (stream_pieces-push (k + 1) streams stream ∙ ap (λ (n : ℕ). stream_pieces (k + 1) streams ++ whole (str n) stream ∷ []) same)
 
 bytes_front : (front back : List ℕ) → IsBytes (front ++ back) → (k : ℕ) → get_or front k 0 < 2 ^ 8
 bytes_front [] back small k = omega arith
@@ -44,11 +44,11 @@ one_value_of d a b is is_too small small_too =
 
 description_small : (count : ℕ) (fac description : List ℕ) (mode : Mode) (bytes : List ℕ) → bytes ≡ spelling (head_pieces count fac description mode) → IsBytes bytes → IsBytes description
 description_small count fac description mode bytes is small =
-    let first : Piece = whole ptr (codes "DMDI" ++ replicate 4 0) in
-    let second : Piece = whole dlfc (to_be_bytes w32 count) in
-    let third : Piece = whole fac_ fac in
-    let fourth : Piece = whole sdci description in
-    let fifth : Piece = whole robm (mode_code mode ∷ []) in
+    let first : WrittenItem = whole ptr (codes "DMDI" ++ replicate 4 0) in
+    let second : WrittenItem = whole dlfc (to_be_bytes w32 count) in
+    let third : WrittenItem = whole fac_ fac in
+    let fourth : WrittenItem = whole sdci description in
+    let fifth : WrittenItem = whole robm (mode_code mode ∷ []) in
     let rest : List ℕ = spelled fourth ++ (spelled fifth ++ []) in
     let in_rest : IsBytes rest =
     bytes_behind (spelled third) rest
@@ -56,7 +56,7 @@ description_small count fac description mode bytes is small =
     (bytes_behind (spelled first) (spelled second ++ (spelled third ++ rest)) (subst (λ (l : List ℕ). IsBytes l) is small))) in
     bytes_behind (head (name_at sdci) fourth.bits) description (bytes_front (spelled fourth) (spelled fifth ++ []) in_rest)
 
-one_head_of : (count : ℕ) (fac : Fac) (mux : MuxDesc) (mode : Mode) (a b : List ℕ) → IsHead count fac mux mode a → IsHead count fac mux mode b → IsBytes a → IsBytes b → a ≡ b
+one_head_of : (count : ℕ) (fac : Fac) (mux : MuxDesc) (mode : Mode) (a b : List ℕ) → AreHeadItems count fac mux mode a → AreHeadItems count fac mux mode b → IsBytes a → IsBytes b → a ≡ b
 one_head_of count fac mux mode a b is is_too small small_too =
     let same_fac : is.fac_bytes ≡ is_too.fac_bytes = fac_once fac is.fac_bytes is_too.fac_bytes is.is_fac is_too.is_fac in
     let same_description : is.description ≡ is_too.description =

@@ -2,8 +2,8 @@
 use Rattle.std.specs.Prelude.{ℕ, ◌≡◌, ◌+◌, ◌<◌, ◌≤◌, nat_eq, List, [], ◌∷◌, ◌++◌, length, take, drop, map, Option, None, Some, IsSome, if◌then◌else◌}
 use Rattle.std.specs.Cmp.Lexicographic.{pointwise}
 use Rattle.drm_bits.specs.Bits.{bits_of}
-use Rattle.dcp_tag.specs.Tag.{TagItem, bytes_for, IsSpelling, IsCut}
-use Rattle.mdi_items.specs.declared.known.Found.{Found}
+use Rattle.dcp_tag.specs.Tag.{TagItem, bytes_for, IsSpelling, IsItemCut}
+use Rattle.mdi_items.specs.declared.known.ItemSpan.{ItemSpan}
 use Rattle.mdi_items.specs.declared.fault.MdiFault.{MdiFault}
 use Rattle.mdi_items.specs.declared.fault.MdiFault.TheVariants as fault
 use Rattle.mdi_items.specs.Names.{names, name_at}
@@ -18,13 +18,13 @@ total [] = 0
 total (item ∷ items) = size item + total items
 
 -- where the value of the first item of a name stands, and its bits: the items stand one after another from a byte on
-abbrev pub find_from : ℕ → List ℕ → List TagItem → Option Found
+abbrev pub find_from : ℕ → List ℕ → List TagItem → Option ItemSpan
 find_from from name [] = None
 find_from from name (item ∷ items) =
     if pointwise nat_eq item.name name then Some (record { at = from + 8; bits = length item.value }) else find_from (from + size item) name items
 
 -- One of the items has the name, and its value stands where it is found: these are its bits in the payload.
-pub record ItemStands (items : List TagItem) (name payload : List ℕ) (from : ℕ) (found : Found) : Type 0 where
+pub record ItemStands (items : List TagItem) (name payload : List ℕ) (from : ℕ) (found : ItemSpan) : Type 0 where
   pub before : List TagItem
   pub item : TagItem
   pub after : List TagItem
@@ -35,7 +35,7 @@ pub record ItemStands (items : List TagItem) (name payload : List ℕ) (from : �
   pub value : take found.bits (bits_of (take (bytes_for found.bits) (drop found.at payload))) ≡ item.value
 
 -- the known items of a payload, by the order of their names
-unfoldable pub known_of : List TagItem → List (Option Found)
+unfoldable pub known_of : List TagItem → List (Option ItemSpan)
 known_of items = map (λ name. find_from 0 name items) names
 
 -- The name is one of those that are read.
@@ -59,7 +59,7 @@ pub record BeginsWithItem (item : TagItem) (bytes rest : List ℕ) : Type 0 wher
 
 -- The next item, behind those before it, is cut, or has a known name for the second time.
 abbrev pub IsNextFault : List TagItem → List ℕ → MdiFault → Type 0
-IsNextFault before bytes (fault.Tag cut) = IsCut bytes × (cut.at ≡ total before)
+IsNextFault before bytes (fault.Tag cut) = IsItemCut bytes × (cut.at ≡ total before)
 IsNextFault before bytes (fault.Twice name) = (item : TagItem) × (rest : List ℕ) × BeginsWithItem item bytes rest × IsRepeat before item × (name ≡ item.name)
 IsNextFault before bytes _ = ⊥
 

@@ -1,7 +1,7 @@
 -- Laws of frames.
 use Rattle.std.specs.Prelude.{ℕ, ◌≡◌, List, Some}
 use Rattle.dcp_tag.specs.Tag.{TagItem, IsPayload}
-use Rattle.mdi_items.specs.declared.known.Found.{Found}
+use Rattle.mdi_items.specs.declared.known.ItemSpan.{ItemSpan}
 use Rattle.mdi_items.specs.declared.fault.MdiFault.{MdiFault}
 use Rattle.mdi_items.specs.Items.{find_from, ItemStands}
 use Rattle.mdi_items.specs.Frame.{Frame}
@@ -10,7 +10,7 @@ use Rattle.mdi_items.specs.Mdi.{IsMdi, IsMdiFault}
 -- what is found of a name is the value of an item with that name, as it stands in the payload
 abbrev pub FoundStands : Type 0
 FoundStands =
-    (payload name : List ℕ) (items : List TagItem) (found : Found) → IsPayload items payload → find_from 0 name items ≡ Some found → ItemStands items name payload 0 found
+    (payload name : List ℕ) (items : List TagItem) (found : ItemSpan) → IsPayload items payload → find_from 0 name items ≡ Some found → ItemStands items name payload 0 found
 
 -- a payload is one frame at most
 abbrev pub IsOneFrame : Type 0

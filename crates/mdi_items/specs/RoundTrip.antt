@@ -10,9 +10,9 @@ use Rattle.drm_sdc.specs.declared.block.Block.{Block}
 use Rattle.drm_sdc.specs.Block.{IsBlock}
 use Rattle.dcp_tag.specs.Tag.{bytes_for}
 use Rattle.mdi_items.specs.declared.view.SdcSpan.{SdcSpan}
-use Rattle.mdi_items.specs.Frame.{Frame, IsFirst}
+use Rattle.mdi_items.specs.Frame.{Frame, IsFirstOfSuperFrame}
 use Rattle.mdi_items.specs.Mdi.{IsMdi}
-use Rattle.mdi_items.specs.Written.{Piece, IsHead, spelling, block_piece, stream_pieces}
+use Rattle.mdi_items.specs.Written.{WrittenItem, AreHeadItems, spelling, block_piece, stream_pieces}
 
 -- the bits of a block, and its bytes
 pub record BlockBytes : Type 0 where
@@ -28,21 +28,21 @@ pub record Parts : Type 0 where
   pub block : Option BlockBytes
   pub streams : List (List ℕ)
 
-abbrev pub block_pieces : Option BlockBytes → List Piece
+abbrev pub block_pieces : Option BlockBytes → List WrittenItem
 block_pieces None = []
 block_pieces (Some block) = block_piece block.bits block.value ∷ []
 
 -- The payload is what is written of these parts: the head, the block where there is one, and the streams.
 abbrev pub IsWrittenOf : Parts → List ℕ → Type 0
-IsWrittenOf p payload = (head : List ℕ) × IsHead p.count p.fac p.mux p.mode head × (payload ≡ head ++ spelling (block_pieces p.block ++ stream_pieces 0 p.streams))
+IsWrittenOf p payload = (head : List ℕ) × AreHeadItems p.count p.fac p.mux p.mode head × (payload ≡ head ++ spelling (block_pieces p.block ++ stream_pieces 0 p.streams))
 
 -- The first frame of a super frame has a block, and no other one.
 abbrev pub SuitsBlock : Fac → Option BlockBytes → Type 0
-SuitsBlock fac None = ¬ IsFirst fac
-SuitsBlock fac (Some b) = IsFirst fac × (b.bits < 2 ^ 32) × (length b.value ≡ bytes_for b.bits) × ((block : Block) × IsBlock block (take b.bits (bits_of b.value)))
+SuitsBlock fac None = ¬ IsFirstOfSuperFrame fac
+SuitsBlock fac (Some b) = IsFirstOfSuperFrame fac × (b.bits < 2 ^ 32) × (length b.value ≡ bytes_for b.bits) × ((block : Block) × IsBlock block (take b.bits (bits_of b.value)))
 
 -- The parts are those of a frame.
-pub record Suit (p : Parts) : Type 0 where
+pub record PartsSuit (p : Parts) : Type 0 where
   pub count : p.count < 2 ^ 32
   pub not_hierarchical : ¬ ((p.fac.channel.msc ≡ 1) ⊎ (p.fac.channel.msc ≡ 2))
   pub description : IsDescription p.mux
@@ -72,7 +72,7 @@ pub record IsFrameOf (p : Parts) (payload : List ℕ) : Type 0 where
 
 -- what is written of parts that suit is read again as these
 abbrev pub WrittenIsRead : Type 0
-WrittenIsRead = (p : Parts) (payload : List ℕ) → Suit p → IsWrittenOf p payload → IsFrameOf p payload
+WrittenIsRead = (p : Parts) (payload : List ℕ) → PartsSuit p → IsWrittenOf p payload → IsFrameOf p payload
 
 -- bytes that are written of parts are determined: no others are
 abbrev pub HasOneSpelling : Type 0

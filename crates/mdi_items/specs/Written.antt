@@ -13,30 +13,30 @@ use Rattle.mdi_items.specs.declared.writer.MdiWriter.{MdiWriter}
 use Rattle.mdi_items.specs.Names.{name_at, ptr, dlfc, fac_, sdci, robm, sdc_, str}
 
 -- an item that is written: the place of its name in the order, its bits, and the bytes that have them and then zeros
-pub record Piece : Type 0 where
+pub record WrittenItem : Type 0 where
   pub place : ℕ
   pub bits : ℕ
   pub value : List ℕ
 
 -- an item of whole bytes
-abbrev pub whole : ℕ → List ℕ → Piece
+abbrev pub whole : ℕ → List ℕ → WrittenItem
 whole place value = record { place = place; bits = 8 * length value; value = value }
 
-abbrev pub spelled : Piece → List ℕ
+abbrev pub spelled : WrittenItem → List ℕ
 spelled p = head (name_at p.place) p.bits ++ p.value
 
 -- the pieces, one after another, and the items that they are
-abbrev pub spelling : List Piece → List ℕ
+abbrev pub spelling : List WrittenItem → List ℕ
 spelling [] = []
 spelling (p ∷ pieces) = spelled p ++ spelling pieces
 
 -- the five items that each frame has; the revision of the protocol is 0.0
-abbrev pub head_pieces : ℕ → List ℕ → List ℕ → Mode → List Piece
+abbrev pub head_pieces : ℕ → List ℕ → List ℕ → Mode → List WrittenItem
 head_pieces count fac description mode =
     whole ptr (codes "DMDI" ++ replicate 4 0) ∷ whole dlfc (to_be_bytes w32 count) ∷ whole fac_ fac ∷ whole sdci description ∷ whole robm (mode_code mode ∷ []) ∷ []
 
 -- The bytes are the five items of these values.
-pub record IsHead (count : ℕ) (fac : Fac) (mux : MuxDesc) (mode : Mode) (bytes : List ℕ) : Type 0 where
+pub record AreHeadItems (count : ℕ) (fac : Fac) (mux : MuxDesc) (mode : Mode) (bytes : List ℕ) : Type 0 where
   pub fac_bytes : List ℕ
   pub description : List ℕ
   pub is_fac : IsFac fac fac_bytes
@@ -44,10 +44,10 @@ pub record IsHead (count : ℕ) (fac : Fac) (mux : MuxDesc) (mode : Mode) (bytes
   pub are : bytes ≡ spelling (head_pieces count fac_bytes description mode)
 
 -- the SDC block, and the streams from the k-th on
-abbrev pub block_piece : ℕ → List ℕ → Piece
+abbrev pub block_piece : ℕ → List ℕ → WrittenItem
 block_piece bits value = record { place = sdc_; bits = bits; value = value }
 
-abbrev pub stream_pieces : ℕ → List (List ℕ) → List Piece
+abbrev pub stream_pieces : ℕ → List (List ℕ) → List WrittenItem
 stream_pieces k [] = []
 stream_pieces k (stream ∷ streams) = whole (str k) stream ∷ stream_pieces (k + 1) streams
 

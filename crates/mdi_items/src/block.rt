@@ -1,10 +1,10 @@
 //! The SDC block of a frame.
 
 ghost use Rattle.std.specs.Prelude.{◌≡◌, ◌≢◌, ◌↔◌, Some, length, OnOk, IfOk, IfErr, IfSome, IfNone, IsTrue};
-ghost use Rattle.mdi_items.specs.Frame.{AreInside, IsBlockSpan, IsFirst, bits_there};
+ghost use Rattle.mdi_items.specs.Frame.{AreInside, IsBlockSpan, IsFirstOfSuperFrame, bits_there};
 ghost use Rattle.mdi_items.specs.Table.{NoneApplies, IsFirstFault, HasFac, sdc_rows};
 
-use crate::known::{Found, Known};
+use crate::known::{ItemSpan, KnownItems};
 use crate::names::{SDC, name_at};
 use crate::value::bytes_at;
 use crate::{MdiFault, SdcSpan};
@@ -14,7 +14,7 @@ use drm_sdc::check_block;
 /// The block out of `sdc_`, which the first frame of a super frame has and no other one.
 pub(crate) fn read_block_span(
     payload: &[u8],
-    known: &Known,
+    known: &KnownItems,
     fac: &Fac,
 ) -> Result<Option<SdcSpan>, MdiFault>
     requires inside { AreInside (length payload.now) known.now }
@@ -45,13 +45,13 @@ pub(crate) fn read_block_span(
 
 // Whether the frame is the first one of its super frame.
 fn is_first(fac: &Fac) -> bool
-    ensures { IsTrue result ↔ IsFirst fac.now }
+    ensures { IsTrue result ↔ IsFirstOfSuperFrame fac.now }
 {
     fac.channel.identity == 0 || fac.channel.identity == 3
 }
 
 // The item, where it is there and has bits.
-fn with_bits(there: Option<Found>) -> Option<Found>
+fn with_bits(there: Option<ItemSpan>) -> Option<ItemSpan>
     ensures found { IfSome result (λ found. (there ≡ Some found) × (found.bits ≢ 0)) }
     ensures none { IfNone result (bits_there there ≡ 0) }
 {

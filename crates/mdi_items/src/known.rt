@@ -13,7 +13,7 @@ use dcp_tag::Items;
 
 /// Where the value of an item stands in the payload.
 #[derive(Clone, Copy, Debug, PartialEq, Eq)]
-pub(crate) struct Found {
+pub(crate) struct ItemSpan {
     /// Its first byte.
     pub at: usize,
     /// Its length in bits.
@@ -21,10 +21,10 @@ pub(crate) struct Found {
 }
 
 /// The known items, where they are there, in the order of their names.
-pub(crate) type Known = [Option<Found>; 10];
+pub(crate) type KnownItems = [Option<ItemSpan>; 10];
 
 /// Finds the known items, or the first fault of the items in their order.
-pub(crate) fn gather(payload: &[u8]) -> Result<Known, MdiFault>
+pub(crate) fn gather(payload: &[u8]) -> Result<KnownItems, MdiFault>
     ensures known { IfOk result (λ known. (items : List TagItem) × AreItems items payload.now × (known ≡ known_of items)) }
     ensures inside { IfOk result (AreInside (length payload.now)) }
     ensures fault { IfErr result (λ f. (items : List TagItem) × AreThenFault [] items payload.now f) }
@@ -34,7 +34,7 @@ pub(crate) fn gather(payload: &[u8]) -> Result<Known, MdiFault>
     loop {
         match items.next_item() {
             Ok(Some(item)) => {
-                let found = Found {
+                let found = ItemSpan {
                     at: item.at,
                     bits: item.bits,
                 };
@@ -47,7 +47,7 @@ pub(crate) fn gather(payload: &[u8]) -> Result<Known, MdiFault>
 }
 
 // Keeps where an item stands, if its name is known.
-fn note(known: &mut Known, name: [u8; 4], found: Found) -> Result<(), MdiFault>
+fn note(known: &mut KnownItems, name: [u8; 4], found: ItemSpan) -> Result<(), MdiFault>
     ensures noted { OnOk result (NotesItem name found known.old known.new) }
     ensures twice { IfErr result (IsNoted name known.old) }
     ensures unchanged { OnErr result (known.new ≡ known.old) }

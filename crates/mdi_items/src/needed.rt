@@ -10,14 +10,14 @@ ghost use Rattle.mdi_items.specs.Frame.{AreInside, HasBytes};
 ghost use Rattle.mdi_items.specs.Table.{NoneApplies, IsFirstFault, HasDescription, ptr_rows, dlfc_rows, fac_rows, sdci_rows, robm_rows};
 
 use crate::MdiFault;
-use crate::known::Known;
+use crate::known::KnownItems;
 use crate::names::{DLFC, FAC, PTR, ROBM, SDCI};
 use crate::value::{bytes_at, bytes_of, find};
 use drm_fac::{Fac, Mode, decode};
 use drm_mux::{MuxDesc, read_sdci};
 
 /// The major and the minor revision of the protocol, out of `*ptr`.
-pub(crate) fn read_revision(payload: &[u8], known: &Known) -> Result<(u16, u16), MdiFault>
+pub(crate) fn read_revision(payload: &[u8], known: &KnownItems) -> Result<(u16, u16), MdiFault>
     requires { AreInside (length payload.now) known.now }
     ensures value { IfOk result (λ r. (bytes : List ℕ) × HasBytes payload.now known.now ptr bytes
         × (r.0 ≡ from_be_bytes w16 (slice_range bytes 4 6)) × (r.1 ≡ from_be_bytes w16 (slice_range bytes 6 8))) }
@@ -50,7 +50,7 @@ fn revision(bytes: &[u8]) -> (u16, u16)
 }
 
 /// The count of the logical frame, out of `dlfc`.
-pub(crate) fn read_count(payload: &[u8], known: &Known) -> Result<u32, MdiFault>
+pub(crate) fn read_count(payload: &[u8], known: &KnownItems) -> Result<u32, MdiFault>
     requires { AreInside (length payload.now) known.now }
     ensures value { IfOk result (λ n. (bytes : List ℕ) × HasBytes payload.now known.now dlfc bytes × (n ≡ from_be_bytes w32 bytes)) }
     ensures right { OnOk result (NoneApplies payload.now known.now dlfc_rows) }
@@ -61,7 +61,7 @@ pub(crate) fn read_count(payload: &[u8], known: &Known) -> Result<u32, MdiFault>
 }
 
 /// The FAC and its bytes, out of `fac_`, which must not be of hierarchical modulation.
-pub(crate) fn read_fac(payload: &[u8], known: &Known) -> Result<([u8; 9], Fac), MdiFault>
+pub(crate) fn read_fac(payload: &[u8], known: &KnownItems) -> Result<([u8; 9], Fac), MdiFault>
     requires { AreInside (length payload.now) known.now }
     ensures bytes { IfOk result (λ r. HasBytes payload.now known.now fac_ r.0) }
     ensures fac { IfOk result (λ r. IsFac r.1 r.0) }
@@ -91,7 +91,7 @@ fn nine(bytes: &[u8]) -> [u8; 9]
 }
 
 /// The multiplex description, out of `sdci`.
-pub(crate) fn read_description(payload: &[u8], known: &Known) -> Result<MuxDesc, MdiFault>
+pub(crate) fn read_description(payload: &[u8], known: &KnownItems) -> Result<MuxDesc, MdiFault>
     requires { AreInside (length payload.now) known.now }
     ensures value { IfOk result (HasDescription payload.now known.now) }
     ensures fits { IfOk result FitsWidths }
@@ -106,7 +106,7 @@ pub(crate) fn read_description(payload: &[u8], known: &Known) -> Result<MuxDesc,
 }
 
 /// The robustness mode, out of `robm`.
-pub(crate) fn read_mode(payload: &[u8], known: &Known) -> Result<Mode, MdiFault>
+pub(crate) fn read_mode(payload: &[u8], known: &KnownItems) -> Result<Mode, MdiFault>
     requires { AreInside (length payload.now) known.now }
     ensures value { IfOk result (λ mode. HasBytes payload.now known.now robm (mode_code mode ∷ [])) }
     ensures right { OnOk result (NoneApplies payload.now known.now robm_rows) }

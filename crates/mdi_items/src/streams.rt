@@ -4,15 +4,15 @@ ghost use Rattle.std.specs.Prelude.{◌≡◌, ◌<◌, ◌/◌, ◌%◌, ◌⊎
 ghost use Rattle.drm_bits.specs.Description.{IsDescription};
 ghost use Rattle.drm_mux.specs.Frame.{part_length};
 ghost use Rattle.mdi_items.specs.Frame.{spans_of, place_there, bits_there};
-ghost use Rattle.mdi_items.specs.Streams.{IsRight, IsStreamFault, AreRight, IsStreamsFault};
+ghost use Rattle.mdi_items.specs.Streams.{IsStreamWellFormed, IsStreamFault, AreRight, IsStreamsFault};
 
 use crate::MdiFault;
-use crate::known::{Found, Known};
+use crate::known::{ItemSpan, KnownItems};
 use crate::names::{STREAMS, name_at};
 use drm_mux::{MuxDesc, MuxFault, Part, Spans};
 
 /// Whether each stream has what is described, and none has more.
-pub(crate) fn check_streams(known: &Known, mux: &MuxDesc) -> Result<(), MdiFault>
+pub(crate) fn check_streams(known: &KnownItems, mux: &MuxDesc) -> Result<(), MdiFault>
     requires { IsDescription mux.now }
     ensures right { OnOk result (AreRight known.now mux.now) }
     ensures fault { IfErr result (IsStreamsFault known.now mux.now) }
@@ -23,10 +23,10 @@ pub(crate) fn check_streams(known: &Known, mux: &MuxDesc) -> Result<(), MdiFault
     check_stream(known, mux, 3)
 }
 
-fn check_stream(known: &Known, mux: &MuxDesc, stream: u8) -> Result<(), MdiFault>
+fn check_stream(known: &KnownItems, mux: &MuxDesc, stream: u8) -> Result<(), MdiFault>
     requires stream { stream < 4 }
     requires description { IsDescription mux.now }
-    ensures right { OnOk result (IsRight known.now mux.now stream) }
+    ensures right { OnOk result (IsStreamWellFormed known.now mux.now stream) }
     ensures fault { IfErr result (IsStreamFault known.now mux.now stream) }
 {
     let k = usize::from(stream);
@@ -61,7 +61,7 @@ fn part_length(part: Part) -> usize
 }
 
 // Where the streams stand.
-pub(crate) fn spans(known: &Known) -> Spans
+pub(crate) fn spans(known: &KnownItems) -> Spans
     ensures { result ≡ spans_of known.now }
 {
     Spans {
@@ -91,7 +91,7 @@ fn may_have(described: bool, bits: u32) -> bool
     }
 }
 
-fn place_there(there: Option<Found>) -> usize
+fn place_there(there: Option<ItemSpan>) -> usize
     ensures { result ≡ place_there there }
 {
     match there {
@@ -100,7 +100,7 @@ fn place_there(there: Option<Found>) -> usize
     }
 }
 
-fn bytes_there(there: Option<Found>) -> usize
+fn bytes_there(there: Option<ItemSpan>) -> usize
     ensures { result ≡ bits_there there / 8 }
 {
     match there {

@@ -7,11 +7,11 @@ ghost use Rattle.mdi_items.specs.Frame.{AreInside, HasBytes, IsAt, bytes_at};
 ghost use Rattle.mdi_items.specs.Table.{NoneApplies, IsFirstFault, due_rows};
 
 use crate::MdiFault;
-use crate::known::{Found, Known};
+use crate::known::{ItemSpan, KnownItems};
 use crate::names::name_at;
 
 /// The bytes of a value, its padding bits included.
-pub(crate) fn bytes_at(payload: &[u8], found: Found) -> &[u8]
+pub(crate) fn bytes_at(payload: &[u8], found: ItemSpan) -> &[u8]
     requires { found.at + bytes_for found.bits ≤ length payload.now }
     ensures value { result.now ≡ bytes_at payload.now found }
     ensures size { length result.now ≡ bytes_for found.bits }
@@ -21,7 +21,7 @@ pub(crate) fn bytes_at(payload: &[u8], found: Found) -> &[u8]
 }
 
 /// Where an item stands that each frame has.
-pub(crate) fn find(known: &Known, place: usize) -> Result<Found, MdiFault>
+pub(crate) fn find(known: &KnownItems, place: usize) -> Result<ItemSpan, MdiFault>
     requires { place < 10 }
     ensures found { IfOk result (IsAt known.now place) }
     ensures absent { IfErr result (λ f. (slice_index_or known.now place None ≡ None) × (f ≡ MdiFault.Absent (name_at place))) }
@@ -37,7 +37,7 @@ pub(crate) fn find(known: &Known, place: usize) -> Result<Found, MdiFault>
 /// The bytes of an item that each frame has, always with so many bits.
 pub(crate) fn bytes_of<'a>(
     payload: &'a [u8],
-    known: &Known,
+    known: &KnownItems,
     place: usize,
     bits: u32,
 ) -> Result<&'a [u8], MdiFault>

@@ -23,7 +23,7 @@ pub struct MdiWriter<'a> {
 }
 
 impl<'a> MdiWriter<'a> {
-    ghost use Rattle.mdi_items.specs.Written.{written, behind, next, lender, spelled, whole, block_piece, IsHead, head_length};
+    ghost use Rattle.mdi_items.specs.Written.{written, behind, next, lender, spelled, whole, block_piece, AreHeadItems, head_length};
 
     /// A writer into these bytes, which has written nothing.
     pub fn new(into: &'a mut [u8]) -> MdiWriter<'a>
@@ -54,7 +54,7 @@ impl<'a> MdiWriter<'a> {
         requires description { IsDescription mux.now }
         requires widths { FitsWidths mux.now }
         requires room { head_length mux.now.count ≤ length (behind self.old) }
-        ensures written { IsHead dlfc fac.now mux.now mode (written self.new) }
+        ensures written { AreHeadItems dlfc fac.now mux.now mode (written self.new) }
         ensures behind { behind self.new ≡ drop (head_length mux.now.count) (behind self.old) }
         ensures next { next self.new ≡ robm + 1 }
         ensures same_reference { lender self.new ≡ lender self.old }

@@ -11,7 +11,7 @@ use Rattle.mdi_items.specs.declared.fault.MdiFault.{MdiFault}
 use Rattle.mdi_items.specs.declared.fault.MdiFault.TheVariants as mdi
 use Rattle.mdi_items.specs.Items.{AreThenFault, IsNextFault, known_of}
 use Rattle.mdi_items.specs.Mdi.{IsMdiFault}
-use Rattle.mdi_items.specs.Table.{Row, Absent, OtherLength, OtherProtocol, NoFac, Hierarchical, NoDescription, NoMode, BlockAbsent, BlockOutOfPlace, NoBlock, StreamAbsent, StreamBits, StreamOtherLength, RowApplies, IsFirstFault, table}
+use Rattle.mdi_items.specs.Table.{FaultRow, Absent, OtherLength, OtherProtocol, NoFac, Hierarchical, NoDescription, NoMode, BlockAbsent, BlockOutOfPlace, NoBlock, StreamAbsent, StreamBits, StreamOtherLength, RowApplies, IsFirstFault, table}
 use Rattle.mod_feed.specs.declared.item.BadFault.{BadFault}
 use Rattle.mod_feed.specs.declared.item.BadFault.TheVariants.{Code, Af, Mdi}
 use Rattle.mod_feed.specs.Items.{CarriesNone, IsOfReading}
@@ -37,7 +37,7 @@ of_block bits (sdc.BodyLength at kind len) h = tt
 of_block bits (sdc.LabelText at) h = tt
 of_block bits sdc.NoMemory h = h
 
-of_row : (payload : List ℕ) (items : List TagItem) (row : Row) (f : MdiFault) → RowApplies payload (known_of items) row f → Reads f
+of_row : (payload : List ℕ) (items : List TagItem) (row : FaultRow) (f : MdiFault) → RowApplies payload (known_of items) row f → Reads f
 of_row payload items (Absent k) f h = as_that f _ h.1 tt
 of_row payload items (OtherLength k bits) f h = as_that f _ h.3 tt
 of_row payload items OtherProtocol f h = as_that f _ h.3 tt
@@ -52,7 +52,7 @@ of_row payload items (StreamAbsent k) f h = as_that f _ h.2.3 tt
 of_row payload items (StreamBits k) f h = as_that f _ h.2.3 tt
 of_row payload items (StreamOtherLength k) f h = as_that f _ h.2.4 tt
 
-of_rows : (payload : List ℕ) (items : List TagItem) (rows : List Row) (f : MdiFault) → IsFirstFault payload (known_of items) rows f → Reads f
+of_rows : (payload : List ℕ) (items : List TagItem) (rows : List FaultRow) (f : MdiFault) → IsFirstFault payload (known_of items) rows f → Reads f
 of_rows payload items [] f h = absurd h
 of_rows payload items (row ∷ rows) f (inl h) = of_row payload items row f h
 of_rows payload items (row ∷ rows) f (inr h) = of_rows payload items rows f h.1

@@ -2,7 +2,7 @@
 use Rattle.std.specs.Prelude.{ℕ, ◌≡◌, List, Option, Some, None, nat_eq, if◌then◌else◌}
 use Rattle.dcp_af.specs.Packet.{AfPacket, IsAf}
 use Rattle.dcp_af.specs.Faults.{IsFault}
-use Rattle.dcp_collect.specs.Runs.{Item as Given, Packet, Lost, Damaged}
+use Rattle.dcp_collect.specs.Runs.{CollectorItem as Given, Packet, Lost, Damaged}
 use Rattle.drm_reconfiguration.specs.declared.seen.Seen.{Seen}
 use Rattle.drm_reconfiguration.specs.Seen.{signature_of}
 use Rattle.mdi_items.specs.Frame.{Frame as MdiFrame, frame_of}
@@ -17,12 +17,12 @@ use Rattle.drm_mux.specs.declared.fault.MuxFault.TheVariants as mux
 use Rattle.drm_sdc.specs.declared.fault.SdcFault.TheVariants as sdc
 
 -- an item as data: a frame with the payload that it stands in, or what is said in its place
-pub data Item : Type 0 where
-  Frame : (index : ℕ) (frame : MdiFrame) (payload : List ℕ) → Item
-  Missing : (index had total : ℕ) → Item
-  Bad : (index : ℕ) (fault : BadFault) → Item
+pub data FrameItem : Type 0 where
+  Frame : (index : ℕ) (frame : MdiFrame) (payload : List ℕ) → FrameItem
+  Missing : (index had total : ℕ) → FrameItem
+  Bad : (index : ℕ) (fault : BadFault) → FrameItem
 
-abbrev pub item_of : FeedItem → Item
+abbrev pub item_of : FeedItem → FrameItem
 item_of (feed.Frame index view) = Frame index (frame_of view) view.payload.now
 item_of (feed.Missing index had total) = Missing index had total
 item_of (feed.Bad index fault) = Bad index fault
@@ -38,7 +38,7 @@ CarriesNone (Af fault) bytes = IsFault fault bytes
 CarriesNone (Mdi fault) bytes = (af : AfPacket) × IsAf af bytes × IsMdiFault af.payload fault
 
 -- what a collector gives has this item
-abbrev pub IsItemOf : Given → Item → Type 0
+abbrev pub IsItemOf : Given → FrameItem → Type 0
 IsItemOf (Packet index bytes) (Frame q frame payload) = (q ≡ index) × CarriesFrame frame payload bytes
 IsItemOf (Packet index bytes) (Bad q fault) = (q ≡ index) × CarriesNone fault bytes
 IsItemOf (Lost index had total) (Missing q some all) = (q ≡ index) × (some ≡ had) × (all ≡ total)
@@ -64,7 +64,7 @@ shown_by frame = record {
 }
 
 -- what is seen in an item
-abbrev pub seen_in : Item → Option Seen
+abbrev pub seen_in : FrameItem → Option Seen
 seen_in (Frame index frame payload) = Some (shown_by frame)
 seen_in item = None
 
@@ -75,7 +75,7 @@ IsOfReading (Mdi (mdi.Sdc sdc.NoMemory)) = ⊥
 IsOfReading fault = Unit {0}
 
 -- What reading gives: a frame whose pieces can be lent out of its payload, or a fault that reading can meet.
-abbrev pub IsRead : FeedItem → Type 0
-IsRead (feed.Frame index view) = IsWholeView view
-IsRead (feed.Missing index had total) = Unit {0}
-IsRead (feed.Bad index fault) = IsOfReading fault
+abbrev pub IsReadItem : FeedItem → Type 0
+IsReadItem (feed.Frame index view) = IsWholeView view
+IsReadItem (feed.Missing index had total) = Unit {0}
+IsReadItem (feed.Bad index fault) = IsOfReading fault

@@ -3,8 +3,8 @@
 ghost use Rattle.std.specs.Prelude.{◌≡◌, ◌+◌};
 ghost use Rattle.drm_reconfiguration.specs.Tracker.{new_tracker, answered, stepped};
 ghost use Rattle.dcp_collect.specs.View.{item_of as given_of};
-ghost use Rattle.mod_feed.specs.Feeding.{IsNext};
-ghost use Rattle.mod_feed.specs.Items.{Item, item_of, IsItemOf, seen_in, IsRead};
+ghost use Rattle.mod_feed.specs.Feeding.{IsNextOut};
+ghost use Rattle.mod_feed.specs.Items.{FrameItem, item_of, IsItemOf, seen_in, IsReadItem};
 
 use crate::FeedItem;
 use crate::read::read_item;
@@ -46,16 +46,16 @@ impl Feed {
 
     /// Gives the item of what a collector gives, and what stands before it. A frame is lent out of the packet.
     pub fn step<'a>(&mut self, out: Out<'a>) -> Step<'a>
-        requires { IsNext self.old out }
+        requires { IsNextOut self.old out }
         // The item is that of what a collector gives, and there is no other.
         ensures item { IsItemOf (given_of out.entry) (item_of result.item) }
-        ensures only { (item : Item) → IsItemOf (given_of out.entry) item → item_of result.item ≡ item }
+        ensures only { (item : FrameItem) → IsItemOf (given_of out.entry) item → item_of result.item ≡ item }
         // What stands before it, and what is known afterwards, is by what is seen in it.
         ensures before { result.before ≡ answered self.old (seen_in (item_of result.item)) }
         ensures after { self.new ≡ stepped self.old (seen_in (item_of result.item)) }
         ensures counted { self.new.calls ≡ self.old.calls + 1 }
         // The pieces of a frame can be lent out of its payload, and a fault is one that reading can meet.
-        ensures read { IsRead result.item }
+        ensures read { IsReadItem result.item }
     {
         let item = read_item(out);
         let before = self.tracker.step(seen_in(&item));

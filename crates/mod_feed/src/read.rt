@@ -5,7 +5,7 @@ ghost use Rattle.dcp_af.specs.Packet.{AfPacket, IsAf};
 ghost use Rattle.dcp_collect.specs.WholePackets.{IsAfIfWhole};
 ghost use Rattle.dcp_collect.specs.View.{item_of as given_of};
 ghost use Rattle.dcp_collect.specs.Runs.{Packet};
-ghost use Rattle.mod_feed.specs.Items.{item_of, CarriesNone, IsItemOf, IsRead};
+ghost use Rattle.mod_feed.specs.Items.{item_of, CarriesNone, IsItemOf, IsReadItem};
 
 use crate::{BadFault, FeedItem};
 use dcp_af::{payload_of, read_af};
@@ -16,7 +16,7 @@ use mdi_items::read_mdi;
 pub(crate) fn read_item<'a>(out: Out<'a>) -> FeedItem<'a>
     requires { IsAfIfWhole out }
     ensures item { IsItemOf (given_of out.entry) (item_of result) }
-    ensures read { IsRead result }
+    ensures read { IsReadItem result }
 {
     match out {
         Out::Packet {
@@ -39,7 +39,7 @@ pub(crate) fn read_item<'a>(out: Out<'a>) -> FeedItem<'a>
 fn item_of_payload(index: u64, payload: &[u8]) -> FeedItem<'_>
     ensures item { (packet : List ℕ) → (af : AfPacket) → IsAf af packet → af.payload ≡ payload.now
         → IsItemOf (Packet index packet) (item_of result) }
-    ensures read { IsRead result }
+    ensures read { IsReadItem result }
 {
     match read_mdi(payload) {
         Ok(view) => FeedItem::Frame { index, view },

@@ -2,17 +2,17 @@
 
 ghost use Rattle.std.specs.Prelude.{◌≡◌, ◌<◌};
 ghost use Rattle.std.specs.Option.{ForSome};
-ghost use Rattle.drm_reconfiguration.specs.Seen.{IsInRange};
-ghost use Rattle.mod_feed.specs.Items.{item_of, position_of, seen_in, IsRead};
+ghost use Rattle.drm_reconfiguration.specs.Seen.{IsSeenInRange};
+ghost use Rattle.mod_feed.specs.Items.{item_of, position_of, seen_in, IsReadItem};
 
 use crate::FeedItem;
 use drm_reconfiguration::{Seen, Signature};
 
 /// What is seen in an item: nothing where it is no frame.
 pub(crate) fn seen_in(item: &FeedItem<'_>) -> Option<Seen>
-    requires { IsRead item.now }
+    requires { IsReadItem item.now }
     ensures value { result ≡ seen_in (item_of item.now) }
-    ensures range { ForSome result IsInRange }
+    ensures range { ForSome result IsSeenInRange }
 {
     let FeedItem::Frame { view, .. } = item else {
         return None;

@@ -7,11 +7,11 @@ use Rattle.drm_schedule.specs.declared.invalid.Reason.{Reason}
 use Rattle.drm_schedule.specs.declared.invalid.Reason.TheVariants.{Number, Range}
 use Rattle.plan_grammar.specs.declared.line.Line.{Line}
 use Rattle.text_lines.specs.Numbers.{is_number}
-use Rattle.plan_grammar.specs.Shape.{Part, shape, reading, value, number}
+use Rattle.plan_grammar.specs.LineShape.{WordCheck, shape, reading, value, number}
 use Rattle.plan_grammar.specs.Asked.{asked, fault, are_within, AreSmall}
 
 -- each word is a number of its range, and this follows
-abbrev pub then_part : List (Bor (List ℕ)) → List (ℕ × ℕ) → Part → List Part
+abbrev pub then_part : List (Bor (List ℕ)) → List (ℕ × ℕ) → WordCheck → List WordCheck
 then_part (w ∷ ws) (r ∷ rs) part = number r.0 r.1 w.now ∷ then_part ws rs part
 then_part _ _ part = part ∷ []
 
@@ -64,17 +64,17 @@ known_part (w ∷ ws) (r ∷ rs) spelled ranged rest is same = rw (known_part ws
 pub fault_read : (ws : List (Bor (List ℕ))) (rs : List (ℕ × ℕ)) (spelled ranged rest : Bool) (says : Line) (reason : Reason) → spelled ≡ true → rest ≡ ranged → fault (asked ws rs rest) ≡ Some reason
     → reading (shape (then_part ws rs (record { is_spelled = spelled; in_range = ranged })) says) ≡ Err reason
 fault_read ws rs spelled ranged rest says reason is same found =
-    subst (λ (parts : List Part). reading (shape parts says) ≡ Err reason) (known_part ws rs spelled ranged rest is same) (rw found refl)
+    subst (λ (parts : List WordCheck). reading (shape parts says) ≡ Err reason) (known_part ws rs spelled ranged rest is same) (rw found refl)
 
 -- or says what it says
 pub said_read : (ws : List (Bor (List ℕ))) (rs : List (ℕ × ℕ)) (spelled ranged rest : Bool) (says line : Line) → spelled ≡ true → rest ≡ ranged → fault (asked ws rs rest) ≡ None → says ≡ line
     → reading (shape (then_part ws rs (record { is_spelled = spelled; in_range = ranged })) says) ≡ Ok line
 said_read ws rs spelled ranged rest says line is same found means =
-    subst (λ (parts : List Part). reading (shape parts says) ≡ Ok line) (known_part ws rs spelled ranged rest is same) (rw (found, means) refl)
+    subst (λ (parts : List WordCheck). reading (shape parts says) ≡ Ok line) (known_part ws rs spelled ranged rest is same) (rw (found, means) refl)
 
 -- a line that begins with one part that is spelled and in any range, before numbers
-pub fault_behind : (spelled : Bool) (parts : List Part) (says : Line) (reason : Reason) → spelled ≡ true → fault parts ≡ Some reason → reading (shape (record { is_spelled = spelled; in_range = true } ∷ parts) says) ≡ Err reason
+pub fault_behind : (spelled : Bool) (parts : List WordCheck) (says : Line) (reason : Reason) → spelled ≡ true → fault parts ≡ Some reason → reading (shape (record { is_spelled = spelled; in_range = true } ∷ parts) says) ≡ Err reason
 fault_behind spelled parts says reason is found = rw (is, found) refl
 
-pub said_behind : (spelled : Bool) (parts : List Part) (says line : Line) → spelled ≡ true → fault parts ≡ None → says ≡ line → reading (shape (record { is_spelled = spelled; in_range = true } ∷ parts) says) ≡ Ok line
+pub said_behind : (spelled : Bool) (parts : List WordCheck) (says line : Line) → spelled ≡ true → fault parts ≡ None → says ≡ line → reading (shape (record { is_spelled = spelled; in_range = true } ∷ parts) says) ≡ Ok line
 said_behind spelled parts says line is found means = rw (is, found, means) refl

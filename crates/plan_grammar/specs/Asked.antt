@@ -4,15 +4,15 @@ use Rattle.std.specs.Borrow.{Bor}
 use Rattle.std.specs.List.{list_all}
 use Rattle.drm_schedule.specs.declared.invalid.Reason.{Reason}
 use Rattle.drm_schedule.specs.declared.invalid.Reason.TheVariants.{Number, Range}
-use Rattle.plan_grammar.specs.Shape.{Part, number, first_row}
+use Rattle.plan_grammar.specs.LineShape.{WordCheck, number, first_row}
 
 -- each word is a number of its range, and all that follows is spelled
-abbrev pub asked : List (Bor (List ℕ)) → List (ℕ × ℕ) → Bool → List Part
+abbrev pub asked : List (Bor (List ℕ)) → List (ℕ × ℕ) → Bool → List WordCheck
 asked (w ∷ ws) (r ∷ rs) rest = number r.0 r.1 w.now ∷ asked ws rs rest
 asked _ _ rest = record { is_spelled = true; in_range = rest } ∷ []
 
 -- the first fault of a line of the right words, if any
-abbrev pub fault : List Part → Option Reason
+abbrev pub fault : List WordCheck → Option Reason
 fault parts = first_row ((not (list_all (λ p. p.is_spelled) parts), Number) ∷ (not (list_all (λ p. p.in_range) parts), Range) ∷ [])
 
 -- whether each number is in its range

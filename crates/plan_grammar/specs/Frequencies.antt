@@ -3,7 +3,7 @@ use Rattle.std.specs.Prelude.{ℕ, ◌==◌, ◌&&◌, nat_le, Bool, false, List
 use Rattle.std.specs.List.{list_all, slice_split}
 use Rattle.text_lines.specs.Numbers.{is_number}
 use Rattle.drm_sdc.specs.declared.channels.Channel15.{Channel15}
-use Rattle.plan_grammar.specs.Shape.{Part, value}
+use Rattle.plan_grammar.specs.LineShape.{WordCheck, value}
 
 -- what stands between the commas
 abbrev pub elements : List ℕ → List (List ℕ)
@@ -28,7 +28,7 @@ are_spelled parts = list_all (λ element. is_number (digits element)) parts
 abbrev pub are_in_range : List (List ℕ) → Bool
 are_in_range parts = nat_le (length parts) 16 && list_all (λ element. nat_le (value (digits element)) 32767) parts
 
-abbrev pub frequencies : List ℕ → Part
+abbrev pub frequencies : List ℕ → WordCheck
 frequencies word = record { is_spelled = are_spelled (elements word); in_range = are_in_range (elements word) }
 
 abbrev pub channels : List ℕ → List Channel15

@@ -1,5 +1,5 @@
 pub mod Gives
-pub mod Shape
+pub mod LineShape
 pub mod Asked
 pub mod Keywords
 pub mod Same

@@ -2,12 +2,12 @@
 use Rattle.std.specs.Prelude.{ℕ, List, Option}
 use Rattle.plan_grammar.specs.declared.first_word.Keyword.{Keyword}
 use Rattle.plan_grammar.specs.declared.first_word.Keyword.TheVariants as keywords
-use Rattle.plan_grammar.specs.Shape.{Shape}
+use Rattle.plan_grammar.specs.LineShape.{LineShape}
 use Rattle.plan_grammar.specs.Settings.{version_line, carry_line, first_line, length_line, config_line, mode_line, occupancy_line, depth_line, msc_line, sdc_line, protection_line, room_line, service_line, stream_line, clock_line, block_line}
 use Rattle.plan_grammar.specs.Entities.{label_line, freq_line, when_line, app_line, audio_line, language_line, raw_line}
 
 -- the whole line, by its keyword and the words after it
-abbrev pub shape_of : Keyword → List ℕ → List (List ℕ) → Option Shape
+abbrev pub shape_of : Keyword → List ℕ → List (List ℕ) → Option LineShape
 shape_of keywords.Drmplan line words = version_line words
 shape_of keywords.Carry line words = carry_line words
 shape_of keywords.First line words = first_line words

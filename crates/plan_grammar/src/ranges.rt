@@ -4,7 +4,7 @@ ghost use Rattle.std.specs.Prelude.{◌≡◌, None, Some, length, map, true, fa
 ghost use Rattle.std.specs.List.{list_all};
 ghost use Rattle.text_lines.specs.Numbers.{is_number};
 ghost use Rattle.plan_grammar.specs.Asked.{asked, fault, are_within, AreSmall};
-ghost use Rattle.plan_grammar.specs.Shape.{value};
+ghost use Rattle.plan_grammar.specs.LineShape.{value};
 
 use crate::spelling::number;
 use drm_schedule::Reason;

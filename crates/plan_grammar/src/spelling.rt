@@ -4,7 +4,7 @@ ghost use Rattle.std.specs.Prelude.{◌≡◌, ◌≤◌, ◌==◌, ◌&&◌, na
 ghost use Rattle.text_lines.specs.Hex.{hex_of};
 ghost use Rattle.text_lines.specs.Numbers.{is_number};
 ghost use Rattle.plan_grammar.specs.Gives.{OnBroken};
-ghost use Rattle.plan_grammar.specs.Shape.{value, hex_value, optional_byte, optional_byte_value, free_bytes, bytes_value};
+ghost use Rattle.plan_grammar.specs.LineShape.{value, hex_value, optional_byte, optional_byte_value, free_bytes, bytes_value};
 
 use crate::LineFault;
 use drm_bits::Octets;

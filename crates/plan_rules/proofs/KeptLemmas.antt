@@ -11,40 +11,40 @@ use Rattle.plan_grammar.specs.declared.first_word.Keyword.{Keyword}
 use Rattle.plan_grammar.specs.declared.first_word.Keyword.TheVariants as keywords
 use Rattle.plan_grammar.specs.Said.{keyword_said, LineInLines}
 use Rattle.plan_grammar.specs.Same.{same}
-use Rattle.plan_rules.specs.declared.said.Said.{Said}
-use Rattle.plan_rules.specs.declared.said.Block.{Block}
-use Rattle.plan_rules.specs.declared.said.Read.{Read}
-use Rattle.plan_rules.specs.Said.{count, put, put_into, add, begin}
+use Rattle.plan_rules.specs.declared.said.ParsedLine.{ParsedLine}
+use Rattle.plan_rules.specs.declared.said.ConfigLines.{ConfigLines}
+use Rattle.plan_rules.specs.declared.said.ParsedText.{ParsedText}
+use Rattle.plan_rules.specs.ParsedLine.{count, put, put_into, add, begin}
 use Rattle.plan_rules.specs.Rules.{is_entity, count_with, count_entities, version_in, is_incomplete, is_too_many, in_current, ends_incomplete}
 use Rattle.plan_rules.specs.Steps.{check_rows, check_of}
 use Rattle.plan_rules.specs.InLines.{AreFew, BlockInLines, EndedInLines, ReadInLines}
 use Rattle.plan_rules.proofs.KeywordLemmas.{one, entity_is_one, entity_is_no_stream, entity_is_no_block}
 
-abbrev InSaid : Said → Type 0
+abbrev InSaid : ParsedLine → Type 0
 InSaid s = LineInLines s.says
 
-one_more : (test : Said → Bool) (said : List Said) (s : Said) → length (filter test (said ++ s ∷ [])) ≡ length (filter test said) + one (test s)
+one_more : (test : ParsedLine → Bool) (said : List ParsedLine) (s : ParsedLine) → length (filter test (said ++ s ∷ [])) ≡ length (filter test said) + one (test s)
 one_more test said s =
-    ap (λ (l : List Said). length l) (filter-append test said (s ∷ [])) ∙ length-append (filter test said) (filter test (s ∷ [])) ∙ ap (λ n. length (filter test said) + n) (by (test s))
+    ap (λ (l : List ParsedLine). length l) (filter-append test said (s ∷ [])) ∙ length-append (filter test said) (filter test (s ∷ [])) ∙ ap (λ n. length (filter test said) + n) (by (test s))
   where
     by : (b : Bool) → length (if b then s ∷ [] else []) ≡ one b
     by true = refl
     by false = refl
 
-record Room (l : Line) (said : List Said) : Type 0 where
+record Room (l : Line) (said : List ParsedLine) : Type 0 where
   streams : count keywords.Stream said + one (same (keyword_said l) keywords.Stream) ≤ 4
   blocks : count keywords.Block said + one (same (keyword_said l) keywords.Block) ≤ 64
   entities : count_with (count_entities 0 said) (keyword_said l) ≤ 64
 
-few_now : (n : ℕ) (said : List Said) → AreFew n said → count_entities n said ≤ 64
+few_now : (n : ℕ) (said : List ParsedLine) → AreFew n said → count_entities n said ≤ 64
 few_now n [] few = few
 few_now n (s ∷ said) few = few_now (count_with n (keyword_said s.says)) said few.1
 
-few_more : (n : ℕ) (said : List Said) (s : Said) → AreFew n said → count_with (count_entities n said) (keyword_said s.says) ≤ 64 → AreFew n (said ++ s ∷ [])
+few_more : (n : ℕ) (said : List ParsedLine) (s : ParsedLine) → AreFew n said → count_with (count_entities n said) (keyword_said s.says) ≤ 64 → AreFew n (said ++ s ∷ [])
 few_more n [] s few next = (few, next)
 few_more n (x ∷ said) s few next = (few.0, few_more (count_with n (keyword_said x.says)) said s few.1 next)
 
-too_many_entity : (k : Keyword) (said : List Said) → is_entity k ≡ true → is_too_many k said ≡ nat_le 64 (count_entities 0 said)
+too_many_entity : (k : Keyword) (said : List ParsedLine) → is_entity k ≡ true → is_too_many k said ≡ nat_le 64 (count_entities 0 said)
 unfolding is_too_many
 too_many_entity keywords.Stream said e = absurd cc
 too_many_entity keywords.Block said e = absurd cc
@@ -57,7 +57,7 @@ too_many_entity keywords.Language said e = refl
 too_many_entity keywords.Raw said e = refl
 too_many_entity _ said e = absurd cc
 
-room_for : (l : Line) (said : List Said) → is_too_many (keyword_said l) said ≡ false → count keywords.Stream said ≤ 4 → count keywords.Block said ≤ 64 → count_entities 0 said ≤ 64 → Room l said
+room_for : (l : Line) (said : List ParsedLine) → is_too_many (keyword_said l) said ≡ false → count keywords.Stream said ≤ 4 → count keywords.Block said ≤ 64 → count_entities 0 said ≤ 64 → Room l said
 unfolding is_too_many
 room_for (lines.Stream stream) said e few blocks some = record { streams = grind (arith, nat_tests); blocks = omega (arith, blocks); entities = omega (arith, some) }
 room_for (lines.Block from) said e few blocks some = record { streams = omega (arith, few); blocks = grind (arith, nat_tests); entities = omega arith }
@@ -71,10 +71,10 @@ room_for (lines.Entity entity) said e few blocks some =
 room_for _ said e few blocks some = record { streams = omega (arith, few); blocks = omega (arith, blocks); entities = omega (arith, some) }
 
 -- a line of the last configuration, or one before the first
-put_fits : (read : Read) (n : ℕ) (l : Line) → LineInLines l → ReadInLines read → in_current (is_too_many (keyword_said l)) read.current ≡ false → ReadInLines (put (record { line = n; says = l }) read)
+put_fits : (read : ParsedText) (n : ℕ) (l : Line) → LineInLines l → ReadInLines read → in_current (is_too_many (keyword_said l)) read.current ≡ false → ReadInLines (put (record { line = n; says = l }) read)
 put_fits read n l here fits room = by read.current fits.current room
   where
-    by : (current : Option Block) → IfSome current BlockInLines → in_current (is_too_many (keyword_said l)) current ≡ false → ReadInLines (put_into (record { line = n; says = l }) read.front read.closed current)
+    by : (current : Option ConfigLines) → IfSome current BlockInLines → in_current (is_too_many (keyword_said l)) current ≡ false → ReadInLines (put_into (record { line = n; says = l }) read.front read.closed current)
     by None in_lines room = record {
       front = All-append InSaid read.front (record { line = n; says = l } ∷ []) fits.front (All-cons InSaid (record { line = n; says = l }) [] here (All-nil InSaid));
       few_closed = fits.few_closed;
@@ -102,13 +102,13 @@ neither true b e = absurd cc
 neither false b e = (refl, e)
 
 -- a config line
-begin_fits : (read : Read) (n start countdown : ℕ) → start < 1000000 → countdown < 2 ^ 3 → ReadInLines read → in_current (is_incomplete (version_in read.front)) read.current ≡ false → nat_le 15 (length read.closed) ≡ false → ReadInLines (begin n start countdown read)
+begin_fits : (read : ParsedText) (n start countdown : ℕ) → start < 1000000 → countdown < 2 ^ 3 → ReadInLines read → in_current (is_incomplete (version_in read.front)) read.current ≡ false → nat_le 15 (length read.closed) ≡ false → ReadInLines (begin n start countdown read)
 begin_fits read n start countdown start_fits countdown_fits fits whole few = by read.current fits.current whole
   where
     next : BlockInLines (record { line = n; start = start; countdown = countdown; lines = [] })
     next = record { start_fits = start_fits; countdown_fits = countdown_fits; each_line = All-nil InSaid; few_streams = omega arith; few_blocks = omega arith; few_entities = omega arith }
 
-    by : (current : Option Block) → IfSome current BlockInLines → in_current (is_incomplete (version_in read.front)) current ≡ false
+    by : (current : Option ConfigLines) → IfSome current BlockInLines → in_current (is_incomplete (version_in read.front)) current ≡ false
         → ReadInLines (record { front = read.front; closed = read.closed ++ option_to_list current; current = Some (record { line = n; start = start; countdown = countdown; lines = [] }) })
     by None in_lines whole =
         let none : length (read.closed ++ []) ≡ length read.closed + 0 = length-append read.closed [] in
@@ -140,7 +140,7 @@ checked false false true n e = absurd cc
 checked false false false n e = record { none = refl }
 
 -- the line put behind the others
-pub add_fits : (read : Read) (n : ℕ) (l : Line) → LineInLines l → ReadInLines read → ends_incomplete read (keyword_said l) ≡ false → check_of read n (keyword_said l) ≡ Ok tt → ReadInLines (add n l read)
+pub add_fits : (read : ParsedText) (n : ℕ) (l : Line) → LineInLines l → ReadInLines read → ends_incomplete read (keyword_said l) ≡ false → check_of read n (keyword_said l) ≡ Ok tt → ReadInLines (add n l read)
 unfolding check_of
 add_fits read n (lines.Config start countdown) here fits whole found =
     let full = checked _ _ _ n found in

@@ -1,4 +1,4 @@
-pub mod Said
+pub mod ParsedLine
 pub mod Rules
 pub mod Steps
 pub mod InLines

@@ -11,19 +11,19 @@ use Rattle.plan_grammar.specs.declared.line.Line.{Line}
 use Rattle.plan_grammar.specs.declared.line.Line.TheVariants as lines
 use Rattle.plan_grammar.specs.declared.first_word.Keyword.{Keyword}
 use Rattle.plan_grammar.specs.declared.first_word.Keyword.TheVariants as keywords
-use Rattle.plan_grammar.specs.Shape.{Shape}
+use Rattle.plan_grammar.specs.LineShape.{LineShape}
 use Rattle.plan_grammar.specs.Keywords.{keyword_of}
 use Rattle.plan_grammar.specs.Lines.{shape_of}
 use Rattle.plan_grammar.specs.Same.{same}
 use Rattle.plan_grammar.specs.Said.{keyword_said}
-use Rattle.plan_rules.specs.declared.said.Said.{Said}
-use Rattle.plan_rules.specs.declared.said.Block.{Block}
-use Rattle.plan_rules.specs.declared.said.Read.{Read}
-use Rattle.plan_rules.specs.Said.{nothing, add, count}
+use Rattle.plan_rules.specs.declared.said.ParsedLine.{ParsedLine}
+use Rattle.plan_rules.specs.declared.said.ConfigLines.{ConfigLines}
+use Rattle.plan_rules.specs.declared.said.ParsedText.{ParsedText}
+use Rattle.plan_rules.specs.ParsedLine.{nothing, add, count}
 
 -- a fault of a schedule's text
-abbrev pub Fault : Type 0
-Fault = FaultOf Reason
+abbrev pub ScheduleTextFault : Type 0
+ScheduleTextFault = FaultOf Reason
 
 -- the four first lines come in this order, and then a configuration begins
 abbrev pub keyword_at : ℕ → Keyword
@@ -72,14 +72,14 @@ is_entity _ = false
 abbrev pub count_with : ℕ → Keyword → ℕ
 count_with n keyword = if same keyword keywords.Block then 0 else if is_entity keyword then n + 1 else n
 
-abbrev pub count_entities : ℕ → List Said → ℕ
+abbrev pub count_entities : ℕ → List ParsedLine → ℕ
 count_entities n [] = n
 count_entities n (s ∷ said) = count_entities (count_with n (keyword_said s.says)) said
 
 -- ---- the version of the text
 
 -- the version that the first line says, if there is one yet
-abbrev pub version_in : List Said → Option Version
+abbrev pub version_in : List ParsedLine → Option Version
 version_in [] = None
 version_in (s ∷ said) = of s.says
   where
@@ -114,65 +114,65 @@ abbrev pub is_setting : Keyword → Bool
 is_setting keyword = not (is_front keyword || same keyword keywords.Config || same keyword keywords.Block || is_entity keyword)
 
 -- in version 2 an entity line stands behind a block line, and no line from mode to clock does
-abbrev pub is_out_of_order : Option Version → Keyword → List Said → Bool
+abbrev pub is_out_of_order : Option Version → Keyword → List ParsedLine → Bool
 is_out_of_order version keyword part =
     is_two version && (if count keywords.Block part == 0 then is_entity keyword else is_setting keyword)
 
 -- a line of this keyword is out of its place
-abbrev pub is_misplaced : Read → Keyword → Bool
+abbrev pub is_misplaced : ParsedText → Keyword → Bool
 is_misplaced read keyword = of read.current
   where
-    of : Option Block → Bool
+    of : Option ConfigLines → Bool
     of None = not (same keyword (keyword_at (length read.front)))
     of (Some block) = is_front keyword || is_out_of_order (version_in read.front) keyword block.lines
 
 -- what holds of the lines of the last configuration, if there is one
-abbrev pub in_current : (List Said → Bool) → Option Block → Bool
+abbrev pub in_current : (List ParsedLine → Bool) → Option ConfigLines → Bool
 in_current test None = false
 in_current test (Some block) = test block.lines
 
 -- a configuration without one of its settings, a service or a stream
-unfoldable pub lacks_a_line : List Said → Bool
+unfoldable pub lacks_a_line : List ParsedLine → Bool
 lacks_a_line part = list_any (λ keyword. count keyword part == 0) needed
 
 -- or in version 2 a block
-abbrev pub is_incomplete : Option Version → List Said → Bool
+abbrev pub is_incomplete : Option Version → List ParsedLine → Bool
 is_incomplete version part = lacks_a_line part || (is_two version && count keywords.Block part == 0)
 
 -- a line of which its configuration has one, and may have no second
-unfoldable pub is_second : Keyword → List Said → Bool
+unfoldable pub is_second : Keyword → List ParsedLine → Bool
 is_second keyword part = is_single keyword && nat_lt 0 (count keyword part)
 
 -- one more than there may be: a fifth stream, a 65th block, a 65th entity line of a block
-unfoldable pub is_too_many : Keyword → List Said → Bool
+unfoldable pub is_too_many : Keyword → List ParsedLine → Bool
 is_too_many keywords.Stream part = nat_le 4 (count keywords.Stream part)
 is_too_many keywords.Block part = nat_le 64 (count keywords.Block part)
 is_too_many keyword part = is_entity keyword && nat_le 64 (count_entities 0 part)
 
 -- a 17th configuration
-abbrev pub is_17th : Read → Keyword → Bool
+abbrev pub is_17th : ParsedText → Keyword → Bool
 is_17th read keyword = same keyword keywords.Config && nat_le 15 (length read.closed)
 
-abbrev pub current_line : Option Block → ℕ
+abbrev pub current_line : Option ConfigLines → ℕ
 current_line None = 0
 current_line (Some block) = block.line
 
 -- the parts of a line that are words, and their ranges
-abbrev pub is_spelled : Option Shape → Bool
+abbrev pub is_spelled : Option LineShape → Bool
 is_spelled None = true
 is_spelled (Some s) = list_all (λ p. p.is_spelled) s.parts
 
-abbrev pub is_in_range : Option Shape → Bool
+abbrev pub is_in_range : Option LineShape → Bool
 is_in_range None = true
 is_in_range (Some s) = list_all (λ p. p.in_range) s.parts
 
 -- a config line ends the configuration before it, which then lacks something
-abbrev pub ends_incomplete : Read → Keyword → Bool
+abbrev pub ends_incomplete : ParsedText → Keyword → Bool
 ends_incomplete read keyword = same keyword keywords.Config && in_current (is_incomplete (version_in read.front)) read.current
 
 -- The rows for line n, a line of this keyword after these lines: the first that holds is the fault. A line that isn't of
 -- the right words has no shape.
-abbrev pub rows_of : Read → ℕ → Keyword → Option Shape → List (Bool × Fault)
+abbrev pub rows_of : ParsedText → ℕ → Keyword → Option LineShape → List (Bool × ScheduleTextFault)
 rows_of read n keyword shape =
     (ends_incomplete read keyword, fault (current_line read.current) Missing)
     ∷ (is_none shape, fault n Word)
@@ -183,41 +183,41 @@ rows_of read n keyword shape =
     ∷ (in_current (is_too_many keyword) read.current || is_17th read keyword, fault n TooLong)
     ∷ []
 
-abbrev pub add_shape : ℕ → Option Shape → Read → Read
+abbrev pub add_shape : ℕ → Option LineShape → ParsedText → ParsedText
 add_shape n None read = read
 add_shape n (Some s) read = add n s.says read
 
 -- a line of this shape after these lines
-unfoldable pub said_shape : Read → ℕ → Keyword → Option Shape → Result Read Fault
+unfoldable pub said_shape : ParsedText → ℕ → Keyword → Option LineShape → Result ParsedText ScheduleTextFault
 said_shape read n keyword shape = ok_unless (first_fault (rows_of read n keyword shape)) (add_shape n shape read)
 
-abbrev pub said_keyword : Read → ℕ → Option Keyword → List ℕ → List (List ℕ) → Result Read Fault
+abbrev pub said_keyword : ParsedText → ℕ → Option Keyword → List ℕ → List (List ℕ) → Result ParsedText ScheduleTextFault
 said_keyword read n None line words = Err (fault n Word)
 said_keyword read n (Some keyword) line words = said_shape read n keyword (shape_of keyword line words)
 
 -- a line of these words
-abbrev pub said_words : Read → ℕ → List ℕ → List (List ℕ) → Result Read Fault
+abbrev pub said_words : ParsedText → ℕ → List ℕ → List (List ℕ) → Result ParsedText ScheduleTextFault
 said_words read n line words = words_say read (λ first more. said_keyword read n (keyword_in (version_in read.front) first) line more) words
 
 -- line n after these lines
-unfoldable pub said_line : Read → ℕ → List ℕ → Result Read Fault
+unfoldable pub said_line : ParsedText → ℕ → List ℕ → Result ParsedText ScheduleTextFault
 said_line read n line = said_words read n line (words_of line)
 
 -- lines from line n on, after these lines
-abbrev pub said_from : Read → ℕ → List (List ℕ) → Result Read Fault
+abbrev pub said_from : ParsedText → ℕ → List (List ℕ) → Result ParsedText ScheduleTextFault
 said_from read n lines = lines_say said_line read n lines
 
 -- what a text of n lines lacks at its end: a configuration, or a part of the last one
-abbrev pub end_rows : Option Version → Option Block → ℕ → List (Bool × Fault)
+abbrev pub end_rows : Option Version → Option ConfigLines → ℕ → List (Bool × ScheduleTextFault)
 end_rows version None n = (true, fault (n + 1) Missing) ∷ []
 end_rows version (Some block) n = (is_incomplete version block.lines, fault block.line Missing) ∷ []
 
 -- the end of a text of n lines
-unfoldable pub ended : ℕ → Read → Result Read Fault
+unfoldable pub ended : ℕ → ParsedText → Result ParsedText ScheduleTextFault
 ended n read = ok_unless (first_fault (end_rows (version_in read.front) read.current n)) read
 
 -- what all lines of a text say
-unfoldable pub said : List (List ℕ) → Result Read Fault
+unfoldable pub said : List (List ℕ) → Result ParsedText ScheduleTextFault
 said lines = do
   read ← said_from nothing 1 lines
   ended (length lines) read

@@ -1,16 +1,16 @@
 //! What the lines of a configuration have, and lack.
 
 ghost use Rattle.std.specs.Prelude.{◌≡◌, ◌==◌, length};
-ghost use Rattle.plan_rules.specs.Said.{count};
+ghost use Rattle.plan_rules.specs.ParsedLine.{count};
 ghost use Rattle.plan_grammar.specs.declared.first_word.Keyword.TheVariants as keywords;
 ghost use Rattle.plan_rules.specs.Rules.{count_entities, is_out_of_order, lacks_a_line, is_incomplete, is_second, is_too_many};
 
 use crate::keywords::{is_entity, is_setting, is_single};
-use crate::said::Said;
+use crate::said::ParsedLine;
 use crate::version::is_two;
 use plan_lines::{Keyword, Version};
 
-fn count(keyword: Keyword, lines: &[Said]) -> usize
+fn count(keyword: Keyword, lines: &[ParsedLine]) -> usize
     ensures { result ≡ count keyword lines.now }
 {
     lines
@@ -20,7 +20,7 @@ fn count(keyword: Keyword, lines: &[Said]) -> usize
 }
 
 // How many entity lines stand behind the last block line.
-fn count_entities(lines: &[Said]) -> usize
+fn count_entities(lines: &[ParsedLine]) -> usize
     ensures { result ≡ count_entities 0 lines.now }
 {
     let mut count = 0;
@@ -37,21 +37,21 @@ fn count_entities(lines: &[Said]) -> usize
     count
 }
 
-fn lacks(keyword: Keyword, lines: &[Said]) -> bool
+fn lacks(keyword: Keyword, lines: &[ParsedLine]) -> bool
     ensures { result ≡ (count keyword lines.now == 0) }
 {
     count(keyword, lines) == 0
 }
 
 /// Whether there is no block line.
-pub fn has_no_block(lines: &[Said]) -> bool
+pub fn has_no_block(lines: &[ParsedLine]) -> bool
     ensures { result ≡ (count keywords.Block lines.now == 0) }
 {
     lacks(Keyword::Block, lines)
 }
 
 /// Whether an entity line stands before the first block line, or a line from mode to clock behind it.
-pub fn is_out_of_order(version: Option<Version>, keyword: Keyword, lines: &[Said]) -> bool
+pub fn is_out_of_order(version: Option<Version>, keyword: Keyword, lines: &[ParsedLine]) -> bool
     ensures { result ≡ is_out_of_order version keyword lines.now }
 {
     if !is_two(version) {
@@ -65,14 +65,14 @@ pub fn is_out_of_order(version: Option<Version>, keyword: Keyword, lines: &[Said
 }
 
 /// Whether a setting, a service or a stream is missing, or in version 2 a block.
-pub fn is_incomplete(version: Option<Version>, lines: &[Said]) -> bool
+pub fn is_incomplete(version: Option<Version>, lines: &[ParsedLine]) -> bool
     ensures { result ≡ is_incomplete version lines.now }
 {
     lacks_a_line(lines) || (is_two(version) && has_no_block(lines))
 }
 
 #[tactic(auto, unfolding(crate::specs::Rules::lacks_a_line))]
-fn lacks_a_line(lines: &[Said]) -> bool
+fn lacks_a_line(lines: &[ParsedLine]) -> bool
     ensures { result ≡ lacks_a_line lines.now }
 {
     lacks(Keyword::Mode, lines)
@@ -88,7 +88,7 @@ fn lacks_a_line(lines: &[Said]) -> bool
 
 /// Whether a line of this keyword is there that may stand only once.
 #[tactic(auto, unfolding(crate::specs::Rules::is_second))]
-pub fn is_second(keyword: Keyword, lines: &[Said]) -> bool
+pub fn is_second(keyword: Keyword, lines: &[ParsedLine]) -> bool
     ensures { result ≡ is_second keyword lines.now }
 {
     is_single(keyword) && count(keyword, lines) > 0
@@ -96,7 +96,7 @@ pub fn is_second(keyword: Keyword, lines: &[Said]) -> bool
 
 /// Whether there are as many lines of this keyword as there may be.
 #[tactic(auto, unfolding(crate::specs::Rules::is_too_many))]
-pub fn is_too_many(keyword: Keyword, lines: &[Said]) -> bool
+pub fn is_too_many(keyword: Keyword, lines: &[ParsedLine]) -> bool
     ensures { result ≡ is_too_many keyword lines.now }
 {
     match keyword {

@@ -32,7 +32,7 @@ impl From<AllocError> for PlanFault {
     }
 }
 
-pub fn at(line: u32, reason: Reason) -> PlanFault
+pub fn fault_at_line(line: u32, reason: Reason) -> PlanFault
     ensures { result ≡ PlanFault.Line line reason }
 {
     PlanFault::Line { line, reason }

@@ -8,6 +8,6 @@ mod rules;
 mod said;
 mod version;
 
-pub use fault::{PlanFault, at};
+pub use fault::{PlanFault, fault_at_line};
 pub use rules::read_lines;
-pub use said::{Block, Read, Said};
+pub use said::{ConfigLines, ParsedLine, ParsedText};

@@ -2,26 +2,26 @@
 
 ghost use Rattle.std.specs.Prelude.{◌≡◌, ◌||◌, ◌<◌, ◌^◌, ◌-◌, false, length, map, List, ℕ, ◌∷◌, All, Option, IfOk, OnOk};
 ghost use Rattle.text_lines.specs.Lines.{words_of};
-ghost use Rattle.plan_grammar.specs.Shape.{Shape, reading};
+ghost use Rattle.plan_grammar.specs.LineShape.{LineShape, reading};
 ghost use Rattle.plan_grammar.specs.Gives.{ReaderGives};
 ghost use Rattle.plan_grammar.specs.Said.{LineInLines, keyword_said};
 ghost use Rattle.plan_rules.specs.InLines.{IsSingle, ReadInLines, EndsComplete};
 ghost use Rattle.plan_grammar.specs.Lines.{shape_of};
-ghost use Rattle.plan_rules.specs.Said.{nothing};
+ghost use Rattle.plan_rules.specs.ParsedLine.{nothing};
 ghost use Rattle.plan_rules.specs.Rules.{version_in, keyword_in, is_misplaced, in_current, is_second, is_too_many, is_17th, ends_incomplete, current_line, said_shape, said_words, said_line, said_from, said};
 ghost use Rattle.plan_rules.specs.Steps.{LinesStep, ReadsLines, check_of, refused_of, end_check};
 
 use crate::counts;
-use crate::fault::{PlanFault, at};
+use crate::fault::{PlanFault, fault_at_line};
 use crate::keywords::{is_front, keyword_at};
-use crate::said::Read;
+use crate::said::ParsedText;
 use crate::version::is_one;
 use drm_schedule::Reason;
 use plan_lines::{Keyword, Line, LineFault, Version, keyword, read_line};
 use std::alloc::Global;
 use text_lines::{is_comment, words};
 
-impl Read {
+impl ParsedText {
     // The version that the first line says.
     fn version(&self) -> Option<Version>
         ensures { result ≡ version_in self.now.front }
@@ -109,13 +109,13 @@ impl Read {
         ensures { result ≡ check_of self.now n keyword }
     {
         if self.is_misplaced(keyword) {
-            return Err(at(n, Reason::Order));
+            return Err(fault_at_line(n, Reason::Order));
         }
         if self.is_second(keyword) {
-            return Err(at(n, Reason::Twice));
+            return Err(fault_at_line(n, Reason::Twice));
         }
         if self.is_full(keyword) || self.is_17th(keyword) {
-            return Err(at(n, Reason::TooLong));
+            return Err(fault_at_line(n, Reason::TooLong));
         }
         Ok(())
     }
@@ -126,9 +126,9 @@ impl Read {
         ensures { result ≡ refused_of self.now n keyword reason }
     {
         match reason {
-            Reason::Word => at(n, Reason::Word),
-            _ if self.is_misplaced(keyword) => at(n, Reason::Order),
-            _ => at(n, reason),
+            Reason::Word => fault_at_line(n, Reason::Word),
+            _ if self.is_misplaced(keyword) => fault_at_line(n, Reason::Order),
+            _ => fault_at_line(n, reason),
         }
     }
 
@@ -140,7 +140,7 @@ impl Read {
         line: Result<Line, LineFault>,
     ) -> Result<(), PlanFault>
         requires { ends_incomplete self.old keyword ≡ false }
-        ensures steps { (s : Option Shape) → ReaderGives line (reading s)
+        ensures steps { (s : Option LineShape) → ReaderGives line (reading s)
             → LinesStep result self.new (said_shape self.old n keyword s) }
         ensures kept { IfOk line LineInLines → IfOk line (λ l. keyword_said l ≡ keyword) → ReadInLines self.old
             → OnOk result (ReadInLines self.new) }
@@ -172,7 +172,7 @@ impl Read {
             → ReadInLines self.old → OnOk result (ReadInLines self.new) }
     {
         if self.ends_incomplete(keyword) {
-            return Err(at(self.current_line(), Reason::Missing));
+            return Err(fault_at_line(self.current_line(), Reason::Missing));
         }
         let read = read_line(alloc, keyword, line, words);
         self.judge(alloc, n, keyword, read)
@@ -197,7 +197,7 @@ impl Read {
             return Ok(());
         }
         match self.keyword_in(first) {
-            None => Err(at(n, Reason::Word)),
+            None => Err(fault_at_line(n, Reason::Word)),
             Some(keyword) => self.take_known(alloc, n, keyword, line, words),
         }
     }
@@ -219,10 +219,10 @@ impl Read {
         ensures { result ≡ end_check (version_in self.now.front) self.now.current n }
     {
         match &self.current {
-            None => Err(at(n + 1, Reason::Missing)),
+            None => Err(fault_at_line(n + 1, Reason::Missing)),
             Some(block) => {
                 if counts::is_incomplete(self.version(), block.lines.as_slice()) {
-                    return Err(at(block.line, Reason::Missing));
+                    return Err(fault_at_line(block.line, Reason::Missing));
                 }
                 Ok(())
             }
@@ -231,12 +231,12 @@ impl Read {
 }
 
 // What the lines say, with no look at what is missing at their end.
-fn read_all(alloc: Global, lines: &[&str]) -> Result<Read, PlanFault>
+fn read_all(alloc: Global, lines: &[&str]) -> Result<ParsedText, PlanFault>
     requires { length lines.now < 2 ^ 32 - 1 }
     ensures said { ReadsLines result (said_from nothing 1 (map (λ line. line.now) lines.now)) }
     ensures kept { All (λ line. IsSingle line.now) lines.now → IfOk result ReadInLines }
 {
-    let mut read = Read::new(alloc);
+    let mut read = ParsedText::new(alloc);
     for (i, line) in lines.iter().enumerate() {
         read.take(alloc, i as u32 + 1, line)?;
     }
@@ -244,7 +244,7 @@ fn read_all(alloc: Global, lines: &[&str]) -> Result<Read, PlanFault>
 }
 
 /// What the lines of a text say.
-pub fn read_lines(alloc: Global, lines: &[&str]) -> Result<Read, PlanFault>
+pub fn read_lines(alloc: Global, lines: &[&str]) -> Result<ParsedText, PlanFault>
     requires { length lines.now < 2 ^ 32 - 1 }
     ensures said { ReadsLines result (said (map (λ line. line.now) lines.now)) }
     ensures kept { All (λ line. IsSingle line.now) lines.now → IfOk result ReadInLines }

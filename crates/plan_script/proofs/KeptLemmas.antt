@@ -12,13 +12,13 @@ use Rattle.drm_schedule.specs.declared.invalid.Reason.TheVariants as reasons
 use Rattle.drm_schedule.specs.declared.plan.Plan.{Plan}
 use Rattle.plan_script.specs.declared.delivery.Delivery.{Delivery}
 use Rattle.plan_script.specs.declared.fault.ScriptFault.{ScriptFault}
-use Rattle.plan_script.specs.declared.line.Line.{Line}
-use Rattle.plan_script.specs.declared.line.Line.TheVariants as lines
+use Rattle.plan_script.specs.declared.line.ScriptLine.{ScriptLine}
+use Rattle.plan_script.specs.declared.line.ScriptLine.TheVariants as lines
 use Rattle.plan_script.specs.declared.line.Delivers.{Delivers}
 use Rattle.plan_script.specs.declared.line.Delivers.TheVariants as delivers
 use Rattle.text_lines.specs.Faults.{fault, first_fault, ok_unless, ◌>>=◌, lines_say}
 use Rattle.drm_timeline.specs.Numbers.{frame_count}
-use Rattle.plan_script.specs.Script.{Form, Fault, IsDelivery, IsScript, fragment_count, delivery_size, delivery, all_of, delivered, has_packet, in_schedule, in_range, is_feed, is_too_long, form_of, ended, script_of}
+use Rattle.plan_script.specs.Script.{LineForm, ScriptTextFault, IsDelivery, IsScript, fragment_count, delivery_size, delivery, all_of, delivered, has_packet, in_schedule, in_range, is_feed, is_too_long, form_of, ended, script_of}
 use Rattle.plan_script.specs.Steps.{ReadsScript, to_last, with_line, form_after, words_after, lines_after}
 use Rattle.plan_script.proofs.SaidLemmas.{script_is}
 
@@ -66,7 +66,7 @@ more_of plan more (feed ∷ []) new all =
 more_of plan more (feed ∷ next ∷ feeds) new all =
     All-cons (AreOf plan) feed (to_last more (next ∷ feeds)) (All-head (AreOf plan) feed (next ∷ feeds) all) (more_of plan more (next ∷ feeds) new (All-tail (AreOf plan) feed (next ∷ feeds) all))
 
-line_of : (plan : Plan) (line : Line) (feeds : List (List Delivery)) → in_range plan line ≡ true → All (AreOf plan) feeds → All (AreOf plan) (with_line plan line feeds)
+line_of : (plan : Plan) (line : ScriptLine) (feeds : List (List Delivery)) → in_range plan line ≡ true → All (AreOf plan) feeds → All (AreOf plan) (with_line plan line feeds)
 line_of plan lines.Feed feeds e all = All-push (AreOf plan) feeds [] all (All-nil (IsDelivery plan))
 line_of plan (lines.Deliver d) feeds e all = more_of plan (delivered plan d) feeds (line_of_schedule plan d e) all
 
@@ -75,7 +75,7 @@ record Kept (plan : Plan) (feeds : List (List Delivery)) : Type 0 where
   each : All (AreOf plan) feeds
   short : is_too_long plan feeds ≡ false
 
-abbrev gives : List (List Delivery) → Result (List (List Delivery)) Fault
+abbrev gives : List (List Delivery) → Result (List (List Delivery)) ScriptTextFault
 gives feeds = Ok feeds
 
 -- no row holds
@@ -93,7 +93,7 @@ no_row false true true long n feeds new e = absurd cc
 no_row false true false true n feeds new e = absurd cc
 no_row false true false false n feeds new e = record { in_range = refl; short = refl; same = cc }
 
-form_kept : (plan : Plan) (feeds new : List (List Delivery)) (n : ℕ) (form : Option Form) → Kept plan feeds → form_after plan feeds n form ≡ gives new → Kept plan new
+form_kept : (plan : Plan) (feeds new : List (List Delivery)) (n : ℕ) (form : Option LineForm) → Kept plan feeds → form_after plan feeds n form ≡ gives new → Kept plan new
 unfolding form_after
 form_kept plan feeds new n None kept e = absurd cc
 form_kept plan feeds new n (Some f) kept e =
@@ -119,7 +119,7 @@ lines_kept plan feeds new n [] kept e =
     subst (Kept plan) same kept
 lines_kept plan feeds new n (line ∷ lines) kept e = by (words_after plan feeds n (words_of line)) refl (λ more. lines_kept plan more new (n + 1) lines) e
   where
-    by : (r : Result (List (List Delivery)) Fault) → r ≡ words_after plan feeds n (words_of line) → ((more : List (List Delivery)) → Kept plan more → lines_after plan more (n + 1) lines ≡ gives new → Kept plan new) → (r >>= λ more. lines_after plan more (n + 1) lines) ≡ gives new → Kept plan new
+    by : (r : Result (List (List Delivery)) ScriptTextFault) → r ≡ words_after plan feeds n (words_of line) → ((more : List (List Delivery)) → Kept plan more → lines_after plan more (n + 1) lines ≡ gives new → Kept plan new) → (r >>= λ more. lines_after plan more (n + 1) lines) ≡ gives new → Kept plan new
     by (Ok more) is rest all = rest more (words_kept plan feeds more n (words_of line) kept (sym is)) all
     by (Err p) is rest all = absurd cc
 
@@ -155,7 +155,7 @@ ends n feeds new e = ends_by (length feeds == 0) n feeds new refl e
 script_kept : (plan : Plan) (lines : List (List ℕ)) (new : List (List Delivery)) → script_of plan lines ≡ gives new → IsScript plan new
 script_kept plan lines new e = by (lines_after plan [] 1 lines) refl (sym (script_is plan lines) ∙ e)
   where
-    by : (r : Result (List (List Delivery)) Fault) → r ≡ lines_after plan [] 1 lines → (r >>= ended (length lines)) ≡ gives new → IsScript plan new
+    by : (r : Result (List (List Delivery)) ScriptTextFault) → r ≡ lines_after plan [] 1 lines → (r >>= ended (length lines)) ≡ gives new → IsScript plan new
     by (Ok feeds) is all =
         let end = ends (length lines) feeds new all in
         let kept = lines_kept plan [] feeds 1 lines (none_kept plan) (sym is) in

@@ -10,18 +10,18 @@ use Rattle.plan_script.specs.declared.delivery.Delivery.{Delivery}
 use Rattle.plan_script.specs.declared.fault.ScriptFault.{ScriptFault}
 use Rattle.plan_script.specs.declared.fault.ScriptFault.TheVariants as faults
 use Rattle.plan_script.specs.declared.feeds.Feeds.{Feeds}
-use Rattle.plan_script.specs.declared.line.Line.TheVariants as lines
+use Rattle.plan_script.specs.declared.line.ScriptLine.TheVariants as lines
 use Rattle.plan_script.specs.declared.line.Delivers.{Delivers}
 use Rattle.text_lines.specs.Faults.{fault, first_fault, ok_unless}
-use Rattle.plan_script.specs.Script.{Form, Fault, is_too_long, delivered}
+use Rattle.plan_script.specs.Script.{LineForm, ScriptTextFault, is_too_long, delivered}
 use Rattle.plan_script.specs.Steps.{AreCounted, FeedBegins, KeepsPackets, ScriptSteps, begun, feeds_in, form_after, reading, to_last, with_all}
 use Rattle.plan_script.proofs.RuleLemmas.{left}
 use Rattle.plan_script.proofs.FeedLemmas.{begun_counted, begun_long, more_counted, more_feeds, more_long}
 
-abbrev pub gives : List (List Delivery) → Result (List (List Delivery)) Fault
+abbrev pub gives : List (List Delivery) → Result (List (List Delivery)) ScriptTextFault
 gives feeds = Ok feeds
 
-abbrev pub breaks : ℕ → Reason → Result (List (List Delivery)) Fault
+abbrev pub breaks : ℕ → Reason → Result (List (List Delivery)) ScriptTextFault
 breaks n reason = Err (fault n reason)
 
 -- the last row alone
@@ -40,7 +40,7 @@ above : (n : ℕ) → 15 < n → nat_lt 15 n ≡ true
 above n many = grind (arith, nat_tests)
 
 -- a line with which a feed begins
-pub begins : (plan : Plan) (old new : Feeds) (n : ℕ) (form : Option Form) (r : Result (Unit {0}) ScriptFault) → AreCounted plan old → reading plan form ≡ Ok lines.Feed → FeedBegins r n new (begun old)
+pub begins : (plan : Plan) (old new : Feeds) (n : ℕ) (form : Option LineForm) (r : Result (Unit {0}) ScriptFault) → AreCounted plan old → reading plan form ≡ Ok lines.Feed → FeedBegins r n new (begun old)
     → ScriptSteps r (feeds_in new) (form_after plan (feeds_in old) n form)
 begins plan old new n form (Ok done) counted read e =
     left plan (feeds_in old) n form lines.Feed read
@@ -62,7 +62,7 @@ some_length closed feed =
     grind (arith, nat_tests)
 
 -- a line that delivers to the last feed
-puts : (plan : Plan) (old new : Feeds) (feed : List Delivery) (n : ℕ) (d : Delivers) (form : Option Form) (r : Result (Unit {0}) ScriptFault) → AreCounted plan old → old.current ≡ Some feed → reading plan form ≡ Ok (lines.Deliver d)
+puts : (plan : Plan) (old new : Feeds) (feed : List Delivery) (n : ℕ) (d : Delivers) (form : Option LineForm) (r : Result (Unit {0}) ScriptFault) → AreCounted plan old → old.current ≡ Some feed → reading plan form ≡ Ok (lines.Deliver d)
     → KeepsPackets r n new (with_all plan (delivered plan d) old) → ScriptSteps r (feeds_in new) (form_after plan (feeds_in old) n form)
 puts plan old new feed n d form (Ok done) counted is read e =
     let some : (length (feeds_in old) == 0) ≡ false = rw is (some_length old.closed feed) in
@@ -86,7 +86,7 @@ pub no_feeds : (old : Feeds) → old.current ≡ None → old.closed ≡ [] → 
 no_feeds old none empty = rw (none, empty) refl
 
 -- a line that delivers where there is no feed
-misses : (plan : Plan) (old : Feeds) (n : ℕ) (d : Delivers) (form : Option Form) → AreCounted plan old → old.current ≡ None → reading plan form ≡ Ok (lines.Deliver d) → form_after plan (feeds_in old) n form ≡ breaks n reasons.Missing
+misses : (plan : Plan) (old : Feeds) (n : ℕ) (d : Delivers) (form : Option LineForm) → AreCounted plan old → old.current ≡ None → reading plan form ≡ Ok (lines.Deliver d) → form_after plan (feeds_in old) n form ≡ breaks n reasons.Missing
 misses plan old n d form counted none read =
     left plan (feeds_in old) n form (lines.Deliver d) read ∙ rw (no_feeds old none (counted.closed none)) refl
 
@@ -95,7 +95,7 @@ pub record Adds (plan : Plan) (old new : Feeds) (n : ℕ) (d : Delivers) (r : Re
   pub without : old.current ≡ None → r ≡ Err (faults.Line n reasons.Missing)
   pub within : (old.current ≡ None → ⊥) → KeepsPackets r n new (with_all plan (delivered plan d) old)
 
-pub adds : (plan : Plan) (old new : Feeds) (n : ℕ) (d : Delivers) (form : Option Form) (r : Result (Unit {0}) ScriptFault) → AreCounted plan old → reading plan form ≡ Ok (lines.Deliver d) → Adds plan old new n d r
+pub adds : (plan : Plan) (old new : Feeds) (n : ℕ) (d : Delivers) (form : Option LineForm) (r : Result (Unit {0}) ScriptFault) → AreCounted plan old → reading plan form ≡ Ok (lines.Deliver d) → Adds plan old new n d r
     → ScriptSteps r (feeds_in new) (form_after plan (feeds_in old) n form)
 adds plan old new n d form r counted read e = by old.current refl
   where

@@ -13,8 +13,8 @@ use Rattle.drm_schedule.specs.declared.plan.Plan.{Plan}
 use Rattle.drm_timeline.specs.Numbers.{frame_count, packet_size}
 use Rattle.dcp_pft.specs.Carrying.{datagram_count, datagram_size}
 use Rattle.plan_script.specs.declared.delivery.Delivery.{Delivery}
-use Rattle.plan_script.specs.declared.line.Line.{Line}
-use Rattle.plan_script.specs.declared.line.Line.TheVariants as lines
+use Rattle.plan_script.specs.declared.line.ScriptLine.{ScriptLine}
+use Rattle.plan_script.specs.declared.line.ScriptLine.TheVariants as lines
 use Rattle.plan_script.specs.declared.line.Delivers.{Delivers}
 use Rattle.plan_script.specs.declared.line.Delivers.TheVariants as delivers
 
@@ -55,16 +55,16 @@ in_schedule plan (delivers.Packet packet) = has_packet plan packet
 in_schedule plan (delivers.Packets first last) = nat_le first last && has_packet plan last
 in_schedule plan (delivers.Back packet) = has_packet plan packet
 
-abbrev pub in_range : Plan → Line → Bool
+abbrev pub in_range : Plan → ScriptLine → Bool
 in_range plan lines.Feed = true
 in_range plan (lines.Deliver d) = in_schedule plan d
 
 -- a line of the right words: those that have to be numbers, and what it says
-pub record Form : Type 0 where
+pub record LineForm : Type 0 where
   pub numbers : List (List ℕ)
-  pub says : Line
+  pub says : ScriptLine
 
-abbrev pub form : List (List ℕ) → Line → Option Form
+abbrev pub form : List (List ℕ) → ScriptLine → Option LineForm
 form numbers says = Some (record { numbers = numbers; says = says })
 
 -- the number that a word spells
@@ -72,32 +72,32 @@ abbrev pub value : List ℕ → ℕ
 value word = digits_value 10 word
 
 -- feed
-unfoldable pub feed_line : List (List ℕ) → Option Form
+unfoldable pub feed_line : List (List ℕ) → Option LineForm
 feed_line [] = form [] lines.Feed
 feed_line _ = None
 
 -- take PACKET FRAGMENT
-unfoldable pub take_line : List (List ℕ) → Option Form
+unfoldable pub take_line : List (List ℕ) → Option LineForm
 take_line (packet ∷ i ∷ []) = form (packet ∷ i ∷ []) (lines.Deliver (delivers.Take (value packet) (value i)))
 take_line _ = None
 
 -- packet PACKET
-unfoldable pub packet_line : List (List ℕ) → Option Form
+unfoldable pub packet_line : List (List ℕ) → Option LineForm
 packet_line (packet ∷ []) = form (packet ∷ []) (lines.Deliver (delivers.Packet (value packet)))
 packet_line _ = None
 
 -- packets FIRST LAST
-unfoldable pub packets_line : List (List ℕ) → Option Form
+unfoldable pub packets_line : List (List ℕ) → Option LineForm
 packets_line (first ∷ last ∷ []) = form (first ∷ last ∷ []) (lines.Deliver (delivers.Packets (value first) (value last)))
 packets_line _ = None
 
 -- back PACKET
-unfoldable pub back_line : List (List ℕ) → Option Form
+unfoldable pub back_line : List (List ℕ) → Option LineForm
 back_line (packet ∷ []) = form (packet ∷ []) (lines.Deliver (delivers.Back (value packet)))
 back_line _ = None
 
 -- a line by its first word and those after it
-abbrev pub form_of : List ℕ → List (List ℕ) → Option Form
+abbrev pub form_of : List ℕ → List (List ℕ) → Option LineForm
 form_of first words =
     if bytes_eq first (codes "feed") then feed_line words
     else if bytes_eq first (codes "take") then take_line words
@@ -106,16 +106,16 @@ form_of first words =
     else if bytes_eq first (codes "back") then back_line words
     else None
 
-abbrev pub is_feed : Line → Bool
+abbrev pub is_feed : ScriptLine → Bool
 is_feed lines.Feed = true
 is_feed (lines.Deliver d) = false
 
-abbrev pub line_delivers : Plan → Line → List Delivery
+abbrev pub line_delivers : Plan → ScriptLine → List Delivery
 line_delivers plan lines.Feed = []
 line_delivers plan (lines.Deliver d) = delivered plan d
 
 -- the feeds of these lines: each feed line begins one, which gets what the lines behind it deliver, up to the next one
-unfoldable pub feeds_of : Plan → List Line → List (List Delivery)
+unfoldable pub feeds_of : Plan → List ScriptLine → List (List Delivery)
 feeds_of plan said = map (flat_map (line_delivers plan)) (drop 1 (slice_split is_feed said))
 
 -- more than 16 feeds, 100,000 deliveries or 268,435,456 bytes
@@ -131,29 +131,29 @@ pub record IsScript (plan : Plan) (feeds : List (List Delivery)) : Type 0 where
   pub few_bytes : sum_by (sum_by (delivery_size plan)) feeds ≤ 268435456
 
 -- a fault of a script's text
-abbrev pub Fault : Type 0
-Fault = FaultOf Reason
+abbrev pub ScriptTextFault : Type 0
+ScriptTextFault = FaultOf Reason
 
-abbrev pub are_numbers : Option Form → Bool
+abbrev pub are_numbers : Option LineForm → Bool
 are_numbers None = true
 are_numbers (Some f) = list_all is_number f.numbers
 
-abbrev pub is_in_range : Plan → Option Form → Bool
+abbrev pub is_in_range : Plan → Option LineForm → Bool
 is_in_range plan None = true
 is_in_range plan (Some f) = in_range plan f.says
 
 -- these lines, and one of this form after them
-abbrev pub with_form : List Line → Option Form → List Line
+abbrev pub with_form : List ScriptLine → Option LineForm → List ScriptLine
 with_form said None = said
 with_form said (Some f) = said ++ f.says ∷ []
 
 -- a line that delivers, where there is no feed
-abbrev pub lacks_feed : List (List Delivery) → Option Form → Bool
+abbrev pub lacks_feed : List (List Delivery) → Option LineForm → Bool
 lacks_feed feeds None = false
 lacks_feed feeds (Some f) = not (is_feed f.says) && length feeds == 0
 
 -- The rows for line n of this form: the first that holds is the fault. A line that isn't of the right words has no form.
-abbrev pub rows : Plan → ℕ → Option Form → Bool → Bool → List (Bool × Fault)
+abbrev pub rows : Plan → ℕ → Option LineForm → Bool → Bool → List (Bool × ScriptTextFault)
 rows plan n line missing long =
     (is_none line, fault n Word)
     ∷ (not (are_numbers line), fault n Number)
@@ -163,33 +163,33 @@ rows plan n line missing long =
     ∷ []
 
 -- those for a line after these: no feed stands before it, or it goes past a limit
-abbrev pub rows_of : Plan → List Line → ℕ → Option Form → List (Bool × Fault)
+abbrev pub rows_of : Plan → List ScriptLine → ℕ → Option LineForm → List (Bool × ScriptTextFault)
 rows_of plan said n line = rows plan n line (lacks_feed (feeds_of plan said) line) (is_too_long plan (feeds_of plan (with_form said line)))
 
 -- a line of this form after these lines
-unfoldable pub said_form : Plan → List Line → ℕ → Option Form → Result (List Line) Fault
+unfoldable pub said_form : Plan → List ScriptLine → ℕ → Option LineForm → Result (List ScriptLine) ScriptTextFault
 said_form plan said n line = ok_unless (first_fault (rows_of plan said n line)) (with_form said line)
 
 -- a line of these words
-abbrev pub said_words : Plan → List Line → ℕ → List (List ℕ) → Result (List Line) Fault
+abbrev pub said_words : Plan → List ScriptLine → ℕ → List (List ℕ) → Result (List ScriptLine) ScriptTextFault
 said_words plan said n words = words_say said (λ first more. said_form plan said n (form_of first more)) words
 
 -- lines from line n on, after these lines
-abbrev pub said_from : Plan → List Line → ℕ → List (List ℕ) → Result (List Line) Fault
+abbrev pub said_from : Plan → List ScriptLine → ℕ → List (List ℕ) → Result (List ScriptLine) ScriptTextFault
 said_from plan said n lines = lines_say (λ before k line. said_words plan before k (words_of line)) said n lines
 
 -- the end of a text of n lines, where no feed may be missing
-unfoldable pub ended : ℕ → List (List Delivery) → Result (List (List Delivery)) Fault
+unfoldable pub ended : ℕ → List (List Delivery) → Result (List (List Delivery)) ScriptTextFault
 ended n feeds = ok_unless (first_fault ((length feeds == 0, fault (n + 1) Missing) ∷ [])) feeds
 
 -- the feeds that the lines of a text give, or their first fault
-unfoldable pub script_of : Plan → List (List ℕ) → Result (List (List Delivery)) Fault
+unfoldable pub script_of : Plan → List (List ℕ) → Result (List (List Delivery)) ScriptTextFault
 script_of plan lines = do
   said ← said_from plan [] 1 lines
   ended (length lines) (feeds_of plan said)
 
 -- the feeds that a text gives, or its first fault: that it is too long, then that it is no UTF-8, then that of its lines
-unfoldable pub script_of_text : Plan → List ℕ → Result (List (List Delivery)) Fault
+unfoldable pub script_of_text : Plan → List ℕ → Result (List (List Delivery)) ScriptTextFault
 script_of_text plan text =
     if nat_lt longest_text (length text) then Err (fault 0 TooLong)
     else if is_utf8 text then script_of plan (lines_of text)

@@ -14,13 +14,13 @@ use Rattle.plan_script.specs.declared.delivery.Delivery.{Delivery}
 use Rattle.plan_script.specs.declared.fault.ScriptFault.{ScriptFault}
 use Rattle.plan_script.specs.declared.fault.ScriptFault.TheVariants as faults
 use Rattle.plan_script.specs.declared.feeds.Feeds.{Feeds}
-use Rattle.plan_script.specs.declared.line.Line.{Line}
-use Rattle.plan_script.specs.declared.line.Line.TheVariants as lines
-use Rattle.plan_script.specs.declared.packet.Packet.{Packet}
-use Rattle.plan_script.specs.Script.{Form, Fault, delivery_size, delivered, in_range, form_of, lacks_feed, is_too_long, rows}
+use Rattle.plan_script.specs.declared.line.ScriptLine.{ScriptLine}
+use Rattle.plan_script.specs.declared.line.ScriptLine.TheVariants as lines
+use Rattle.plan_script.specs.declared.packet.SchedulePacket.{SchedulePacket}
+use Rattle.plan_script.specs.Script.{LineForm, ScriptTextFault, delivery_size, delivered, in_range, form_of, lacks_feed, is_too_long, rows}
 
 -- a packet of the schedule, and how it is cut
-pub record IsPacket (plan : Plan) (packet : Packet) : Type 0 where
+pub record IsPacket (plan : Plan) (packet : SchedulePacket) : Type 0 where
   pub size : packet.len ≡ packet_size plan packet.number
   pub cut : packet.cut ≡ cut_of plan.carry packet.len
 
@@ -29,12 +29,12 @@ abbrev pub first_row : List (Bool × Reason) → Option Reason
 first_row [] = None
 first_row (row ∷ rows) = if row.0 then Some row.1 else first_row rows
 
-abbrev pub line_unless : Option Reason → Line → Result Line Reason
+abbrev pub line_unless : Option Reason → ScriptLine → Result ScriptLine Reason
 line_unless None line = Ok line
 line_unless (Some reason) line = Err reason
 
 -- what a line says by itself
-abbrev pub reading : Plan → Option Form → Result Line Reason
+abbrev pub reading : Plan → Option LineForm → Result ScriptLine Reason
 reading plan None = Err Word
 reading plan (Some f) = line_unless (first_row ((not (list_all is_number f.numbers), Number) ∷ (not (in_range plan f.says), Range) ∷ [])) f.says
 
@@ -45,26 +45,26 @@ to_last more (feed ∷ []) = (feed ++ more) ∷ []
 to_last more (feed ∷ next ∷ feeds) = feed ∷ to_last more (next ∷ feeds)
 
 -- one more line
-abbrev pub with_line : Plan → Line → List (List Delivery) → List (List Delivery)
+abbrev pub with_line : Plan → ScriptLine → List (List Delivery) → List (List Delivery)
 with_line plan lines.Feed feeds = feeds ++ [] ∷ []
 with_line plan (lines.Deliver d) feeds = to_last (delivered plan d) feeds
 
-abbrev pub feeds_with : Plan → List (List Delivery) → Option Form → List (List Delivery)
+abbrev pub feeds_with : Plan → List (List Delivery) → Option LineForm → List (List Delivery)
 feeds_with plan feeds None = feeds
 feeds_with plan feeds (Some f) = with_line plan f.says feeds
 
 -- a line of this form after these feeds
-unfoldable pub form_after : Plan → List (List Delivery) → ℕ → Option Form → Result (List (List Delivery)) Fault
+unfoldable pub form_after : Plan → List (List Delivery) → ℕ → Option LineForm → Result (List (List Delivery)) ScriptTextFault
 form_after plan feeds n line = ok_unless (first_fault (rows plan n line (lacks_feed feeds line) (is_too_long plan (feeds_with plan feeds line)))) (feeds_with plan feeds line)
 
-abbrev pub words_after : Plan → List (List Delivery) → ℕ → List (List ℕ) → Result (List (List Delivery)) Fault
+abbrev pub words_after : Plan → List (List Delivery) → ℕ → List (List ℕ) → Result (List (List Delivery)) ScriptTextFault
 words_after plan feeds n words = words_say feeds (λ first more. form_after plan feeds n (form_of first more)) words
 
 -- what line n does to the feeds
-abbrev pub line_after : Plan → List (List Delivery) → ℕ → List ℕ → Result (List (List Delivery)) Fault
+abbrev pub line_after : Plan → List (List Delivery) → ℕ → List ℕ → Result (List (List Delivery)) ScriptTextFault
 line_after plan feeds n line = words_after plan feeds n (words_of line)
 
-abbrev pub lines_after : Plan → List (List Delivery) → ℕ → List (List ℕ) → Result (List (List Delivery)) Fault
+abbrev pub lines_after : Plan → List (List Delivery) → ℕ → List (List ℕ) → Result (List (List Delivery)) ScriptTextFault
 lines_after plan feeds n lines = lines_say (line_after plan) feeds n lines
 
 -- the feeds that are kept
@@ -112,23 +112,23 @@ KeepsPackets (Err faults.NoMemory) n new whole = Unit {0}
 KeepsPackets (Err (faults.Line line reason)) n new whole = (line ≡ n) × (reason ≡ TooLong) × (is_full whole ≡ true)
 
 -- a call's fault as one of the text
-abbrev pub told : ScriptFault → Option Fault
-told faults.NoMemory = None
-told (faults.Line line reason) = Some (fault line reason)
+abbrev pub line_fault : ScriptFault → Option ScriptTextFault
+line_fault faults.NoMemory = None
+line_fault (faults.Line line reason) = Some (fault line reason)
 
 -- a call that fails as the reading does, unless memory ran out
-abbrev pub FailsAs : {X : Type 0} → ScriptFault → Result X Fault → Type 0
-FailsAs p read = FailsAt (told p) read
+abbrev pub FailsAs : {X : Type 0} → ScriptFault → Result X ScriptTextFault → Type 0
+FailsAs p read = FailsAt (line_fault p) read
 
 -- the lines are read on, or failed at their first fault, unless memory ran out
-abbrev pub ScriptSteps : Result (Unit {0}) ScriptFault → List (List Delivery) → Result (List (List Delivery)) Fault → Type 0
-ScriptSteps r new read = LeavesSaid told r new read
+abbrev pub ScriptSteps : Result (Unit {0}) ScriptFault → List (List Delivery) → Result (List (List Delivery)) ScriptTextFault → Type 0
+ScriptSteps r new read = LeavesSaid line_fault r new read
 
 -- what is read, or the first fault, unless memory ran out
-abbrev pub ReadsScript : {X : Type 0} → Result X ScriptFault → Result X Fault → Type 0
-ReadsScript r read = GivesSaid told r read
+abbrev pub ReadsScript : {X : Type 0} → Result X ScriptFault → Result X ScriptTextFault → Type 0
+ReadsScript r read = GivesSaid line_fault r read
 
 -- the feeds that lines give, or their first fault, unless memory ran out
-abbrev pub ReadsFeeds : Result Feeds ScriptFault → Result (List (List Delivery)) Fault → Type 0
+abbrev pub ReadsFeeds : Result Feeds ScriptFault → Result (List (List Delivery)) ScriptTextFault → Type 0
 ReadsFeeds (Ok feeds) read = read ≡ Ok (feeds_in feeds)
 ReadsFeeds (Err p) read = FailsAs p read

@@ -31,7 +31,7 @@ impl From<AllocError> for ScriptFault {
     }
 }
 
-pub fn at(line: u32, reason: Reason) -> ScriptFault
+pub fn fault_at_line(line: u32, reason: Reason) -> ScriptFault
     ensures { result ≡ ScriptFault.Line line reason }
 {
     ScriptFault::Line { line, reason }

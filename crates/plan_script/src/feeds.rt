@@ -7,12 +7,12 @@ ghost use Rattle.plan_script.specs.Script.{all_of, delivered, delivery, delivery
 ghost use Rattle.plan_script.specs.Steps.{AreCounted, FeedBegins, IsPacket, KeepsPackets, ReadsScript, begun, with_all, pushed, is_full, feeds_in};
 
 use crate::delivery::Delivery;
-use crate::fault::{ScriptFault, at};
+use crate::fault::{ScriptFault, fault_at_line};
 use crate::line::Delivers;
-use crate::packet::Packet;
+use crate::packet::SchedulePacket;
 use crate::script::Script;
 use drm_bits::NoMemory;
-use drm_schedule::{Items, Reason, Schedule};
+use drm_schedule::{OwnedList, Reason, Schedule};
 use std::alloc::Global;
 
 /// The most feeds of a script, without the last one.
@@ -27,8 +27,8 @@ const MOST_BYTES: u64 = 268_435_456;
 /// The feeds that a later one ended and the last one, and how many deliveries and bytes they have together.
 #[derive(Drop)]
 pub struct Feeds {
-    pub closed: Items<Items<Delivery>>,
-    pub current: Option<Items<Delivery>>,
+    pub closed: OwnedList<OwnedList<Delivery>>,
+    pub current: Option<OwnedList<Delivery>>,
     pub count: u32,
     pub bytes: u64,
 }
@@ -40,7 +40,7 @@ impl Feeds {
         ensures none { feeds_in result ≡ [] }
     {
         Feeds {
-            closed: Items::new(alloc),
+            closed: OwnedList::new(alloc),
             current: None,
             count: 0,
             bytes: 0,
@@ -52,9 +52,9 @@ impl Feeds {
         requires { length self.old.closed ≤ 15 }
         ensures { FeedBegins result n self.new (begun self.old) }
     {
-        if let Some(feed) = self.current.replace(Items::new(alloc)) {
+        if let Some(feed) = self.current.replace(OwnedList::new(alloc)) {
             if self.closed.len() >= MOST_CLOSED {
-                return Err(at(n, Reason::TooLong));
+                return Err(fault_at_line(n, Reason::TooLong));
             }
             self.closed.push(feed)?;
         }
@@ -73,7 +73,7 @@ impl Feeds {
             ..
         } = self;
         match current {
-            None => Err(at(n + 1, Reason::Missing)),
+            None => Err(fault_at_line(n + 1, Reason::Missing)),
             Some(feed) => {
                 let mut feeds = closed;
                 feeds.push(feed)?;
@@ -99,7 +99,7 @@ impl Feeds {
             → KeepsPackets result n self.new (with_all plan (delivery ∷ []) self.old) }
     {
         if self.count >= MOST_DELIVERIES || self.bytes + size > MOST_BYTES {
-            return Err(at(n, Reason::TooLong));
+            return Err(fault_at_line(n, Reason::TooLong));
         }
         self.count += 1;
         self.bytes += size;
@@ -107,7 +107,7 @@ impl Feeds {
     }
 
     // Fragment `i` of a packet.
-    fn put_fragment(&mut self, n: u32, packet: &Packet, i: u32) -> Result<(), ScriptFault>
+    fn put_fragment(&mut self, n: u32, packet: &SchedulePacket, i: u32) -> Result<(), ScriptFault>
         requires fits { is_full self.old ≡ false }
         requires in_range { packet.now.len < 2 ^ 16 }
         ensures { (plan : Plan) → IsPacket plan packet.now
@@ -121,7 +121,7 @@ impl Feeds {
         requires fits { is_full self.old ≡ false }
         ensures { KeepsPackets result n self.new (with_all plan.now (delivery number i ∷ []) self.old) }
     {
-        self.put_fragment(n, &Packet::of(plan, number), i)
+        self.put_fragment(n, &SchedulePacket::of(plan, number), i)
     }
 
     // All fragments of a packet, in their order.
@@ -129,7 +129,7 @@ impl Feeds {
         requires fits { is_full self.old ≡ false }
         ensures { KeepsPackets result n self.new (with_all plan.now (all_of plan.now number) self.old) }
     {
-        let packet = Packet::of(plan, number);
+        let packet = SchedulePacket::of(plan, number);
         let count = packet.count();
         for i in 0..count {
             self.put_fragment(n, &packet, i)?;
@@ -142,7 +142,7 @@ impl Feeds {
         requires fits { is_full self.old ≡ false }
         ensures { KeepsPackets result n self.new (with_all plan.now (reverse (all_of plan.now number)) self.old) }
     {
-        let packet = Packet::of(plan, number);
+        let packet = SchedulePacket::of(plan, number);
         let mut left = packet.count();
         while left > 0 {
             left -= 1;

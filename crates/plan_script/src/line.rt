@@ -2,7 +2,7 @@
 
 /// What a line of a script says.
 #[derive(Clone, Copy, Debug, PartialEq, Eq)]
-pub enum Line {
+pub enum ScriptLine {
     /// A feed begins.
     Feed,
     Deliver(Delivers),

@@ -12,15 +12,15 @@ use drm_timeline::packet_len;
 
 /// A packet of a schedule, its bytes, and how it is cut, where it isn't carried whole.
 #[derive(Clone, Copy)]
-pub struct Packet {
+pub struct SchedulePacket {
     pub number: u32,
     pub len: usize,
     pub cut: Option<Shape>,
 }
 
-impl Packet {
+impl SchedulePacket {
     /// The packet with this number.
-    pub fn of(plan: &Schedule, number: u32) -> Packet
+    pub fn of(plan: &Schedule, number: u32) -> SchedulePacket
         ensures packet { IsPacket plan.now result }
         ensures number { result.number ≡ number }
         ensures in_range { result.len < 2 ^ 16 }
@@ -28,7 +28,7 @@ impl Packet {
         plan.always_valid();
         let len = packet_len(plan, number);
         let cut = cut_for(plan.carry(), len);
-        Packet { number, len, cut }
+        SchedulePacket { number, len, cut }
     }
 
     /// How many datagrams carry it.

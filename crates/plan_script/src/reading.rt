@@ -6,7 +6,7 @@ ghost use Rattle.text_lines.specs.Texts.{longest_text};
 ghost use Rattle.plan_script.specs.Script.{IsScript, script_of, script_of_text};
 ghost use Rattle.plan_script.specs.Steps.{ReadsScript};
 
-use crate::fault::{ScriptFault, at};
+use crate::fault::{ScriptFault, fault_at_line};
 use crate::rules::read_lines;
 use crate::script::Script;
 use drm_schedule::{Reason, Schedule};
@@ -35,7 +35,7 @@ pub fn read_script(alloc: Global, text: &[u8], plan: &Schedule) -> Result<Script
 {
     match readable(text) {
         Ok(text) => read_text(alloc, text, plan),
-        Err(NoText::TooLong) => Err(at(0, Reason::TooLong)),
-        Err(NoText::Utf8 { line }) => Err(at(line, Reason::Utf8)),
+        Err(NoText::TooLong) => Err(fault_at_line(0, Reason::TooLong)),
+        Err(NoText::Utf8 { line }) => Err(fault_at_line(line, Reason::Utf8)),
     }
 }

@@ -2,13 +2,13 @@
 
 ghost use Rattle.std.specs.Prelude.{◌≡◌, ◌+◌, ◌-◌, ◌<◌, ◌≤◌, ◌^◌, ◌∷◌, [], true, length, map, Option, Err, IfOk, OnOk};
 ghost use Rattle.text_lines.specs.Lines.{words_of};
-ghost use Rattle.plan_script.specs.Script.{Form, delivered, in_range, in_schedule, script_of, IsScript};
+ghost use Rattle.plan_script.specs.Script.{LineForm, delivered, in_range, in_schedule, script_of, IsScript};
 ghost use Rattle.plan_script.specs.Steps.{AreCounted, KeepsPackets, ReadsScript, ReadsFeeds, ScriptSteps, feeds_in, form_after, lines_after, reading, with_all, words_after};
 ghost use Rattle.plan_script.specs.declared.fault.ScriptFault.TheVariants as faults;
 
-use crate::fault::{ScriptFault, at};
+use crate::fault::{ScriptFault, fault_at_line};
 use crate::feeds::Feeds;
-use crate::line::{Delivers, Line};
+use crate::line::{Delivers, ScriptLine};
 use crate::read_line::read_line;
 use crate::script::Script;
 use drm_schedule::{Reason, Schedule};
@@ -25,7 +25,7 @@ impl Feeds {
             → KeepsPackets result n self.new (with_all plan.now (delivered plan.now delivers) self.old) }
     {
         if self.current.is_none() {
-            return Err(at(n, Reason::Missing));
+            return Err(fault_at_line(n, Reason::Missing));
         }
         self.deliver(plan, n, delivers)
     }
@@ -35,19 +35,19 @@ impl Feeds {
         alloc: Global,
         plan: &Schedule,
         n: u32,
-        line: Result<Line, Reason>,
+        line: Result<ScriptLine, Reason>,
     ) -> Result<(), ScriptFault>
         requires counted { AreCounted plan.now self.old }
         requires within { IfOk line (λ l. in_range plan.now l ≡ true) }
-        ensures steps { (form : Option Form) → line ≡ reading plan.now form
+        ensures steps { (form : Option LineForm) → line ≡ reading plan.now form
             → ScriptSteps result (feeds_in self.new) (form_after plan.now (feeds_in self.old) n form) }
         ensures counted { OnOk result (AreCounted plan.now self.new) }
     {
         match line {
-            Err(reason) => Err(at(n, reason)),
+            Err(reason) => Err(fault_at_line(n, reason)),
             Ok(line) => match line {
-                Line::Feed => self.begin(alloc, n),
-                Line::Deliver(delivers) => self.add(plan, n, delivers),
+                ScriptLine::Feed => self.begin(alloc, n),
+                ScriptLine::Deliver(delivers) => self.add(plan, n, delivers),
             },
         }
     }

@@ -4,14 +4,14 @@ ghost use Rattle.std.specs.Prelude.{◌≡◌, ◌<◌, ◌∷◌, [], length, s
 
 use crate::delivery::Delivery;
 use drm_bits::NoMemory;
-use drm_schedule::Items;
+use drm_schedule::OwnedList;
 use std::alloc::Global;
 use std::marker::Model;
 
 /// Which fragments of which packets of a schedule reach which feed, and in which order.
 #[derive(Drop)]
 pub struct Script {
-    feeds: Items<Items<Delivery>>,
+    feeds: OwnedList<OwnedList<Delivery>>,
 }
 
 impl Model for Script {
@@ -24,17 +24,17 @@ impl Model for Script {
 }
 
 impl Script {
-    pub(crate) fn new(feeds: Items<Items<Delivery>>) -> Script
+    pub(crate) fn new(feeds: OwnedList<OwnedList<Delivery>>) -> Script
         ensures { result ≡ feeds }
     {
         Script { feeds }
     }
 
     /// The script of one feed.
-    pub fn of_feed(alloc: Global, feed: Items<Delivery>) -> Result<Script, NoMemory>
+    pub fn of_feed(alloc: Global, feed: OwnedList<Delivery>) -> Result<Script, NoMemory>
         ensures { IfOk result (λ script. script ≡ feed ∷ []) }
     {
-        let mut feeds = Items::new(alloc);
+        let mut feeds = OwnedList::new(alloc);
         feeds.push(feed)?;
         Ok(Script { feeds })
     }

@@ -4,7 +4,7 @@ ghost use Rattle.std.specs.Prelude.{◌≡◌, ◌<◌, ◌&&◌, nat_le, nat_lt
 ghost use Rattle.text_lines.specs.Numbers.{is_number};
 ghost use Rattle.plan_script.specs.Script.{value, has_packet, fragment_count};
 
-use crate::packet::Packet;
+use crate::packet::SchedulePacket;
 use drm_schedule::{Reason, Schedule};
 use drm_timeline::frame_count;
 
@@ -34,7 +34,7 @@ pub fn packet(plan: &Schedule, number: u64) -> Result<u32, Reason>
 pub fn fragment(plan: &Schedule, packet: u32, number: u64) -> Result<u32, Reason>
     ensures { MatchResult result (λ n. (nat_lt number (fragment_count plan.now packet) ≡ true) × (n ≡ number)) (λ reason. (nat_lt number (fragment_count plan.now packet) ≡ false) × (reason ≡ Reason.Range)) }
 {
-    if number < u64::from(Packet::of(plan, packet).count()) {
+    if number < u64::from(SchedulePacket::of(plan, packet).count()) {
         Ok(number as u32)
     } else {
         Err(Reason::Range)

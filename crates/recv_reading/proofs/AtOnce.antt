@@ -4,13 +4,13 @@ use Rattle.std.proofs.lemmas.List.{append-nil}
 use Rattle.std.proofs.lemmas.List.Elements.{filter_map-append}
 use Rattle.drm_links.specs.Link.{Answer, Datagram, Idle, Failed, End, datagram_of}
 use Rattle.dcp_collect.specs.declared.taken.Taken.{Taken}
-use Rattle.dcp_collect.specs.State.{State, made}
-use Rattle.dcp_collect.specs.Runs.{Item, CollectorSteps}
+use Rattle.dcp_collect.specs.CollectorState.{CollectorState, made}
+use Rattle.dcp_collect.specs.Runs.{CollectorItem, CollectorSteps}
 use Rattle.law_collect.specs.Laws.{most_at_once}
 use Rattle.law_collect.proofs.AtOnce.{few_at_once}
 use Rattle.law_collect.proofs.Runs.{steps_part}
 use Rattle.recv_reading.specs.declared.options.ReceiveOptions.{ReceiveOptions}
-use Rattle.recv_reading.specs.Ending.{datagrams, Gave, GaveItems, FewMore, FewAtOnce}
+use Rattle.recv_reading.specs.Ending.{datagrams, CollectorGave, GaveItems, FewMore, FewAtOnce}
 use Rattle.recv_reading.proofs.Reaching.{one_way}
 
 -- where there is a number or not
@@ -23,8 +23,8 @@ if_weaker None f a = tt
 if_weaker (Some n) f a = f a
 
 -- one datagram
-one_step : (window reach : ℕ) (first : Option ℕ) (datagrams : List (List ℕ)) (answers : List Taken) (given : List Item) (mid : State)
-    (bytes : List ℕ) (last : List Taken) (later : List Item) (end : State)
+one_step : (window reach : ℕ) (first : Option ℕ) (datagrams : List (List ℕ)) (answers : List Taken) (given : List CollectorItem) (mid : CollectorState)
+    (bytes : List ℕ) (last : List Taken) (later : List CollectorItem) (end : CollectorState)
     → 1 ≤ window → CollectorSteps (made window reach first) datagrams answers given mid → CollectorSteps mid (bytes ∷ []) last later end
     → (length later ≤ most_at_once window) × IfSome mid.newest (λ n. length later ≤ reach + window)
 one_step window reach first datagrams answers given mid bytes [] later end some s t = absurd t
@@ -36,21 +36,21 @@ one_step window reach first datagrams answers given mid bytes (a ∷ []) later e
 one_step window reach first datagrams answers given mid bytes (a ∷ b ∷ last) later end some s (now, more, kept, next, takes, gives, steps, are) = absurd steps
 
 -- a datagram behind those that gave the items before
-datagram_more : (rules : ReceiveOptions) (ds : List (List ℕ)) (bytes : List ℕ) (taken taken' : List Taken) (before items : List Item) (mid end : State)
+datagram_more : (rules : ReceiveOptions) (ds : List (List ℕ)) (bytes : List ℕ) (taken taken' : List Taken) (before items : List CollectorItem) (mid end : CollectorState)
     → 1 ≤ rules.window → CollectorSteps (made rules.window rules.reach rules.first) ds taken before mid
     → CollectorSteps (made rules.window rules.reach rules.first) (ds ++ bytes ∷ []) taken' items end → FewMore rules mid before items
 datagram_more rules ds bytes taken taken' before items mid end some s t =
-    let (half, first, last, now, later, front, back, told, are) = steps_part (made rules.window rules.reach rules.first) end ds (bytes ∷ []) taken' items t in
+    let (half, first, last, now, later, front, back, answers_are, are) = steps_part (made rules.window rules.reach rules.first) end ds (bytes ∷ []) taken' items t in
     let (replies, same, there) = one_way (made rules.window rules.reach rules.first) mid half ds taken first before now s front in
     let few = one_step rules.window rules.reach rules.first ds first now half bytes last later end some front back in
     let size : length items ≡ length before + length later = ap length are ∙ (length-append now later ∙ ap (λ n. n + length later) (ap length same)) in (
       (let f = few.0 in omega (arith, f, size)),
-      subst (λ (c : State). IfSome c.newest (λ n. length items ≤ length before + (rules.reach + rules.window))) there
+      subst (λ (c : CollectorState). IfSome c.newest (λ n. length items ≤ length before + (rules.reach + rules.window))) there
           (if_weaker half.newest (λ f. omega (arith, f, size)) few.1),
     )
 
 -- the same datagrams
-none_more : (rules : ReceiveOptions) (ds : List (List ℕ)) (taken taken' : List Taken) (before items : List Item) (mid end : State)
+none_more : (rules : ReceiveOptions) (ds : List (List ℕ)) (taken taken' : List Taken) (before items : List CollectorItem) (mid end : CollectorState)
     → CollectorSteps (made rules.window rules.reach rules.first) ds taken before mid → CollectorSteps (made rules.window rules.reach rules.first) ds taken' items end
     → FewMore rules mid before items
 none_more rules ds taken taken' before items mid end s t =
@@ -58,8 +58,8 @@ none_more rules ds taken taken' before items mid end s t =
     let size : length items ≡ length before = ap length same in
     (omega (arith, size), if_some mid.newest (omega (arith, size)))
 
-answer_more : (rules : ReceiveOptions) (xs : List Answer) (x : Answer) (taken : List Taken) (before items : List Item) (mid : State) → 1 ≤ rules.window
-    → Gave rules xs taken before mid → GaveItems rules (xs ++ x ∷ []) items → FewMore rules mid before items
+answer_more : (rules : ReceiveOptions) (xs : List Answer) (x : Answer) (taken : List Taken) (before items : List CollectorItem) (mid : CollectorState) → 1 ≤ rules.window
+    → CollectorGave rules xs taken before mid → GaveItems rules (xs ++ x ∷ []) items → FewMore rules mid before items
 answer_more rules xs x taken before items mid some s (taken', end, t) =
     by x (subst (λ ds. CollectorSteps (made rules.window rules.reach rules.first) ds taken' items end) (filter_map-append datagram_of xs (x ∷ [])) t)
   where

@@ -8,33 +8,33 @@ use Rattle.drm_links.specs.Link.{Answer, Datagram, Idle, Failed, End, datagram_o
 use Rattle.recv_reading.specs.declared.reason.EndWord.TheVariants as word
 use Rattle.recv_reading.specs.declared.options.ReceiveOptions.{ReceiveOptions}
 use Rattle.recv_reading.specs.Options.{AreInRange}
-use Rattle.recv_reading.specs.Ending.{datagrams, idles_from, idles, HasGiven, HaveEnded, IsOpen, IsSound, GoesOn, most_answers}
+use Rattle.recv_reading.specs.Ending.{datagrams, idles_from, idles, HasGiven, HaveEnded, IsReadingOpen, HasNotFailed, ReadingGoesOn, most_answers}
 
-pub goes_none : (rules : ReceiveOptions) → GoesOn rules []
+pub goes_none : (rules : ReceiveOptions) → ReadingGoesOn rules []
 goes_none rules = record { sound = tt; shorter = λ k l. absurd (omega arith) }
 
-answers_more : (xs : List Answer) (x : Answer) → AllByRecursion IsSound xs → IsSound x → AllByRecursion IsSound (xs ++ x ∷ [])
+answers_more : (xs : List Answer) (x : Answer) → AllByRecursion HasNotFailed xs → HasNotFailed x → AllByRecursion HasNotFailed (xs ++ x ∷ [])
 answers_more [] x all one = (one, tt)
 answers_more (y ∷ xs) x all one = (all.0, answers_more xs x all.1 one)
 
 le_cases : (k n : ℕ) → k < n + 1 → (k < n) ⊎ (k ≡ n)
 le_cases k n l = grind arith
 
-shorter_more : (rules : ReceiveOptions) (xs : List Answer) (x : Answer) → ((k : ℕ) → k < length xs → IsOpen rules (take k xs)) → IsOpen rules xs → (k : ℕ) → (k < length xs) ⊎ (k ≡ length xs) → IsOpen rules (take k (xs ++ x ∷ []))
+shorter_more : (rules : ReceiveOptions) (xs : List Answer) (x : Answer) → ((k : ℕ) → k < length xs → IsReadingOpen rules (take k xs)) → IsReadingOpen rules xs → (k : ℕ) → (k < length xs) ⊎ (k ≡ length xs) → IsReadingOpen rules (take k (xs ++ x ∷ []))
 shorter_more rules xs x shorter now k (inl l) =
     let w : k ≤ length xs = omega arith in
-    subst (λ ys. IsOpen rules ys) (sym (take-append-le k xs (x ∷ []) w)) (shorter k l)
+    subst (λ ys. IsReadingOpen rules ys) (sym (take-append-le k xs (x ∷ []) w)) (shorter k l)
 shorter_more rules xs x shorter now k (inr e) =
     let w : k ≤ length xs = omega arith in
-    subst (λ ys. IsOpen rules ys) (sym (take-append-le k xs (x ∷ []) w ∙ take_all k xs (omega arith))) now
+    subst (λ ys. IsReadingOpen rules ys) (sym (take-append-le k xs (x ∷ []) w ∙ take_all k xs (omega arith))) now
 
-pub goes_more : (rules : ReceiveOptions) (xs : List Answer) (x : Answer) → GoesOn rules xs → IsOpen rules xs → IsSound x → GoesOn rules (xs ++ x ∷ [])
+pub goes_more : (rules : ReceiveOptions) (xs : List Answer) (x : Answer) → ReadingGoesOn rules xs → IsReadingOpen rules xs → HasNotFailed x → ReadingGoesOn rules (xs ++ x ∷ [])
 goes_more rules xs x goes now one = record {
   sound = answers_more xs x goes.sound one;
   shorter = λ k l. shorter_more rules xs x goes.shorter now k (le_cases k (length xs) (let n : length (xs ++ x ∷ []) ≡ length xs + 1 = simp length-append (omega arith) in omega (arith, n, l)));
 }
 
-pub is_open : (rules : ReceiveOptions) (xs : List Answer) → (HasGiven rules xs rules.frames → ⊥) → length (datagrams xs) < rules.limit → idles xs < rules.idle → (HaveEnded xs → ⊥) → IsOpen rules xs
+pub is_open : (rules : ReceiveOptions) (xs : List Answer) → (HasGiven rules xs rules.frames → ⊥) → length (datagrams xs) < rules.limit → idles xs < rules.idle → (HaveEnded xs → ⊥) → IsReadingOpen rules xs
 is_open rules xs given limit idle ended word.Frames h = given h
 is_open rules xs given limit idle ended word.Limit h = omega (arith, h)
 is_open rules xs given limit idle ended word.Idle h = omega (arith, h)

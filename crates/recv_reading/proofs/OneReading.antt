@@ -2,10 +2,10 @@
 use Rattle.std.proofs.Common.{◌≡◌, ℕ, zero, suc, ◌+◌, ◌<◌, ◌≤◌, ◌⊎◌, inl, inr, List, [], ◌∷◌, ◌++◌, length, take, drop, None, Some, refl, sym, ◌∙◌, ap, subst, arith, length-append}
 use Rattle.std.specs.List.{AllByRecursion}
 use Rattle.std.proofs.lemmas.List.{take_all}
-use Rattle.recv_reading.proofs.Common.{Answer, Failed, EndWord, ReceiveOptions, EndsBy, GoesOn, IsFinished, IsBroken}
+use Rattle.recv_reading.proofs.Common.{Answer, Failed, EndWord, ReceiveOptions, ReadingEndsBy, ReadingGoesOn, IsFinished, IsReadingBroken}
 use Rattle.drm_links.specs.Hearing.{AreNext}
 use Rattle.recv_reading.specs.declared.reason.EndWord.TheVariants as word
-use Rattle.recv_reading.specs.Ending.{ReasonHolds, IsSound}
+use Rattle.recv_reading.specs.Ending.{ReasonHolds, HasNotFailed}
 use Rattle.recv_reading.specs.OneReading.{IsOneReading}
 
 pub next_front : (ahead r s : List Answer) (xs ys : List Answer) → AreNext ahead xs r → AreNext ahead ys s → length xs ≤ length ys → xs ≡ take (length xs) ys
@@ -16,7 +16,7 @@ next_front ahead r s (x ∷ xs) (y ∷ ys) p q l =
     let f : xs ≡ take (length xs) ys = next_front (drop 1 ahead) r s xs ys p.1 q.1 (omega arith) in
     ap (λ z. z ∷ xs) e ∙ ap (λ zs. y ∷ zs) f
 
-pub ends_hold : (rules : ReceiveOptions) (xs : List Answer) (w : EndWord) → EndsBy rules xs w → ReasonHolds rules xs w
+pub ends_hold : (rules : ReceiveOptions) (xs : List Answer) (w : EndWord) → ReadingEndsBy rules xs w → ReasonHolds rules xs w
 ends_hold rules xs word.Frames e = e
 ends_hold rules xs word.Limit e = e.0
 ends_hold rules xs word.Idle e = e.0
@@ -24,7 +24,7 @@ ends_hold rules xs word.Input e = e.0
 ends_hold rules xs word.Paths e = e
 
 -- where a list that holds a reason to end stands at the front of another one, that one doesn't go on
-pub not_shorter : (rules : ReceiveOptions) (ahead r s : List Answer) (xs ys : List Answer) (w : EndWord) → AreNext ahead xs r → AreNext ahead ys s → ReasonHolds rules xs w → GoesOn rules ys → length xs < length ys → ⊥
+pub not_shorter : (rules : ReceiveOptions) (ahead r s : List Answer) (xs ys : List Answer) (w : EndWord) → AreNext ahead xs r → AreNext ahead ys s → ReasonHolds rules xs w → ReadingGoesOn rules ys → length xs < length ys → ⊥
 not_shorter rules ahead r s xs ys w p q h g l =
     let e : xs ≡ take (length xs) ys = next_front ahead r s xs ys p q (omega arith) in
     g.shorter (length xs) l w (subst (λ zs. ReasonHolds rules zs w) e h)
@@ -51,7 +51,7 @@ finished_same rules ahead r s xs ys v w p q f g =
     sym (same_next ahead r s xs ys p q (not_shorter rules ahead r s xs ys v p q (ends_hold rules xs v f.ends) g.goes_on)
     (not_shorter rules ahead s r ys xs w q p (ends_hold rules ys w g.ends) f.goes_on))
 
-pub one_word : (rules : ReceiveOptions) (xs : List Answer) (v w : EndWord) → EndsBy rules xs v → EndsBy rules xs w → w ≡ v
+pub one_word : (rules : ReceiveOptions) (xs : List Answer) (v w : EndWord) → ReadingEndsBy rules xs v → ReadingEndsBy rules xs w → w ≡ v
 one_word rules xs word.Frames word.Frames e f = refl
 one_word rules xs word.Frames word.Limit e f = absurd (f.1 e)
 one_word rules xs word.Frames word.Idle e f = absurd (f.1 e)
@@ -75,24 +75,24 @@ pub next_split : (ahead s : List Answer) (xs ys : List Answer) → AreNext ahead
 next_split ahead s [] ys p = (ahead, refl)
 next_split ahead s (x ∷ xs) ys p = let h = next_split (drop 1 ahead) s xs ys p.1 in (h.0, (p.0, h.1))
 
-has_failed : (xs : List Answer) (n : ℕ) (before : List Answer) → AllByRecursion IsSound xs → before ++ Failed ∷ [] ≡ take n xs → ⊥
+has_failed : (xs : List Answer) (n : ℕ) (before : List Answer) → AllByRecursion HasNotFailed xs → before ++ Failed ∷ [] ≡ take n xs → ⊥
 has_failed [] zero [] all e = cc
 has_failed [] zero (b ∷ before) all e = cc
 has_failed [] (suc n) [] all e = cc
 has_failed [] (suc n) (b ∷ before) all e = cc
 has_failed (x ∷ xs) zero [] all e = cc
 has_failed (x ∷ xs) zero (b ∷ before) all e = cc
-has_failed (x ∷ xs) (suc n) [] all e = let f : Failed ≡ x = cc in subst IsSound (sym f) all.0
+has_failed (x ∷ xs) (suc n) [] all e = let f : Failed ≡ x = cc in subst HasNotFailed (sym f) all.0
 has_failed (x ∷ xs) (suc n) (b ∷ before) all e = has_failed xs n before all.1 cc
 
 -- answers that go on don't break off within themselves
-pub goes_past : (rules : ReceiveOptions) (ahead r s : List Answer) (xs before : List Answer) → AreNext ahead xs r → AreNext ahead (before ++ Failed ∷ []) s → GoesOn rules xs → length before < length xs → ⊥
+pub goes_past : (rules : ReceiveOptions) (ahead r s : List Answer) (xs before : List Answer) → AreNext ahead xs r → AreNext ahead (before ++ Failed ∷ []) s → ReadingGoesOn rules xs → length before < length xs → ⊥
 goes_past rules ahead r s xs before p q g l =
     let size : length (before ++ Failed ∷ []) ≡ length before + 1 = length-append before (Failed ∷ []) in
     has_failed xs (length (before ++ Failed ∷ [])) before g.sound (next_front ahead s r (before ++ Failed ∷ []) xs q p (omega (arith, size, l)))
 
 -- what is finished doesn't break off
-pub finished_whole : (rules : ReceiveOptions) (ahead r s : List Answer) (xs before ys : List Answer) (w : EndWord) → AreNext ahead xs r → AreNext ahead ys s → IsFinished rules xs w → IsBroken rules before ys → ⊥
+pub finished_whole : (rules : ReceiveOptions) (ahead r s : List Answer) (xs before ys : List Answer) (w : EndWord) → AreNext ahead xs r → AreNext ahead ys s → IsFinished rules xs w → IsReadingBroken rules before ys → ⊥
 finished_whole rules ahead r s xs before ys w p q f b =
     let q' : AreNext ahead (before ++ Failed ∷ []) s = subst (λ zs. AreNext ahead zs s) b.last q in
     let half = next_split ahead s before (Failed ∷ []) q' in
@@ -101,7 +101,7 @@ finished_whole rules ahead r s xs before ys w p q f b =
     b.is_open w (subst (λ zs. ReasonHolds rules zs w) same (ends_hold rules xs w f.ends))
 
 -- two that break off are one
-pub broken_same : (rules : ReceiveOptions) (ahead r s : List Answer) (before xs before' ys : List Answer) → AreNext ahead xs r → AreNext ahead ys s → IsBroken rules before xs → IsBroken rules before' ys → ys ≡ xs
+pub broken_same : (rules : ReceiveOptions) (ahead r s : List Answer) (before xs before' ys : List Answer) → AreNext ahead xs r → AreNext ahead ys s → IsReadingBroken rules before xs → IsReadingBroken rules before' ys → ys ≡ xs
 broken_same rules ahead r s before xs before' ys p q b d =
     let p' : AreNext ahead (before ++ Failed ∷ []) r = subst (λ zs. AreNext ahead zs r) b.last p in
     let q' : AreNext ahead (before' ++ Failed ∷ []) s = subst (λ zs. AreNext ahead zs s) d.last q in
@@ -114,7 +114,7 @@ broken_same rules ahead r s before xs before' ys p q b d =
 pub one_reading : IsOneReading
 one_reading rules ahead answers others (Some v) (Some w) p q =
     let same : others ≡ answers = finished_same rules ahead p.rest q.rest answers others v w p.next q.next p.ends q.ends in
-    (same, ap Some (one_word rules answers v w p.ends.ends (subst (λ zs. EndsBy rules zs w) same q.ends.ends)))
+    (same, ap Some (one_word rules answers v w p.ends.ends (subst (λ zs. ReadingEndsBy rules zs w) same q.ends.ends)))
 one_reading rules ahead answers others (Some v) None p q = absurd (finished_whole rules ahead p.rest q.rest answers q.ends.0 others v p.next q.next p.ends q.ends.1)
 one_reading rules ahead answers others None (Some w) p q = absurd (finished_whole rules ahead q.rest p.rest others p.ends.0 answers w q.next p.next q.ends p.ends.1)
 one_reading rules ahead answers others None None p q = (broken_same rules ahead p.rest q.rest p.ends.0 answers q.ends.0 others p.next q.next p.ends.1 q.ends.1, refl)

@@ -4,9 +4,9 @@ use Rattle.std.specs.List.{concat}
 use Rattle.std.proofs.lemmas.Bool.Decides.{nat_tests}
 use Rattle.std.proofs.lemmas.List.{append-nil, append_cancel_right, length-map, length-take, take-map, take-append-le}
 use Rattle.std.proofs.lemmas.List.Elements.{All-head, All-tail, filter_map-append}
-use Rattle.recv_reading.proofs.Common.{Known, Answer, Datagram, Failed, End, datagram_of, Input, Inputs, Taken, State, made}
-use Rattle.recv_reading.proofs.Common.{ready, Item, IsItem, CollectorSteps, ReceiveOptions, EndWord, datagrams, Gave, HasGiven, HaveEnded}
-use Rattle.recv_reading.proofs.Common.{EndsBy, GoesOn, IsBroken, ReadingState, is_full, has_enough, Reached}
+use Rattle.recv_reading.proofs.Common.{Known, Answer, Datagram, Failed, End, datagram_of, Input, InputsBytes, Taken, CollectorState, made}
+use Rattle.recv_reading.proofs.Common.{ready, CollectorItem, IsItem, CollectorSteps, ReceiveOptions, EndWord, datagrams, CollectorGave, HasGiven, HaveEnded}
+use Rattle.recv_reading.proofs.Common.{ReadingEndsBy, ReadingGoesOn, IsReadingBroken, ReadingState, is_full, has_enough, ReadingReached}
 use Rattle.capture_reader.specs.declared.packets.CaptureStop.{CaptureStop}
 use Rattle.capture_reader.specs.Front.{IsWhole, Af, Pft, Other}
 use Rattle.capture_reader.specs.Capture as capture
@@ -17,7 +17,7 @@ use Rattle.recv_reading.specs.declared.reason.EndWord.TheVariants as word
 use Rattle.recv_reading.specs.Ending.{idles, ComesTo}
 use Rattle.recv_reading.specs.Source.{ReadSoFar, HeardUntil}
 use Rattle.recv_reading.specs.Packets as taking
-use Rattle.recv_reading.specs.Packets.{terms_of, HasEnough, NoneShorter, AreEnough, ComesAt, AreReadBy}
+use Rattle.recv_reading.specs.Packets.{range_of, HasEnough, NoneShorter, AreEnough, ComesAt, AreReadBy}
 use Rattle.recv_reading.specs.Given.{GivesAll, GivesUntil, GivesTo}
 use Rattle.recv_reading.proofs.Going.{last_ends}
 use Rattle.recv_reading.proofs.Reaching.{full_is}
@@ -50,17 +50,17 @@ not_ended (p ∷ packets) (b ∷ before, e) = not_ended packets (before, cc)
 -- ---- enough
 
 module _ (options : ReceiveOptions) where
-  enough_given : (packets : List (List ℕ)) (answers : List Answer) → datagrams answers ≡ packets → HasEnough (terms_of options) packets → HasGiven options answers options.frames
+  enough_given : (packets : List (List ℕ)) (answers : List Answer) → datagrams answers ≡ packets → HasEnough (range_of options) packets → HasGiven options answers options.frames
   enough_given packets answers are (taken, items, end, steps, full) = by options.frames full
     where
       by : (frames : Option ℕ) → is_full frames (length items) ≡ true → HasGiven options answers frames
       by None full = absurd (let clash : false ≡ true = full in cc)
       by (Some n) full = (taken, items, end, subst (λ l. CollectorSteps (made options.window options.reach options.first) l taken items end) (sym are) steps, (let f : nat_le n (length items) ≡ true = full in grind (arith, nat_tests)))
 
-  given_enough : (packets : List (List ℕ)) (answers : List Answer) → datagrams answers ≡ packets → HasGiven options answers options.frames → HasEnough (terms_of options) packets
+  given_enough : (packets : List (List ℕ)) (answers : List Answer) → datagrams answers ≡ packets → HasGiven options answers options.frames → HasEnough (range_of options) packets
   given_enough packets answers are given = by options.frames refl given
     where
-      by : (frames : Option ℕ) → options.frames ≡ frames → HasGiven options answers frames → HasEnough (terms_of options) packets
+      by : (frames : Option ℕ) → options.frames ≡ frames → HasGiven options answers frames → HasEnough (range_of options) packets
       by None is given = absurd given
       by (Some n) is (taken, items, end, steps, many) = (
         taken,
@@ -70,7 +70,7 @@ module _ (options : ReceiveOptions) where
         ap (λ o. is_full o (length items)) is ∙ (let m : n ≤ length items = many in grind (arith, nat_tests)),
       )
 
-  none_shorter : (packets : List (List ℕ)) (rest : List Answer) → GoesOn options (map Datagram packets ++ rest) → NoneShorter (terms_of options) packets
+  none_shorter : (packets : List (List ℕ)) (rest : List Answer) → ReadingGoesOn options (map Datagram packets ++ rest) → NoneShorter (range_of options) packets
   none_shorter packets rest goes k below enough =
       let size : length (map Datagram packets) ≡ length packets = length-map packets Datagram in
       let long : length (map Datagram packets ++ rest) ≡ length (map Datagram packets) + length rest = length-append (map Datagram packets) rest in
@@ -96,7 +96,7 @@ fewer_packets (p ∷ packets) whole =
 abbrev ReadAs : WalkerState → Known Input → Known Input → List Answer → Type 0
 ReadAs reader before after answers =
     (HasRead (datagrams answers) reader before after × (answers ≡ map Datagram (datagrams answers)))
-    ⊎ (Inputs before after (λ left rest. capture.IsCaptureOf left (datagrams answers) capture.End) × (answers ≡ map Datagram (datagrams answers) ++ End ∷ []))
+    ⊎ (InputsBytes before after (λ left rest. capture.IsCaptureOf left (datagrams answers) capture.End) × (answers ≡ map Datagram (datagrams answers) ++ End ∷ []))
 
 read_as : (reader : WalkerState) (before after : Known Input) (answers : List Answer) → ReadSoFar reader before after answers → ReadAs reader before after answers
 read_as reader before after answers (packets, inl (has, are)) =
@@ -104,16 +104,16 @@ read_as reader before after answers (packets, inl (has, are)) =
     inl (subst (λ l. HasRead l reader before after) same has, subst (λ l. answers ≡ map Datagram l) same are)
 read_as reader before after answers (packets, inr (ended, are)) =
     let same : packets ≡ datagrams answers = sym (ap datagrams are ∙ datagrams_last packets End refl) in
-    inr (subst (λ l. Inputs before after (λ left rest. capture.IsCaptureOf left l capture.End)) same ended, subst (λ l. answers ≡ map Datagram l ++ End ∷ []) same are)
+    inr (subst (λ l. InputsBytes before after (λ left rest. capture.IsCaptureOf left l capture.End)) same ended, subst (λ l. answers ≡ map Datagram l ++ End ∷ []) same are)
 
 -- ---- where an item comes
 
-pub comes_to : (options : ReceiveOptions) (answers later : List Answer) (mid state : State) → ComesTo options answers later mid state → taking.ComesTo (terms_of options) (datagrams later) mid state
+pub comes_to : (options : ReceiveOptions) (answers later : List Answer) (mid state : CollectorState) → ComesTo options answers later mid state → taking.ComesTo (range_of options) (datagrams later) mid state
 comes_to options answers later mid state (inl (bytes, answer, is, takes)) = inl (bytes, answer, ap datagrams is, takes)
 comes_to options answers later mid state (inr (why, none, ends, is)) = inr (ap datagrams none, is)
 
-abbrev pub stands_at : (options : ReceiveOptions) (answers : List Answer) (during more : List Item) (c : State) (item : Item) → Stands options answers during more c → ready c ≡ true → IsItem c item
-    → ComesAt (terms_of options) (datagrams answers) (during ++ more) item c
+abbrev pub stands_at : (options : ReceiveOptions) (answers : List Answer) (during more : List CollectorItem) (c : CollectorState) (item : CollectorItem) → Stands options answers during more c → ready c ≡ true → IsItem c item
+    → ComesAt (range_of options) (datagrams answers) (during ++ more) item c
 stands_at options answers during more c item s now is = record {
   before = datagrams s.before;
   later = datagrams s.later;
@@ -131,15 +131,15 @@ stands_at options answers during more c item s now is = record {
   is_next = is;
 }
 
-module _ (options : ReceiveOptions) (answers : List Answer) (taken : List Taken) (during more : List Item) (r : ReadingState) (c : State) (z : Reached options answers taken during more r c)
+module _ (options : ReceiveOptions) (answers : List Answer) (taken : List Taken) (during more : List CollectorItem) (r : ReadingState) (c : CollectorState) (z : ReadingReached options answers taken during more r c)
     (far : most_bytes < options.limit) (reader : WalkerState) (before after : Known Input) where
-  shorter : ReadAs reader before after answers → GoesOn options answers → NoneShorter (terms_of options) (datagrams answers)
-  shorter (inl (has, are)) goes = none_shorter options (datagrams answers) [] (subst (GoesOn options) (are ∙ sym (append-nil (map Datagram (datagrams answers)))) goes)
-  shorter (inr (ended, are)) goes = none_shorter options (datagrams answers) (End ∷ []) (subst (GoesOn options) are goes)
+  shorter : ReadAs reader before after answers → ReadingGoesOn options answers → NoneShorter (range_of options) (datagrams answers)
+  shorter (inl (has, are)) goes = none_shorter options (datagrams answers) [] (subst (ReadingGoesOn options) (are ∙ sym (append-nil (map Datagram (datagrams answers)))) goes)
+  shorter (inr (ended, are)) goes = none_shorter options (datagrams answers) (End ∷ []) (subst (ReadingGoesOn options) are goes)
 
   -- a capture ends neither by idle answers nor by the number of its packets
-  input_ends : (why : EndWord) → ReadAs reader before after answers → EndsBy options answers why → (why ≡ word.Frames → ⊥)
-      → Inputs before after (λ left rest. capture.IsCaptureOf left (datagrams answers) capture.End)
+  input_ends : (why : EndWord) → ReadAs reader before after answers → ReadingEndsBy options answers why → (why ≡ word.Frames → ⊥)
+      → InputsBytes before after (λ left rest. capture.IsCaptureOf left (datagrams answers) capture.End)
   input_ends why (inr (ended, are)) ends other = ended
   input_ends word.Frames (inl read) ends other = absurd (other refl)
   input_ends word.Limit (inl (has, are)) ends other =
@@ -156,7 +156,7 @@ module _ (options : ReceiveOptions) (answers : List Answer) (taken : List Taken)
 
   -- ---- an item comes
 
-  are_read : (item : Item) (now : ready c ≡ true) (is : IsItem c item) (s : Stands options answers during more c) → is_full options.frames (length (during ++ more)) ≡ false
+  are_read : (item : CollectorItem) (now : ready c ≡ true) (is : IsItem c item) (s : Stands options answers during more c) → is_full options.frames (length (during ++ more)) ≡ false
       → ReadAs reader before after answers → AreReadBy (datagrams s.later) (datagrams answers) before after
   are_read item now is s room read = by s.comes read
     where
@@ -168,15 +168,15 @@ module _ (options : ReceiveOptions) (answers : List Answer) (taken : List Taken)
       by (inr (why, none, ends, finished)) read =
           let all : answers ≡ s.before = s.are ∙ ap (λ l. s.before ++ l) none ∙ append-nil s.before in
           let lacks : HasGiven options answers options.frames → ⊥ =
-          λ given. lacks_before (terms_of options) (datagrams answers) (during ++ more) item c (stands_at options answers during more c item s now is) room
+          λ given. lacks_before (range_of options) (datagrams answers) (during ++ more) item c (stands_at options answers during more c item s now is) room
           (given_enough options (datagrams s.before) answers (ap datagrams all) given) in
-          subst (λ l. AreReadBy (datagrams l) (datagrams answers) before after) (sym none) (input_ends why read ends (λ frames. lacks (subst (EndsBy options answers) frames ends)))
+          subst (λ l. AreReadBy (datagrams l) (datagrams answers) before after) (sym none) (input_ends why read ends (λ frames. lacks (subst (ReadingEndsBy options answers) frames ends)))
 
   -- it comes where the collector is now
-  abbrev GivesAt : Item → Type 0
-  GivesAt item = (gives : GivesTo (terms_of options) (during ++ more) item before after) × (gives.last ≡ c)
+  abbrev GivesAt : CollectorItem → Type 0
+  GivesAt item = (gives : GivesTo (range_of options) (during ++ more) item before after) × (gives.last ≡ c)
 
-  pub gives_to : (item : Item) → has_enough r ≡ false → ready c ≡ true → IsItem c item → ReadSoFar reader before after answers → GivesAt item
+  pub gives_to : (item : CollectorItem) → has_enough r ≡ false → ready c ≡ true → IsItem c item → ReadSoFar reader before after answers → GivesAt item
   gives_to item enough now is so_far =
       let read = read_as reader before after answers so_far in
       let s = stands options answers taken during more r c z now in
@@ -196,14 +196,14 @@ module _ (options : ReceiveOptions) (answers : List Answer) (taken : List Taken)
 
   -- and number 0 has the sequence number that the collector knows
   abbrev GivesWhole : Type 0
-  GivesWhole = (gives : GivesAll (terms_of options) (during ++ more) before after) × (gives.run.mid.first ≡ c.first)
+  GivesWhole = (gives : GivesAll (range_of options) (during ++ more) before after) × (gives.run.mid.first ≡ c.first)
 
   pub gives_all : (why : EndWord) → Finishes options answers taken (during ++ more) c why → ReadSoFar reader before after answers → GivesWhole
   gives_all why f so_far =
       let read = read_as reader before after answers so_far in
       (record { packets = datagrams answers; enough = by why f.reading.ends read; shorter = shorter read f.reading.goes_on; taken = taken; run = f.run }, f.first)
     where
-      by : (w : EndWord) → EndsBy options answers w → ReadAs reader before after answers → AreEnough (terms_of options) (datagrams answers) before after
+      by : (w : EndWord) → ReadingEndsBy options answers w → ReadAs reader before after answers → AreEnough (range_of options) (datagrams answers) before after
       by w ends (inr (ended, are)) = inr ended
       by word.Frames ends (inl (has, are)) = inl ((reader, has), given_enough options (datagrams answers) answers refl ends)
       by word.Limit ends (inl read) = inr (input_ends word.Limit (inl read) ends (λ clash. cc))
@@ -213,8 +213,8 @@ module _ (options : ReceiveOptions) (answers : List Answer) (taken : List Taken)
 
 -- ---- no more can be read
 
-pub gives_until : (options : ReceiveOptions) (answers : List Answer) (taken : List Taken) (items : List Item) (c : State) (stop : CaptureStop) (before after : Known Input)
-    → HeardUntil stop before after (answers ++ Failed ∷ []) → IsBroken options answers (answers ++ Failed ∷ []) → Gave options answers taken items c → (gives : GivesUntil (terms_of options) stop items before after) × (gives.mid ≡ c)
+pub gives_until : (options : ReceiveOptions) (answers : List Answer) (taken : List Taken) (items : List CollectorItem) (c : CollectorState) (stop : CaptureStop) (before after : Known Input)
+    → HeardUntil stop before after (answers ++ Failed ∷ []) → IsReadingBroken options answers (answers ++ Failed ∷ []) → CollectorGave options answers taken items c → (gives : GivesUntil (range_of options) stop items before after) × (gives.mid ≡ c)
 gives_until options answers taken items c stop before after (packets, whole, stops, are) broken gave =
     let same : answers ≡ map Datagram packets = append_cancel_right answers (map Datagram packets) (Failed ∷ []) are in
     let those : datagrams answers ≡ packets = ap datagrams same ∙ datagrams_are packets in (
@@ -223,7 +223,7 @@ gives_until options answers taken items c stop before after (packets, whole, sto
         whole = whole;
         stops = stops;
         lacks = λ enough. broken.is_open word.Frames (enough_given options packets answers those enough);
-        shorter = none_shorter options packets [] (subst (GoesOn options) (same ∙ sym (append-nil (map Datagram packets))) broken.goes_on);
+        shorter = none_shorter options packets [] (subst (ReadingGoesOn options) (same ∙ sym (append-nil (map Datagram packets))) broken.goes_on);
         taken = taken;
         mid = c;
         steps = subst (λ l. CollectorSteps (made options.window options.reach options.first) l taken items c) those gave;

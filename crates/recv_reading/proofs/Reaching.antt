@@ -3,10 +3,10 @@ use Rattle.std.proofs.Common.{◌≡◌, ℕ, ◌+◌, ◌-◌, ◌*◌, ◌^◌
 use Rattle.std.proofs.Math.Nat.{mul-le-mul_right, suc-mul}
 use Rattle.std.proofs.lemmas.Bool.{true≢false}
 use Rattle.std.proofs.lemmas.List.{append-nil, length_push}
-use Rattle.recv_reading.proofs.Common.{Answer, Datagram, Idle, Failed, End, Taken, State, made, ready, after_item, after_finish}
-use Rattle.recv_reading.proofs.Common.{Item, IsItem, CollectorTakes, CollectorGives, IsFit, ReceiveOptions, EndWord, AreUsable, bounds_of}
-use Rattle.recv_reading.proofs.Common.{datagrams, Gave, HasGiven, HaveEnded, EndsBy, GoesOn, IsBroken, KnowsFirst, ReadingState}
-use Rattle.recv_reading.proofs.Common.{new_reading, is_full, has_enough, Reached, ReadingWaits}
+use Rattle.recv_reading.proofs.Common.{Answer, Datagram, Idle, Failed, End, Taken, CollectorState, made, ready, after_item, after_finish}
+use Rattle.recv_reading.proofs.Common.{CollectorItem, IsItem, CollectorTakes, CollectorGives, CollectorInvariant, ReceiveOptions, EndWord, AreUsable, bounds_of}
+use Rattle.recv_reading.proofs.Common.{datagrams, CollectorGave, HasGiven, HaveEnded, ReadingEndsBy, ReadingGoesOn, IsReadingBroken, KnowsFirst, ReadingState}
+use Rattle.recv_reading.proofs.Common.{new_reading, is_full, has_enough, ReadingReached, ReadingWaits}
 use Rattle.dcp_collect.proofs.Decoded.{one_decoding}
 use Rattle.law_collect.specs.Laws.{OneRun}
 use Rattle.law_collect.proofs.OneReading.{one_reading as one_datagram}
@@ -16,9 +16,9 @@ use Rattle.law_collect.proofs.Runs.{given_all, given_more}
 use Rattle.law_collect.proofs.Fit.{fit_next}
 use Rattle.recv_reading.specs.declared.options.Bounds.{Bounds}
 use Rattle.recv_reading.specs.declared.reason.EndWord.TheVariants as word
-use Rattle.recv_reading.specs.Ending.{idles, IsOpen, most_answers}
+use Rattle.recv_reading.specs.Ending.{idles, IsReadingOpen, most_answers}
 use Rattle.recv_reading.specs.State.{ahead, ended_or, still_open, one_given, one_taken, one_idle, ended_by}
-use Rattle.recv_reading.specs.Reached.{IsDrained, IsAmid, ComesIn, CountsAnswers, packets_in}
+use Rattle.recv_reading.specs.ReadingReached.{IsDrained, IsAmid, ComesIn, CountsAnswers, packets_in}
 use Rattle.recv_reading.proofs.Going.{goes_none, goes_more, is_open, datagrams_more, datagrams_idle, datagrams_end, idles_more, not_ended, none_ended}
 use Rattle.recv_reading.proofs.Kept.{kept_taken, few_given}
 use Rattle.recv_reading.proofs.First.{knows_taken, knows_item}
@@ -27,11 +27,11 @@ use Rattle.recv_reading.proofs.Giving.{gave_none, gave_datagram, gave_idle, gave
 pub one_way : OneRun
 one_way = one_run one_datagram one_decoding
 
-pub takes_next : (c after : State) (bytes : List ℕ) (a : Taken) → CollectorTakes c bytes a after → after.next ≡ c.next
-takes_next c after bytes a t = ap (λ (s : State). s.next) t.after_is ∙ take_next c t.read
+pub takes_next : (c after : CollectorState) (bytes : List ℕ) (a : Taken) → CollectorTakes c bytes a after → after.next ≡ c.next
+takes_next c after bytes a t = ap (λ (s : CollectorState). s.next) t.after_is ∙ take_next c t.read
 
-pub takes_end : (c after : State) (bytes : List ℕ) (a : Taken) → CollectorTakes c bytes a after → after.end ≡ c.end
-takes_end c after bytes a t = ap (λ (s : State). s.end) t.after_is ∙ take_end c t.read
+pub takes_end : (c after : CollectorState) (bytes : List ℕ) (a : Taken) → CollectorTakes c bytes a after → after.end ≡ c.end
+takes_end c after bytes a t = ap (λ (s : CollectorState). s.end) t.after_is ∙ take_end c t.read
 
 -- ---- numbers
 
@@ -75,17 +75,17 @@ open_enough (Some w) enough h = absurd (let clash : true ≡ false = h in cc)
 
 -- ---- at the start
 
-pub reached_none : (options : ReceiveOptions) (c : State) → AreUsable options → c ≡ made options.window options.reach options.first → Reached options [] [] [] [] (new_reading (bounds_of options)) c
+pub reached_none : (options : ReceiveOptions) (c : CollectorState) → AreUsable options → c ≡ made options.window options.reach options.first → ReadingReached options [] [] [] [] (new_reading (bounds_of options)) c
 reached_none options c usable is = record {
   bounds_are = refl;
   usable = usable;
   comes = (
-    ap (λ (s : State). s.end) is,
+    ap (λ (s : CollectorState). s.end) is,
     inl (
       refl,
       record {
-        gave = subst (λ s. Gave options [] [] [] s) (sym is) (gave_none options);
-        none_ready = ap (λ (s : State). ready s) is;
+        gave = subst (λ s. CollectorGave options [] [] [] s) (sym is) (gave_none options);
+        none_ready = ap (λ (s : CollectorState). ready s) is;
         room = full_of_none options.frames usable.frames;
       },
     ),
@@ -96,25 +96,25 @@ reached_none options c usable is = record {
   counts = λ none. record { idles_are = refl; fewer = usable.idle; few = omega arith; not_ended = none_ended };
   few = omega arith;
   given_are = refl;
-  next_is = ap (λ (s : State). s.next) is;
+  next_is = ap (λ (s : CollectorState). s.next) is;
   below = zero_below options.frames;
-  fit = subst IsFit (sym is) (usable.window, tt);
+  fit = subst CollectorInvariant (sym is) (usable.window, tt);
   knows = subst KnowsFirst (sym is) (λ none. refl);
-  few_packets = (let none : c.kept ≡ [] = ap (λ (s : State). s.kept) is in omega (arith, ap length none));
+  few_packets = (let none : c.kept ≡ [] = ap (λ (s : CollectorState). s.kept) is in omega (arith, ap length none));
 }
 
 -- ---- what comes next
 
 -- what was given of all that the last datagram made ready
-pub amid_gave : (options : ReceiveOptions) (answers : List Answer) (taken : List Taken) (during more now : List Item) (c d : State) → (a : IsAmid options answers taken during more c)
-    → CollectorGives a.kept now d → Gave options answers taken (during ++ now) d
+pub amid_gave : (options : ReceiveOptions) (answers : List Answer) (taken : List Taken) (during more now : List CollectorItem) (c d : CollectorState) → (a : IsAmid options answers taken during more c)
+    → CollectorGives a.kept now d → CollectorGave options answers taken (during ++ now) d
 amid_gave options answers taken during more now c d a gives =
-    subst (λ l. Gave options l taken (during ++ now) d) (sym a.are)
-    (subst (λ l. Gave options (a.before ++ Datagram a.bytes ∷ []) l (during ++ now) d) (sym a.taken_are)
+    subst (λ l. CollectorGave options l taken (during ++ now) d) (sym a.are)
+    (subst (λ l. CollectorGave options (a.before ++ Datagram a.bytes ∷ []) l (during ++ now) d) (sym a.taken_are)
     (gave_datagram options a.before a.earlier during now a.mid a.kept d a.bytes a.answer a.drained.gave a.takes gives))
 
-module _ (options : ReceiveOptions) (answers : List Answer) (taken : List Taken) (during more : List Item) (r : ReadingState) (c : State) (z : Reached options answers taken during more r c) where
-  abbrev items : List Item
+module _ (options : ReceiveOptions) (answers : List Answer) (taken : List Taken) (during more : List CollectorItem) (r : ReadingState) (c : CollectorState) (z : ReadingReached options answers taken during more r c) where
+  abbrev items : List CollectorItem
   items = during ++ more
 
   -- whether as many items were given as are asked for
@@ -122,7 +122,7 @@ module _ (options : ReceiveOptions) (answers : List Answer) (taken : List Taken)
   full_is = ap (is_full options.frames) z.given_are ∙ ap (λ (o : Bounds). is_full o.frames r.given) (sym z.bounds_are)
 
   -- an item was given
-  pub reached_given : (item : Item) → has_enough r ≡ false → ready c ≡ true → IsItem c item → Reached options answers taken during (more ++ item ∷ []) (one_given r) (after_item c)
+  pub reached_given : (item : CollectorItem) → has_enough r ≡ false → ready c ≡ true → IsItem c item → ReadingReached options answers taken during (more ++ item ∷ []) (one_given r) (after_item c)
   reached_given item room now is = record {
     bounds_are = z.bounds_are;
     usable = z.usable;
@@ -140,10 +140,10 @@ module _ (options : ReceiveOptions) (answers : List Answer) (taken : List Taken)
     few_packets = subst (λ l. packets_in l + length (after_item c).kept ≤ r.taken) (append_assoc during more (item ∷ [])) (few_given items item c r.taken z.few_packets is);
   }
     where
-      fit_after : IsFit (after_item c)
+      fit_after : CollectorInvariant (after_item c)
       fit_after = by_ready (ready c) now (fit_next c z.fit)
         where
-          by_ready : (b : Bool) → b ≡ true → IsFit (if b then after_item c else c) → IsFit (after_item c)
+          by_ready : (b : Bool) → b ≡ true → CollectorInvariant (if b then after_item c else c) → CollectorInvariant (after_item c)
           by_ready true is fit = fit
           by_ready false is fit = absurd (let clash : false ≡ true = is in cc)
 
@@ -207,7 +207,7 @@ module _ (options : ReceiveOptions) (answers : List Answer) (taken : List Taken)
     not_given : HasGiven options answers options.frames → ⊥
     not_given = none_given options answers options.frames taken items c one_way drained.gave (few_items options.frames (length items) drained.room)
 
-    open_below : r.taken < options.limit → IsOpen options answers
+    open_below : r.taken < options.limit → IsReadingOpen options answers
     open_below below =
         is_open options answers not_given (omega (arith, z.taken_are, below)) (omega (arith, n.idles_are, n.fewer)) n.not_ended
 
@@ -231,7 +231,7 @@ module _ (options : ReceiveOptions) (answers : List Answer) (taken : List Taken)
         by (Some m) most = let l : m ≤ 3000000 = most in omega (arith, l)
 
     -- no more can be had
-    pub broken : r.taken < r.bounds.limit → IsBroken options answers (answers ++ Failed ∷ [])
+    pub broken : r.taken < r.bounds.limit → IsReadingBroken options answers (answers ++ Failed ∷ [])
     broken below = record { last = refl; goes_on = z.goes_on; is_open = open_below (omega (arith, below, limit_is)) }
 
     same_packets : (kept taken : ℕ) → packets_in items + kept ≤ taken → packets_in (items ++ []) + kept ≤ taken
@@ -245,8 +245,8 @@ module _ (options : ReceiveOptions) (answers : List Answer) (taken : List Taken)
         omega (arith, long, most, n.few, n.fewer)
 
     -- a datagram was taken
-    pub reached_taken : (d : State) (bytes : List ℕ) (answer : Taken) → r.taken < r.bounds.limit → CollectorTakes c bytes answer d → IsFit d
-        → Reached options (answers ++ Datagram bytes ∷ []) (taken ++ answer ∷ []) items [] (one_taken r) d
+    pub reached_taken : (d : CollectorState) (bytes : List ℕ) (answer : Taken) → r.taken < r.bounds.limit → CollectorTakes c bytes answer d → CollectorInvariant d
+        → ReadingReached options (answers ++ Datagram bytes ∷ []) (taken ++ answer ∷ []) items [] (one_taken r) d
     reached_taken d bytes answer lower takes fit =
         let below : r.taken < options.limit = omega (arith, lower, limit_is) in
         let long : length (answers ++ Datagram bytes ∷ []) ≡ length answers + 1 = length_push answers (Datagram bytes) in
@@ -288,7 +288,7 @@ module _ (options : ReceiveOptions) (answers : List Answer) (taken : List Taken)
           few_packets = same_packets (length d.kept) (r.taken + 1) (omega (arith, z.few_packets, kept_taken c d bytes answer takes));
         }
 
-    pub less_taken : (d : State) → r.taken < r.bounds.limit → d.next ≡ c.next → ahead (one_taken r) d < ahead r c
+    pub less_taken : (d : CollectorState) → r.taken < r.bounds.limit → d.next ≡ c.next → ahead (one_taken r) d < ahead r c
     unfolding ahead
     less_taken d below same =
         let left : r.bounds.limit - r.taken ≡ (r.bounds.limit - (r.taken + 1)) + 1 = omega (arith, below) in
@@ -300,7 +300,7 @@ module _ (options : ReceiveOptions) (answers : List Answer) (taken : List Taken)
     drained_idle : IsDrained options (answers ++ Idle ∷ []) taken items c
     drained_idle = record { gave = gave_idle options answers taken items c drained.gave; none_ready = drained.none_ready; room = drained.room }
 
-    pub reached_idle : r.taken < r.bounds.limit → r.idles + 1 < r.bounds.idle → Reached options (answers ++ Idle ∷ []) taken items [] (one_idle r) c
+    pub reached_idle : r.taken < r.bounds.limit → r.idles + 1 < r.bounds.idle → ReadingReached options (answers ++ Idle ∷ []) taken items [] (one_idle r) c
     reached_idle lower more =
         let below : r.taken < options.limit = omega (arith, lower, limit_is) in
         let long : length (answers ++ Idle ∷ []) ≡ length answers + 1 = length_push answers Idle in
@@ -331,9 +331,9 @@ module _ (options : ReceiveOptions) (answers : List Answer) (taken : List Taken)
     less_idle more = omega (arith, more)
 
     -- the reading ends behind these answers
-    ends_so : (last : List Answer) (d : State) (why : EndWord) (s : ReadingState) → s.bounds ≡ r.bounds → s.taken ≡ r.taken → s.given ≡ r.given → s.end ≡ Some why
-        → IsDrained options last taken items c → EndsBy options last why → length (datagrams last) ≡ r.taken → length last ≤ most_answers options
-        → d ≡ after_finish c options.frames → GoesOn options last → Reached options last taken items [] s d
+    ends_so : (last : List Answer) (d : CollectorState) (why : EndWord) (s : ReadingState) → s.bounds ≡ r.bounds → s.taken ≡ r.taken → s.given ≡ r.given → s.end ≡ Some why
+        → IsDrained options last taken items c → ReadingEndsBy options last why → length (datagrams last) ≡ r.taken → length last ≤ most_answers options
+        → d ≡ after_finish c options.frames → ReadingGoesOn options last → ReadingReached options last taken items [] s d
     ends_so last d why s same_bounds same_taken same_given is all ends many few finished goes = record {
       bounds_are = same_bounds ∙ z.bounds_are;
       usable = z.usable;
@@ -344,19 +344,19 @@ module _ (options : ReceiveOptions) (answers : List Answer) (taken : List Taken)
       counts = λ none. absurd (let clash : Some why ≡ None = sym is ∙ none in cc);
       few = few;
       given_are = ap length (append-nil items) ∙ z.given_are ∙ sym same_given;
-      next_is = ap (λ (s : State). s.next) finished ∙ z.next_is ∙ sym same_given;
+      next_is = ap (λ (s : CollectorState). s.next) finished ∙ z.next_is ∙ sym same_given;
       below = subst (λ k. IfSome options.frames (λ n. k ≤ n)) (sym same_given) z.below;
-      fit = subst IsFit (sym finished) z.fit;
+      fit = subst CollectorInvariant (sym finished) z.fit;
       knows = subst KnowsFirst (sym finished) z.knows;
-      few_packets = same_packets (length d.kept) s.taken (let p = z.few_packets in let k : d.kept ≡ c.kept = ap (λ (s : State). s.kept) finished in omega (arith, p, ap length k, same_taken));
+      few_packets = same_packets (length d.kept) s.taken (let p = z.few_packets in let k : d.kept ≡ c.kept = ap (λ (s : CollectorState). s.kept) finished in omega (arith, p, ap length k, same_taken));
     }
 
-    finish_is : (d : State) → d ≡ after_finish c r.bounds.frames → d ≡ after_finish c options.frames
+    finish_is : (d : CollectorState) → d ≡ after_finish c r.bounds.frames → d ≡ after_finish c options.frames
     finish_is d is = is ∙ ap (λ (o : Bounds). after_finish c o.frames) z.bounds_are
 
     -- by idle answers
-    pub reached_last_idle : (d : State) → r.taken < r.bounds.limit → r.idles + 1 ≡ r.bounds.idle → d ≡ after_finish c r.bounds.frames
-        → Reached options (answers ++ Idle ∷ []) taken items [] (ended_by word.Idle (one_idle r)) d
+    pub reached_last_idle : (d : CollectorState) → r.taken < r.bounds.limit → r.idles + 1 ≡ r.bounds.idle → d ≡ after_finish c r.bounds.frames
+        → ReadingReached options (answers ++ Idle ∷ []) taken items [] (ended_by word.Idle (one_idle r)) d
     reached_last_idle d lower all finished =
         let below : r.taken < options.limit = omega (arith, lower, limit_is) in
         let idles_now : idles (answers ++ Idle ∷ []) ≡ r.idles + 1 = idles_more 0 answers Idle ∙ ap (λ k. k + 1) n.idles_are in
@@ -368,13 +368,13 @@ module _ (options : ReceiveOptions) (answers : List Answer) (taken : List Taken)
         ) many (one_more_few Idle) (finish_is d finished) (goes_more options answers Idle z.goes_on (open_below below) tt)
 
     -- by the end of the input
-    pub reached_end : (d : State) → r.taken < r.bounds.limit → d ≡ after_finish c r.bounds.frames
-        → Reached options (answers ++ End ∷ []) taken items [] (ended_by word.Input r) d
+    pub reached_end : (d : CollectorState) → r.taken < r.bounds.limit → d ≡ after_finish c r.bounds.frames
+        → ReadingReached options (answers ++ End ∷ []) taken items [] (ended_by word.Input r) d
     reached_end d lower finished =
         let below : r.taken < options.limit = omega (arith, lower, limit_is) in
         let idles_now : idles (answers ++ End ∷ []) ≡ 0 = idles_more 0 answers End in
         let many : length (datagrams (answers ++ End ∷ [])) ≡ r.taken = ap length (datagrams_end answers) ∙ z.taken_are in
-        let gave : Gave options (answers ++ End ∷ []) taken items c = gave_end options answers taken items c drained.gave in
+        let gave : CollectorGave options (answers ++ End ∷ []) taken items c = gave_end options answers taken items c drained.gave in
         ends_so (answers ++ End ∷ []) d word.Input (ended_by word.Input r) refl refl refl refl (record { gave = gave; none_ready = drained.none_ready; room = drained.room }) (
           (answers, refl),
           none_given options (answers ++ End ∷ []) options.frames taken items c one_way gave (few_items options.frames (length items) drained.room),
@@ -383,15 +383,15 @@ module _ (options : ReceiveOptions) (answers : List Answer) (taken : List Taken)
         ) many (one_more_few End) (finish_is d finished) (goes_more options answers End z.goes_on (open_below below) tt)
 
     -- by the number of datagrams
-    pub reached_limit : (d : State) → r.taken ≡ r.bounds.limit → d ≡ after_finish c r.bounds.frames
-        → Reached options answers taken items [] (ended_by word.Limit r) d
+    pub reached_limit : (d : CollectorState) → r.taken ≡ r.bounds.limit → d ≡ after_finish c r.bounds.frames
+        → ReadingReached options answers taken items [] (ended_by word.Limit r) d
     reached_limit d all finished =
         ends_so answers d word.Limit (ended_by word.Limit r) refl refl refl refl drained (z.taken_are ∙ (all ∙ limit_is), not_given) z.taken_are z.few (finish_is d finished) z.goes_on
 
-    pub less_ended : (d : State) (why : EndWord) → d.next ≡ c.next → ahead (ended_by why r) d < ahead r c
+    pub less_ended : (d : CollectorState) (why : EndWord) → d.next ≡ c.next → ahead (ended_by why r) d < ahead r c
     unfolding ahead
     less_ended d why same = let e : still_open r.end ≡ 1 = ap still_open no_end in omega (arith, same, e)
 
-    pub less_last_idle : (d : State) → r.idles + 1 ≡ r.bounds.idle → d.next ≡ c.next → ahead (ended_by word.Idle (one_idle r)) d < ahead r c
+    pub less_last_idle : (d : CollectorState) → r.idles + 1 ≡ r.bounds.idle → d.next ≡ c.next → ahead (ended_by word.Idle (one_idle r)) d < ahead r c
     unfolding ahead
     less_last_idle d all same = let e : still_open r.end ≡ 1 = ap still_open no_end in omega (arith, all, same, e)

@@ -1,8 +1,8 @@
 -- What comes of a capture, packet by packet.
 use Rattle.std.proofs.Common.{◌≡◌, ℕ, inl, inr, Bool, List, [], ◌∷◌, ◌++◌, length, map, Result, Ok, Err, refl, sym, ◌∙◌, ap, arith}
 use Rattle.std.proofs.lemmas.List.Elements.{All-nil}
-use Rattle.recv_reading.proofs.Common.{Known, Answer, Datagram, Failed, End, Input, Inputs, HaveEnded}
-use Rattle.drm_links.proofs.ToldLemmas.{Inputs-nothing}
+use Rattle.recv_reading.proofs.Common.{Known, Answer, Datagram, Failed, End, Input, InputsBytes, HaveEnded}
+use Rattle.drm_links.proofs.KnownLemmas.{InputsBytes-nothing}
 use Rattle.capture_reader.specs.declared.packets.CaptureStop.{CaptureStop}
 use Rattle.capture_reader.specs.declared.packets.CaptureStop.TheVariants as stops
 use Rattle.capture_reader.specs.Front.{IsWhole}
@@ -23,7 +23,7 @@ read_none before reader new =
           at = at;
           few = omega (arith, at, ap length held);
           room = omega (arith, ap length held);
-          bytes = Inputs-nothing (λ left rest. left ≡ [] ++ (reader.held ++ rest)) before (λ left. ap (λ l. l ++ left) (sym held));
+          bytes = InputsBytes-nothing (λ left rest. left ≡ [] ++ (reader.held ++ rest)) before (λ left. ap (λ l. l ++ left) (sym held));
         },
         refl,
       ),
@@ -50,7 +50,7 @@ module _ (reader : WalkerState) (before mid : Known Input) (answers : List Answe
   pub one_packet : (next : WalkerState) (after : Known Input) (bytes : List ℕ) → HasRead (p.packets ++ bytes ∷ []) next before after → ReadSoFar next before after (answers ++ Datagram bytes ∷ [])
   one_packet next after bytes read = (p.packets ++ bytes ∷ [], inl (read, ap (λ l. l ++ Datagram bytes ∷ []) p.are ∙ map_more p.packets bytes))
 
-  pub all_packets : (next : WalkerState) (after : Known Input) → Inputs before after (λ left rest. capture.IsCaptureOf left p.packets capture.End) → ReadSoFar next before after (answers ++ End ∷ [])
+  pub all_packets : (next : WalkerState) (after : Known Input) → InputsBytes before after (λ left rest. capture.IsCaptureOf left p.packets capture.End) → ReadSoFar next before after (answers ++ End ∷ [])
   all_packets next after ended = (p.packets, inr (ended, ap (λ l. l ++ End ∷ []) p.are))
 
   pub until_here : (stop : CaptureStop) (after : Known Input) → ReadingStops p.packets stop before after → HeardUntil stop before after (answers ++ Failed ∷ [])

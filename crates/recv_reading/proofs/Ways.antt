@@ -4,15 +4,15 @@ use Rattle.std.proofs.Math.Seq.{take-append-add}
 use Rattle.std.proofs.lemmas.Bool.{true≢false, cases_lt}
 use Rattle.std.proofs.lemmas.Bool.Decides.{nat_tests}
 use Rattle.std.proofs.lemmas.List.{append-nil}
-use Rattle.recv_reading.proofs.Common.{Taken, State, made, ready, after_item, after_finish, Item, Packet, Lost, Damaged, IsItem}
-use Rattle.recv_reading.proofs.Common.{CollectorTakes, CollectorGives, CollectorSteps, up_to, Given, is_full}
+use Rattle.recv_reading.proofs.Common.{Taken, CollectorState, made, ready, after_item, after_finish, CollectorItem, Packet, Lost, Damaged, IsItem}
+use Rattle.recv_reading.proofs.Common.{CollectorTakes, CollectorGives, CollectorSteps, up_to, GivesSoFar, is_full}
 use Rattle.dcp_collect.proofs.Decoded.{one_decoding}
 use Rattle.law_collect.proofs.OneReading.{one_reading}
 use Rattle.law_collect.proofs.Runs.{steps_part}
 use Rattle.law_collect.proofs.Unique.{one_giving, one_taking}
 use Rattle.recv_reading.proofs.First.{given_first}
 use Rattle.recv_reading.proofs.Reaching.{one_way}
-use Rattle.recv_reading.specs.Packets.{ComesAt, HasEnough, Terms}
+use Rattle.recv_reading.specs.Packets.{ComesAt, HasEnough, PacketRange}
 
 -- ---- lists
 
@@ -40,17 +40,17 @@ same_next (x ∷ xs) (y ∷ ys) us vs a b size is =
     (ap₂ (λ z zs. z ∷ zs) first more, same)
 
 -- these, and this one behind them, begin the list
-abbrev pub Starts : List Item → Item → List Item → Type 0
-Starts items item all = (rest : List Item) × (all ≡ items ++ item ∷ rest)
+abbrev pub Starts : List CollectorItem → CollectorItem → List CollectorItem → Type 0
+Starts items item all = (rest : List CollectorItem) × (all ≡ items ++ item ∷ rest)
 
-pub starts_more : (items : List Item) (item : Item) (some others : List Item) → Starts items item some → Starts items item (some ++ others)
+pub starts_more : (items : List CollectorItem) (item : CollectorItem) (some others : List CollectorItem) → Starts items item some → Starts items item (some ++ others)
 starts_more items item some others (rest, is) = (rest ++ others, ap (λ l. l ++ others) is ∙ append_assoc items (item ∷ rest) others)
 
-starts_behind : (before items : List Item) (item : Item) (all : List Item) → Starts items item all → Starts (before ++ items) item (before ++ all)
+starts_behind : (before items : List CollectorItem) (item : CollectorItem) (all : List CollectorItem) → Starts items item all → Starts (before ++ items) item (before ++ all)
 starts_behind before items item all (rest, is) = (rest, ap (λ l. before ++ l) is ∙ sym (append_assoc before items (item ∷ rest)))
 
 -- no told number cuts it off
-pub starts_up_to : (told : Option ℕ) (items : List Item) (item : Item) (all : List Item) → is_full told (length items) ≡ false → Starts items item all → Starts items item (up_to told all)
+pub starts_up_to : (frame_limit : Option ℕ) (items : List CollectorItem) (item : CollectorItem) (all : List CollectorItem) → is_full frame_limit (length items) ≡ false → Starts items item all → Starts items item (up_to frame_limit all)
 starts_up_to None items item all room starts = starts
 starts_up_to (Some n) items item all room (rest, is) =
     let below : length items < n = grind (arith, nat_tests) in
@@ -59,24 +59,24 @@ starts_up_to (Some n) items item all room (rest, is) =
     (take behind rest, ap (take n) is ∙ (ap (λ k. take k (items ++ item ∷ rest)) (sym size) ∙ take-append-add items (item ∷ rest) (suc behind)))
 
 -- Two lists and what comes behind each: both are the same, or one begins the other.
-abbrev pub Agree : List Item → Item → List Item → Item → Type 0
+abbrev pub Agree : List CollectorItem → CollectorItem → List CollectorItem → CollectorItem → Type 0
 Agree xs x ys y = ((xs ≡ ys) × (x ≡ y)) ⊎ (Starts xs x ys ⊎ Starts ys y xs)
 
-agree_behind : (before xs ys : List Item) (x y : Item) → Agree xs x ys y → Agree (before ++ xs) x (before ++ ys) y
+agree_behind : (before xs ys : List CollectorItem) (x y : CollectorItem) → Agree xs x ys y → Agree (before ++ xs) x (before ++ ys) y
 agree_behind before xs ys x y (inl (same, next)) = inl (ap (λ l. before ++ l) same, next)
 agree_behind before xs ys x y (inr (inl starts)) = inr (inl (starts_behind before xs x ys starts))
 agree_behind before xs ys x y (inr (inr starts)) = inr (inr (starts_behind before ys y xs starts))
 
 -- ---- enough
 
-pub longer_full : (told : Option ℕ) (m n : ℕ) → m ≤ n → is_full told m ≡ true → is_full told n ≡ true
+pub longer_full : (frame_limit : Option ℕ) (m n : ℕ) → m ≤ n → is_full frame_limit m ≡ true → is_full frame_limit n ≡ true
 longer_full None m n most full = full
 longer_full (Some t) m n most full = grind (arith, nat_tests)
 
 -- ---- what a collector gives
 
 -- an item doesn't know of an end
-ended : (end : Option ℕ) (c : State) (item : Item) → IsItem c item → IsItem (record c { end = end }) item
+ended : (end : Option ℕ) (c : CollectorState) (item : CollectorItem) → IsItem c item → IsItem (record c { end = end }) item
 ended end c (Packet q bytes) is = is
 ended end c (Lost q had total) is = is
 ended end c (Damaged q) is = is
@@ -88,21 +88,21 @@ not_itself : (n : ℕ) → nat_lt n n ≡ false
 not_itself n = grind (arith, nat_tests)
 
 -- one item stands at each number
-one_item : (c : State) (x y : Item) → IsItem c x → IsItem c y → x ≡ y
+one_item : (c : CollectorState) (x y : CollectorItem) → IsItem c x → IsItem c y → x ≡ y
 one_item c x y is also =
     let end : Option ℕ = Some (c.next + 1) in
-    let d : State = record c { end = end } in
+    let d : CollectorState = record c { end = end } in
     let same : y ∷ [] ≡ x ∷ [] =
     (one_giving one_decoding d (after_item d) (after_item d) (x ∷ []) (y ∷ []) (before_next c.next, ended end c x is, (not_itself (c.next + 1), refl))
     (before_next c.next, ended end c y also, (not_itself (c.next + 1), refl))).0 in
     cc
 
 -- the first one that is given is the one that is next
-one_next : (c e : State) (x y : Item) (now : List Item) → CollectorGives c (x ∷ now) e → IsItem c y → x ≡ y
+one_next : (c e : CollectorState) (x y : CollectorItem) (now : List CollectorItem) → CollectorGives c (x ∷ now) e → IsItem c y → x ≡ y
 one_next c e x y now gives is = one_item c x y gives.1 is
 
 -- what is given starts with what can be given
-pub starts : (more : List Item) (item : Item) (c last e : State) (now : List Item) → Given c more last → ready last ≡ true → IsItem last item → CollectorGives c now e → Starts more item now
+pub starts : (more : List CollectorItem) (item : CollectorItem) (c last e : CollectorState) (now : List CollectorItem) → GivesSoFar c more last → ready last ≡ true → IsItem last item → CollectorGives c now e → Starts more item now
 starts [] item c last e [] given is_ready is gives = absurd (true≢false (sym is_ready ∙ (ap ready given ∙ gives.0)))
 starts [] item c last e (x ∷ now) given is_ready is gives =
     (now, ap (λ i. i ∷ now) (one_next c e x item now gives (subst (λ s. IsItem s item) given is)))
@@ -113,7 +113,7 @@ starts (m ∷ more) item c last e (x ∷ now) given is_ready is gives =
     (rest, ap (λ i. i ∷ now) first ∙ ap (λ l. m ∷ l) same)
 
 -- from one state on
-given_agree : (xs ys : List Item) (x y : Item) (c d e : State) → Given c xs d → IsItem d x → Given c ys e → IsItem e y → Agree xs x ys y
+given_agree : (xs ys : List CollectorItem) (x y : CollectorItem) (c d e : CollectorState) → GivesSoFar c xs d → IsItem d x → GivesSoFar c ys e → IsItem e y → Agree xs x ys y
 given_agree [] [] x y c d e given is given' also = inl (refl, one_item c x y (subst (λ s. IsItem s x) given is) (subst (λ s. IsItem s y) given' also))
 given_agree [] (y' ∷ ys) x y c d e given is given' also = inr (inl (ys, ap (λ i. i ∷ ys) (one_item c y' x given'.1 (subst (λ s. IsItem s x) given is))))
 given_agree (x' ∷ xs) [] x y c d e given is given' also = inr (inr (xs, ap (λ i. i ∷ xs) (one_item c x' y given.1 (subst (λ s. IsItem s y) given' also))))
@@ -122,8 +122,8 @@ given_agree (x' ∷ xs) (y' ∷ ys) x y c d e given is given' also =
     subst (λ i. Agree (x' ∷ xs) x (i ∷ ys) y) (one_item c x' y' given.1 given'.1) (agree_behind (x' ∷ []) xs ys x y rest)
 
 -- what is given behind a datagram that was taken does so, too
-pub step_starts : (c d state last : State) (bytes : List ℕ) (after : List (List ℕ)) (answer : Taken) (answers : List Taken) (given more : List Item) (item : Item)
-    → CollectorSteps c (bytes ∷ after) answers given d → CollectorTakes c bytes answer state → Given state more last → ready last ≡ true → IsItem last item → Starts more item given
+pub step_starts : (c d state last : CollectorState) (bytes : List ℕ) (after : List (List ℕ)) (answer : Taken) (answers : List Taken) (given more : List CollectorItem) (item : CollectorItem)
+    → CollectorSteps c (bytes ∷ after) answers given d → CollectorTakes c bytes answer state → GivesSoFar state more last → ready last ≡ true → IsItem last item → Starts more item given
 step_starts c d state last bytes after answer [] given more item steps takes gives is_ready is = absurd steps
 step_starts c d state last bytes after answer (a ∷ answers) given more item (now, later, kept, mid, takes', gives', steps, are) takes gives is_ready is =
     let same : kept ≡ state = (one_taking one_reading c state kept bytes answer a takes takes').1 in
@@ -132,30 +132,30 @@ step_starts c d state last bytes after answer (a ∷ answers) given more item (n
 
 -- ---- on the way along packets
 
-pub gives_first : (items : List Item) (c d : State) → CollectorGives c items d → d.first ≡ c.first
+pub gives_first : (items : List CollectorItem) (c d : CollectorState) → CollectorGives c items d → d.first ≡ c.first
 gives_first [] c d gives = ap (λ s. s.first) gives.1
 gives_first (item ∷ items) c d gives = gives_first items (after_item c) d gives.2
 
-step_first : (c d state : State) (bytes : List ℕ) (answer : Taken) (answers : List Taken) (given : List Item) → CollectorSteps c (bytes ∷ []) answers given d → CollectorTakes c bytes answer state → d.first ≡ state.first
+step_first : (c d state : CollectorState) (bytes : List ℕ) (answer : Taken) (answers : List Taken) (given : List CollectorItem) → CollectorSteps c (bytes ∷ []) answers given d → CollectorTakes c bytes answer state → d.first ≡ state.first
 step_first c d state bytes answer [] given steps takes = absurd steps
 step_first c d state bytes answer (a ∷ []) given (now, later, kept, mid, takes', gives, steps, are) takes =
     let same : kept ≡ state = (one_taking one_reading c state kept bytes answer a takes takes').1 in
     ap (λ s. s.first) steps.1 ∙ (gives_first now kept mid gives ∙ ap (λ s. s.first) same)
 step_first c d state bytes answer (a ∷ b ∷ answers) given (now, later, kept, mid, takes', gives, steps, are) takes = absurd steps
 
-module _ (terms : Terms) where
-  abbrev new : State
-  new = made terms.window terms.reach terms.first
+module _ (range : PacketRange) where
+  abbrev new : CollectorState
+  new = made range.window range.reach range.first
 
-  module _ (packets : List (List ℕ)) (items : List Item) (item : Item) (last : State) (at : ComesAt terms packets items item last) where
+  module _ (packets : List (List ℕ)) (items : List CollectorItem) (item : CollectorItem) (last : CollectorState) (at : ComesAt range packets items item last) where
     -- where it comes behind a packet, it is among what these packets give, and more of them
     pub taken_starts : (bytes : List ℕ) (answer : Taken) → at.later ≡ bytes ∷ [] → CollectorTakes at.mid bytes answer at.state
-        → (all later : List (List ℕ)) (answers : List Taken) (given : List Item) (after : State) → all ≡ packets ++ later → CollectorSteps new all answers given after → Starts items item given
+        → (all later : List (List ℕ)) (answers : List Taken) (given : List CollectorItem) (after : CollectorState) → all ≡ packets ++ later → CollectorSteps new all answers given after → Starts items item given
     taken_starts bytes answer is takes all later answers given after are steps =
         let parts : all ≡ at.before ++ bytes ∷ later = are ∙ (ap (λ l. l ++ later) (at.are ∙ ap (λ l. at.before ++ l) is) ∙ append_assoc at.before (bytes ∷ []) later) in
         let (mid, replies, more_replies, now, then_given, front, back, are_answers, are_given) =
         steps_part new after at.before (bytes ∷ later) answers given (subst (λ l. CollectorSteps new l answers given after) parts steps) in
-        let (told, same, there) = one_way new at.mid mid at.before at.taken replies at.during now at.steps front in
+        let (answers_alike, same, there) = one_way new at.mid mid at.before at.taken replies at.during now at.steps front in
         let begins : Starts at.more item then_given =
         step_starts at.mid after at.state last bytes later answer more_replies then_given at.more item
         (subst (λ s. CollectorSteps s (bytes ∷ later) more_replies then_given after) there back) takes at.gives at.is_ready at.is_next in
@@ -166,47 +166,47 @@ module _ (terms : Terms) where
     all_before none = at.are ∙ (ap (λ l. at.before ++ l) none ∙ append-nil at.before)
 
     -- where it comes when the collector is finished, it is among what these packets give, and the end
-    pub finished_starts : at.later ≡ [] → at.state ≡ after_finish at.mid terms.told
-        → (answers : List Taken) (during rest : List Item) (mid after : State) → CollectorSteps new packets answers during mid → CollectorGives (after_finish mid terms.told) rest after → Starts items item (during ++ rest)
+    pub finished_starts : at.later ≡ [] → at.state ≡ after_finish at.mid range.frame_limit
+        → (answers : List Taken) (during rest : List CollectorItem) (mid after : CollectorState) → CollectorSteps new packets answers during mid → CollectorGives (after_finish mid range.frame_limit) rest after → Starts items item (during ++ rest)
     finished_starts none is answers during rest mid after steps gives =
-        let (told, same, there) = one_way new at.mid mid at.before at.taken answers at.during during at.steps (subst (λ l. CollectorSteps new l answers during mid) (all_before none) steps) in
-        let finished : at.state ≡ after_finish mid terms.told = is ∙ ap (λ s. after_finish s terms.told) (sym there) in
+        let (answers_alike, same, there) = one_way new at.mid mid at.before at.taken answers at.during during at.steps (subst (λ l. CollectorSteps new l answers during mid) (all_before none) steps) in
+        let finished : at.state ≡ after_finish mid range.frame_limit = is ∙ ap (λ s. after_finish s range.frame_limit) (sym there) in
         let begins : Starts at.more item rest =
-        starts at.more item (after_finish mid terms.told) last after rest (subst (λ s. Given s at.more last) finished at.gives) at.is_ready at.is_next gives in
+        starts at.more item (after_finish mid range.frame_limit) last after rest (subst (λ s. GivesSoFar s at.more last) finished at.gives) at.is_ready at.is_next gives in
         let front : items ≡ during ++ at.more = at.items_are ∙ ap (λ l. l ++ at.more) (sym same) in
         subst (λ l. Starts l item (during ++ rest)) (sym front) (starts_behind during at.more item rest begins)
 
     -- behind the packet the first sequence number is that of the collector that gives it
     pub taken_first : (bytes : List ℕ) (answer : Taken) → at.later ≡ bytes ∷ [] → CollectorTakes at.mid bytes answer at.state
-        → (answers : List Taken) (given : List Item) (after : State) → CollectorSteps new packets answers given after → after.first ≡ last.first
+        → (answers : List Taken) (given : List CollectorItem) (after : CollectorState) → CollectorSteps new packets answers given after → after.first ≡ last.first
     taken_first bytes answer is takes answers given after steps =
         let parts : packets ≡ at.before ++ bytes ∷ [] = at.are ∙ ap (λ l. at.before ++ l) is in
         let (mid, replies, more_replies, now, then_given, front, back, are_answers, are_given) =
         steps_part new after at.before (bytes ∷ []) answers given (subst (λ l. CollectorSteps new l answers given after) parts steps) in
-        let (told, same, there) = one_way new at.mid mid at.before at.taken replies at.during now at.steps front in
+        let (answers_alike, same, there) = one_way new at.mid mid at.before at.taken replies at.during now at.steps front in
         step_first at.mid after at.state bytes answer more_replies then_given (subst (λ s. CollectorSteps s (bytes ∷ []) more_replies then_given after) there back) takes
         ∙ sym (given_first at.more at.state last at.gives)
 
     -- the packets before it aren't enough
-    pub lacks_before : is_full terms.told (length items) ≡ false → HasEnough terms at.before → ⊥
+    pub lacks_before : is_full range.frame_limit (length items) ≡ false → HasEnough range at.before → ⊥
     lacks_before room (taken, given, end, steps, full) =
         let same : given ≡ at.during = (one_way new at.mid end at.before at.taken taken at.during given at.steps steps).1 in
         let long : length items ≡ length at.during + length at.more = ap length at.items_are ∙ length-append at.during at.more in
-        true≢false (sym (longer_full terms.told (length given) (length items) (omega (arith, long, ap length same)) full) ∙ room)
+        true≢false (sym (longer_full range.frame_limit (length given) (length items) (omega (arith, long, ap length same)) full) ∙ room)
 
     place_of : (bytes : List ℕ) (more : List (List ℕ)) → at.later ≡ bytes ∷ [] → packets ++ more ≡ at.before ++ bytes ∷ more
     place_of bytes more is = ap (λ l. l ++ more) (at.are ∙ ap (λ l. at.before ++ l) is) ∙ append_assoc at.before (bytes ∷ []) more
 
   -- ---- two items
 
-  module _ (packets others : List (List ℕ)) (items given : List Item) (item next : Item) (last end : State)
-      (a : ComesAt terms packets items item last) (b : ComesAt terms others given next end) where
+  module _ (packets others : List (List ℕ)) (items given : List CollectorItem) (item next : CollectorItem) (last end : CollectorState)
+      (a : ComesAt range packets items item last) (b : ComesAt range others given next end) where
     -- where both come out of one state
     from_one : a.before ≡ b.before → (a.mid ≡ b.mid → a.state ≡ b.state) → Agree items item given next
     from_one same both =
-        let (told, during, mid) = one_way new b.mid a.mid b.before b.taken a.taken b.during a.during b.steps (subst (λ l. CollectorSteps new l a.taken a.during a.mid) same a.steps) in
+        let (answers_alike, during, mid) = one_way new b.mid a.mid b.before b.taken a.taken b.during a.during b.steps (subst (λ l. CollectorSteps new l a.taken a.during a.mid) same a.steps) in
         let more : Agree a.more item b.more next =
-        given_agree a.more b.more item next b.state last end (subst (λ s. Given s a.more last) (both mid) a.gives) a.is_next b.gives b.is_next in
+        given_agree a.more b.more item next b.state last end (subst (λ s. GivesSoFar s a.more last) (both mid) a.gives) a.is_next b.gives b.is_next in
         let front : items ≡ b.during ++ a.more = a.items_are ∙ ap (λ l. l ++ a.more) during in
         subst (λ l. Agree l item given next) (sym front) (subst (λ l. Agree (b.during ++ a.more) item l next) (sym b.items_are) (agree_behind b.during a.more b.more item next more))
 
@@ -224,22 +224,22 @@ module _ (terms : Terms) where
         (subst (λ l. CollectorTakes b.mid l answer a.state) same (subst (λ s. CollectorTakes s bytes answer a.state) mid takes))).1)
 
     -- where both come when the collector is finished
-    pub both_finished : a.later ≡ [] → b.later ≡ [] → a.state ≡ after_finish a.mid terms.told → b.state ≡ after_finish b.mid terms.told → packets ≡ others → Agree items item given next
+    pub both_finished : a.later ≡ [] → b.later ≡ [] → a.state ≡ after_finish a.mid range.frame_limit → b.state ≡ after_finish b.mid range.frame_limit → packets ≡ others → Agree items item given next
     both_finished none also is is' same =
         from_one (sym (all_before packets items item last a none) ∙ (same ∙ all_before others given next end b also))
-        (λ mid. is ∙ (ap (λ s. after_finish s terms.told) mid ∙ sym is'))
+        (λ mid. is ∙ (ap (λ s. after_finish s range.frame_limit) mid ∙ sym is'))
 
     -- where the second one does
     pub then_finished : (bytes : List ℕ) (answer : Taken) → a.later ≡ bytes ∷ [] → CollectorTakes a.mid bytes answer a.state → b.later ≡ [] → (later : List (List ℕ)) → others ≡ packets ++ later → Agree items item given next
     then_finished bytes answer is takes none later are = earlier bytes answer is takes later (sym (all_before others given next end b none) ∙ are)
 
-  swapped : (xs ys : List Item) (x y : Item) → Agree xs x ys y → Agree ys y xs x
+  swapped : (xs ys : List CollectorItem) (x y : CollectorItem) → Agree xs x ys y → Agree ys y xs x
   swapped xs ys x y (inl (same, next)) = inl (sym same, sym next)
   swapped xs ys x y (inr (inl starts)) = inr (inr starts)
   swapped xs ys x y (inr (inr starts)) = inr (inl starts)
 
-  module _ (packets others : List (List ℕ)) (items given : List Item) (item next : Item) (last end : State)
-      (a : ComesAt terms packets items item last) (b : ComesAt terms others given next end) where
+  module _ (packets others : List (List ℕ)) (items given : List CollectorItem) (item next : CollectorItem) (last end : CollectorState)
+      (a : ComesAt range packets items item last) (b : ComesAt range others given next end) where
     pub finished_then : a.later ≡ [] → (bytes : List ℕ) (answer : Taken) → b.later ≡ bytes ∷ [] → CollectorTakes b.mid bytes answer b.state → (later : List (List ℕ)) → packets ≡ others ++ later → Agree items item given next
     finished_then none bytes answer is takes later are =
         swapped given items next item (then_finished others packets given items next item end last b a bytes answer is takes none later are)

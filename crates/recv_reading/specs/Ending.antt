@@ -3,9 +3,9 @@ use Rattle.std.specs.Prelude.{ℕ, ◌≡◌, ◌+◌, ◌*◌, ◌<◌, ◌≤�
 use Rattle.std.specs.List.{filter_map, AllByRecursion}
 use Rattle.drm_links.specs.Link.{Answer, Datagram, Idle, Failed, End, datagram_of}
 use Rattle.dcp_collect.specs.declared.taken.Taken.{Taken}
-use Rattle.dcp_collect.specs.State.{State, made, after_finish}
-use Rattle.dcp_collect.specs.Runs.{Item, CollectorTakes, CollectorSteps, up_to}
-use Rattle.law_collect.specs.Laws.{Given, most_at_once}
+use Rattle.dcp_collect.specs.CollectorState.{CollectorState, made, after_finish}
+use Rattle.dcp_collect.specs.Runs.{CollectorItem, CollectorTakes, CollectorSteps, up_to}
+use Rattle.law_collect.specs.Laws.{GivesSoFar, most_at_once}
 use Rattle.recv_reading.specs.declared.reason.EndWord.{EndWord}
 use Rattle.recv_reading.specs.declared.reason.EndWord.TheVariants as word
 use Rattle.recv_reading.specs.declared.options.ReceiveOptions.{ReceiveOptions}
@@ -26,15 +26,15 @@ abbrev pub idles : List Answer → ℕ
 idles answers = idles_from 0 answers
 
 -- A new collector that takes these datagrams, and gives all that is ready after each, has given these items.
-abbrev pub Gave : ReceiveOptions → List Answer → List Taken → List Item → State → Type 0
-Gave rules answers taken items end = CollectorSteps (made rules.window rules.reach rules.first) (datagrams answers) taken items end
+abbrev pub CollectorGave : ReceiveOptions → List Answer → List Taken → List CollectorItem → CollectorState → Type 0
+CollectorGave rules answers taken items end = CollectorSteps (made rules.window rules.reach rules.first) (datagrams answers) taken items end
 
 -- the items that are given after these answers
-abbrev pub GaveItems : ReceiveOptions → List Answer → List Item → Type 0
-GaveItems rules answers items = (taken : List Taken) × (end : State) × Gave rules answers taken items end
+abbrev pub GaveItems : ReceiveOptions → List Answer → List CollectorItem → Type 0
+GaveItems rules answers items = (taken : List Taken) × (end : CollectorState) × CollectorGave rules answers taken items end
 
 -- So few items are given behind those before, by one datagram more: where the collector has a newest number, by the reach.
-abbrev pub FewMore : ReceiveOptions → State → List Item → List Item → Type 0
+abbrev pub FewMore : ReceiveOptions → CollectorState → List CollectorItem → List CollectorItem → Type 0
 FewMore rules c before items =
     (length items ≤ length before + most_at_once rules.window)
     × IfSome c.newest (λ n. length items ≤ length before + (rules.reach + rules.window))
@@ -42,13 +42,13 @@ FewMore rules c before items =
 -- each of these answers brings no more items than one datagram can
 abbrev pub FewAtOnce : ReceiveOptions → List Answer → Type 0
 FewAtOnce rules answers =
-    (k : ℕ) (taken : List Taken) (before items : List Item) (c : State) → Gave rules (take k answers) taken before c
+    (k : ℕ) (taken : List Taken) (before items : List CollectorItem) (c : CollectorState) → CollectorGave rules (take k answers) taken before c
     → GaveItems rules (take (k + 1) answers) items → FewMore rules c before items
 
 -- as many items were given as are told
 abbrev pub HasGiven : ReceiveOptions → List Answer → Option ℕ → Type 0
 HasGiven rules answers None = ⊥
-HasGiven rules answers (Some n) = (taken : List Taken) × (items : List Item) × (end : State) × Gave rules answers taken items end × (n ≤ length items)
+HasGiven rules answers (Some n) = (taken : List Taken) × (items : List CollectorItem) × (end : CollectorState) × CollectorGave rules answers taken items end × (n ≤ length items)
 
 -- nothing comes after these answers
 abbrev pub HaveEnded : List Answer → Type 0
@@ -62,65 +62,65 @@ ReasonHolds rules answers word.Idle = rules.idle ≤ idles answers
 ReasonHolds rules answers word.Input = HaveEnded answers
 ReasonHolds rules answers word.Paths = ⊥
 
-abbrev pub IsOpen : ReceiveOptions → List Answer → Type 0
-IsOpen rules answers = (w : EndWord) → ReasonHolds rules answers w → ⊥
+abbrev pub IsReadingOpen : ReceiveOptions → List Answer → Type 0
+IsReadingOpen rules answers = (w : EndWord) → ReasonHolds rules answers w → ⊥
 
 -- the first reason that holds
-abbrev pub EndsBy : ReceiveOptions → List Answer → EndWord → Type 0
-EndsBy rules answers word.Frames = ReasonHolds rules answers word.Frames
-EndsBy rules answers word.Limit = ReasonHolds rules answers word.Limit × (ReasonHolds rules answers word.Frames → ⊥)
-EndsBy rules answers word.Idle =
+abbrev pub ReadingEndsBy : ReceiveOptions → List Answer → EndWord → Type 0
+ReadingEndsBy rules answers word.Frames = ReasonHolds rules answers word.Frames
+ReadingEndsBy rules answers word.Limit = ReasonHolds rules answers word.Limit × (ReasonHolds rules answers word.Frames → ⊥)
+ReadingEndsBy rules answers word.Idle =
     ReasonHolds rules answers word.Idle × (ReasonHolds rules answers word.Frames → ⊥) × (ReasonHolds rules answers word.Limit → ⊥)
-EndsBy rules answers word.Input =
+ReadingEndsBy rules answers word.Input =
     ReasonHolds rules answers word.Input × (ReasonHolds rules answers word.Frames → ⊥) × (ReasonHolds rules answers word.Limit → ⊥)
     × (ReasonHolds rules answers word.Idle → ⊥)
-EndsBy rules answers word.Paths = ⊥
+ReadingEndsBy rules answers word.Paths = ⊥
 
 -- the answer didn't fail
-abbrev pub IsSound : Answer → Type 0
-IsSound (Datagram bytes) = Unit {0}
-IsSound Idle = Unit {0}
-IsSound Failed = ⊥
-IsSound End = Unit {0}
+abbrev pub HasNotFailed : Answer → Type 0
+HasNotFailed (Datagram bytes) = Unit {0}
+HasNotFailed Idle = Unit {0}
+HasNotFailed Failed = ⊥
+HasNotFailed End = Unit {0}
 
 -- Nothing failed, and nothing shorter than these answers is finished.
-pub record GoesOn (rules : ReceiveOptions) (answers : List Answer) : Type 0 where
-  pub sound : AllByRecursion IsSound answers
-  pub shorter : (k : ℕ) → k < length answers → IsOpen rules (take k answers)
+pub record ReadingGoesOn (rules : ReceiveOptions) (answers : List Answer) : Type 0 where
+  pub sound : AllByRecursion HasNotFailed answers
+  pub shorter : (k : ℕ) → k < length answers → IsReadingOpen rules (take k answers)
 
 -- These answers are the shortest that are finished, and this is why.
 pub record IsFinished (rules : ReceiveOptions) (answers : List Answer) (w : EndWord) : Type 0 where
-  pub goes_on : GoesOn rules answers
-  pub ends : EndsBy rules answers w
+  pub goes_on : ReadingGoesOn rules answers
+  pub ends : ReadingEndsBy rules answers w
 
 -- These answers, none of whose fronts is finished, are the shortest that end in `Failed`.
-pub record IsBroken (rules : ReceiveOptions) (before answers : List Answer) : Type 0 where
+pub record IsReadingBroken (rules : ReceiveOptions) (before answers : List Answer) : Type 0 where
   pub last : answers ≡ before ++ Failed ∷ []
-  pub goes_on : GoesOn rules before
-  pub is_open : IsOpen rules before
+  pub goes_on : ReadingGoesOn rules before
+  pub is_open : IsReadingOpen rules before
 
 -- so many answers are read at the most
 abbrev pub most_answers : ReceiveOptions → ℕ
 most_answers rules = rules.limit * rules.idle + rules.idle + 1
 
 -- what a collector comes to by the last of these answers: it takes that datagram, or it is finished where the reading is
-abbrev pub ComesTo : ReceiveOptions → List Answer → List Answer → State → State → Type 0
+abbrev pub ComesTo : ReceiveOptions → List Answer → List Answer → CollectorState → CollectorState → Type 0
 ComesTo options answers later mid c =
     ((bytes : List ℕ) × (answer : Taken) × (later ≡ Datagram bytes ∷ []) × CollectorTakes mid bytes answer c)
-    ⊎ ((word : EndWord) × (later ≡ []) × EndsBy options answers word × (c ≡ after_finish mid options.frames))
+    ⊎ ((word : EndWord) × (later ≡ []) × ReadingEndsBy options answers word × (c ≡ after_finish mid options.frames))
 
 -- These are some first items of those that the answers give: all that was given before the last of them, and then some.
-pub record GivesSome (options : ReceiveOptions) (answers : List Answer) (items : List Item) : Type 0 where
+pub record GivesSome (options : ReceiveOptions) (answers : List Answer) (items : List CollectorItem) : Type 0 where
   pub before : List Answer
   pub later : List Answer
   pub are : answers ≡ before ++ later
   pub taken : List Taken
-  pub during : List Item
-  pub mid : State
-  pub gave : Gave options before taken during mid
-  pub state : State
+  pub during : List CollectorItem
+  pub mid : CollectorState
+  pub gave : CollectorGave options before taken during mid
+  pub state : CollectorState
   pub comes : ComesTo options answers later mid state
-  pub more : List Item
-  pub last : State
-  pub gives : Given state more last
+  pub more : List CollectorItem
+  pub last : CollectorState
+  pub gives : GivesSoFar state more last
   pub items_are : items ≡ up_to options.frames (during ++ more)

@@ -1,7 +1,7 @@
 pub mod Options
 pub mod Ending
 pub mod State
-pub mod Reached
+pub mod ReadingReached
 pub mod Source
 pub mod Packets
 pub mod Given

@@ -4,12 +4,12 @@ use Rattle.drm_links.specs.Link.{Answer}
 use Rattle.drm_links.specs.Hearing.{AreNext}
 use Rattle.recv_reading.specs.declared.reason.EndWord.{EndWord}
 use Rattle.recv_reading.specs.declared.options.ReceiveOptions.{ReceiveOptions}
-use Rattle.recv_reading.specs.Ending.{IsFinished, IsBroken}
+use Rattle.recv_reading.specs.Ending.{IsFinished, IsReadingBroken}
 
 -- a reading ends after these answers: it is finished, for this reason, or it ends in `Failed`
 abbrev pub ReadingEnds : ReceiveOptions → List Answer → Option EndWord → Type 0
 ReadingEnds rules answers (Some word) = IsFinished rules answers word
-ReadingEnds rules answers None = (before : List Answer) × IsBroken rules before answers
+ReadingEnds rules answers None = (before : List Answer) × IsReadingBroken rules before answers
 
 -- Of the answers ahead these are read.
 pub record IsReadingOf (rules : ReceiveOptions) (ahead answers : List Answer) (ending : Option EndWord) : Type 0 where
@@ -29,4 +29,4 @@ pub record BreaksOff (rules : ReceiveOptions) (ahead : List Answer) : Type 0 whe
   pub answers : List Answer
   pub rest : List Answer
   pub next : AreNext ahead answers rest
-  pub reading : IsBroken rules before answers
+  pub reading : IsReadingBroken rules before answers

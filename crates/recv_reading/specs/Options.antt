@@ -1,6 +1,6 @@
 -- The numbers by which packets are received.
 use Rattle.std.specs.Prelude.{◌≤◌, ◌<◌, ◌^◌, ℕ, Option, IfSome}
-use Rattle.dcp_collect.specs.State.{State}
+use Rattle.dcp_collect.specs.CollectorState.{CollectorState}
 use Rattle.recv_reading.specs.declared.options.ReceiveOptions.{ReceiveOptions}
 use Rattle.recv_reading.specs.declared.options.Bounds.{Bounds}
 
@@ -30,7 +30,7 @@ abbrev pub bounds_of : ReceiveOptions → Bounds
 bounds_of options = record { frames = options.frames; idle = options.idle; limit = options.limit }
 
 -- the options of a reading with this new collector
-abbrev pub options_of : State → Bounds → ReceiveOptions
+abbrev pub options_of : CollectorState → Bounds → ReceiveOptions
 options_of c bounds = record { window = c.window; reach = c.reach; first = c.first; frames = bounds.frames; idle = bounds.idle; limit = bounds.limit }
 
 -- those of a reading that ends with its capture, which has fewer packets than that, or by the number of items

@@ -1,9 +1,9 @@
 -- Where datagrams come from: a link, or the packets of a capture.
 use Rattle.std.specs.Prelude.{ℕ, ◌≡◌, ◌⊎◌, All, List, [], ◌∷◌, ◌++◌, map, Option, Result, Ok, Err}
-use Rattle.drm_links.specs.Told.{Known}
+use Rattle.drm_links.specs.Known.{Known}
 use Rattle.drm_links.specs.Link.{Answer, Datagram, Failed, End, Traffic}
-use Rattle.drm_links.specs.Hearing.{Heard}
-use Rattle.drm_links.specs.Source.{Input, Inputs}
+use Rattle.drm_links.specs.Hearing.{LinkHeard}
+use Rattle.drm_links.specs.Source.{Input, InputsBytes}
 use Rattle.capture_reader.specs.declared.packets.CaptureStop.{CaptureStop}
 use Rattle.capture_reader.specs.declared.packets.CaptureStop.TheVariants as stops
 use Rattle.capture_reader.specs.Front.{IsWhole}
@@ -38,7 +38,7 @@ abbrev pub ReadSoFar : WalkerState → Known Input → Known Input → List Answ
 ReadSoFar reader before after answers =
     (packets : List (List ℕ))
     × ((HasRead packets reader before after × (answers ≡ map Datagram packets))
-    ⊎ (Inputs before after (λ left rest. capture.IsCaptureOf left packets capture.End) × (answers ≡ map Datagram packets ++ End ∷ [])))
+    ⊎ (InputsBytes before after (λ left rest. capture.IsCaptureOf left packets capture.End) × (answers ≡ map Datagram packets ++ End ∷ [])))
 
 abbrev pub HeardOf : Known Input → Known Input → List Answer → Type 0
 HeardOf before after answers = (reader : WalkerState) × ReadSoFar reader before after answers
@@ -55,7 +55,7 @@ StopsReading (faults.Capture stop) before after answers = HeardUntil stop before
 -- ---- a link
 
 abbrev pub BreaksLink : SourceFault → Known Traffic → Known Traffic → List Answer → Type 0
-BreaksLink faults.Link before after answers = Heard before after answers
+BreaksLink faults.Link before after answers = LinkHeard before after answers
 BreaksLink (faults.Capture stop) before after answers = ⊥
 
 -- ---- a failed call

@@ -1,6 +1,6 @@
 -- A reading as data.
 use Rattle.std.specs.Prelude.{ℕ, ◌+◌, ◌-◌, ◌*◌, ◌^◌, Bool, true, false, nat_le, Option, None, Some}
-use Rattle.dcp_collect.specs.State.{State}
+use Rattle.dcp_collect.specs.CollectorState.{CollectorState}
 use Rattle.recv_reading.specs.declared.options.Bounds.{Bounds}
 use Rattle.recv_reading.specs.declared.reason.EndWord.{EndWord}
 use Rattle.recv_reading.specs.declared.reason.EndWord.TheVariants.{Frames}
@@ -55,5 +55,5 @@ still_open None = 1
 still_open (Some word) = 0
 
 -- how many calls lie ahead at the most: each gives an item, takes an answer or ends the reading
-unfoldable pub ahead : ReadingState → State → ℕ
+unfoldable pub ahead : ReadingState → CollectorState → ℕ
 ahead r c = (2 ^ 62 - c.next) + ((r.bounds.limit - r.taken) * r.bounds.idle + ((r.bounds.idle - r.idles) + still_open r.end))

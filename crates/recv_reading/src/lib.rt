@@ -12,4 +12,4 @@ mod source;
 pub use options::{Bounds, ReceiveOptions};
 pub use reading::Reading;
 pub use reason::EndWord;
-pub use source::{Datagrams, Room, SourceFault};
+pub use source::{Datagrams, ReceiveBuffer, SourceFault};

@@ -2,15 +2,15 @@
 
 ghost use Rattle.std.specs.Prelude.{ℕ, ◌≡◌, ◌<◌, ◌≤◌, ◌^◌, List, [], ◌∷◌, ◌++◌, true, None, Err, IfSome, IfErr, OnOk};
 ghost use Rattle.drm_links.specs.Link.{Answer, Datagram, Idle, End};
-ghost use Rattle.drm_links.specs.Told.{RisesWhere, HasCause};
+ghost use Rattle.drm_links.specs.Known.{RisesWhere, HasCause};
 ghost use Rattle.capture_reader.specs.declared.packets.CaptureStop.{CaptureStop};
 ghost use Rattle.dcp_collect.specs.declared.taken.Taken.{Taken};
-ghost use Rattle.dcp_collect.specs.State.{after_item, after_finish};
-ghost use Rattle.dcp_collect.specs.Runs.{Item, IsItem};
+ghost use Rattle.dcp_collect.specs.CollectorState.{after_item, after_finish};
+ghost use Rattle.dcp_collect.specs.Runs.{CollectorItem, IsItem};
 ghost use Rattle.recv_reading.specs.declared.options.ReceiveOptions.{ReceiveOptions};
 ghost use Rattle.recv_reading.specs.First.{KeepsFirst};
 ghost use Rattle.recv_reading.specs.State.{new_reading, has_enough, has_ended, word_of, ended_by, ahead};
-ghost use Rattle.recv_reading.specs.Reached.{Reached, HasReached, ReadingWaits, GivesNext, ReadsOn};
+ghost use Rattle.recv_reading.specs.ReadingReached.{ReadingReached, HasReached, ReadingWaits, GivesNext, ReadsOn};
 ghost use Rattle.recv_reading.specs.Source.{ReadSoFar, HeardUntil, IsFailedCall};
 
 use crate::options::Bounds;
@@ -90,9 +90,9 @@ impl Reading {
         requires reached { HasReached self.old collector.now }
         ensures gives { GivesNext result self.old collector.now self.new }
         ensures reached { (options : ReceiveOptions) (answers : List Answer) (taken : List Taken)
-            (during more : List Item) (item : Item) → Reached options answers taken during more self.old collector.now
+            (during more : List CollectorItem) (item : CollectorItem) → ReadingReached options answers taken during more self.old collector.now
             → result ≡ true → IsItem collector.now item
-            → Reached options answers taken during (more ++ item ∷ []) self.new (after_item collector.now) }
+            → ReadingReached options answers taken during (more ++ item ∷ []) self.new (after_item collector.now) }
         ensures less { result ≡ true → ahead self.new (after_item collector.now) < ahead self.old collector.now }
     {
         if self.has_enough() || !collector.ready() {
@@ -108,8 +108,8 @@ impl Reading {
         requires below_limit { self.old.taken < self.old.bounds.limit }
         requires reached { HasReached self.old collector.old }
         ensures reached { (options : ReceiveOptions) (answers : List Answer) (taken : List Taken)
-            (during more : List Item) → Reached options answers taken during more self.old collector.old
-            → Reached options (answers ++ Datagram datagram.now ∷ []) (taken ++ result ∷ []) (during ++ more) [] self.new collector.new }
+            (during more : List CollectorItem) → ReadingReached options answers taken during more self.old collector.old
+            → ReadingReached options (answers ++ Datagram datagram.now ∷ []) (taken ++ result ∷ []) (during ++ more) [] self.new collector.new }
         ensures less { ahead self.new collector.new < ahead self.old collector.old }
         ensures first { KeepsFirst collector.old collector.new }
     {
@@ -125,8 +125,8 @@ impl Reading {
         requires below_limit { self.old.taken < self.old.bounds.limit }
         requires reached { HasReached self.old collector.old }
         ensures reached { (options : ReceiveOptions) (answers : List Answer) (taken : List Taken)
-            (during more : List Item) → Reached options answers taken during more self.old collector.old
-            → Reached options (answers ++ Idle ∷ []) taken (during ++ more) [] self.new collector.new }
+            (during more : List CollectorItem) → ReadingReached options answers taken during more self.old collector.old
+            → ReadingReached options (answers ++ Idle ∷ []) taken (during ++ more) [] self.new collector.new }
         ensures less { ahead self.new collector.new < ahead self.old collector.old }
         ensures first { KeepsFirst collector.old collector.new }
     {
@@ -143,8 +143,8 @@ impl Reading {
         requires below_limit { self.old.taken < self.old.bounds.limit }
         requires reached { HasReached self.old collector.old }
         ensures reached { (options : ReceiveOptions) (answers : List Answer) (taken : List Taken)
-            (during more : List Item) → Reached options answers taken during more self.old collector.old
-            → Reached options (answers ++ End ∷ []) taken (during ++ more) [] self.new collector.new }
+            (during more : List CollectorItem) → ReadingReached options answers taken during more self.old collector.old
+            → ReadingReached options (answers ++ End ∷ []) taken (during ++ more) [] self.new collector.new }
         ensures less { ahead self.new collector.new < ahead self.old collector.old }
         ensures first { KeepsFirst collector.old collector.new }
     {
@@ -156,20 +156,20 @@ impl Reading {
     pub fn read_on<F, R: Datagrams<F>>(
         &mut self,
         collector: &mut Collector,
-        room: &mut R,
+        reader: &mut R,
         from: &mut F,
     ) -> Result<Option<Taken>, SourceFault>
         requires waits { ReadingWaits self.old collector.old }
         requires reached { HasReached self.old collector.old }
-        requires room { R.is_ready room.old }
+        requires reader { R.is_ready reader.old }
         ensures reads { (start : F) (options : ReceiveOptions) (answers : List Answer) (taken : List Taken)
-            (during more : List Item)
-            → R.so_far start room.old from.old answers → Reached options answers taken during more self.old collector.old
-            → ReadsOn (R.so_far start room.new from.new) (λ fault. R.until start fault from.new) options answers taken (during ++ more) result
+            (during more : List CollectorItem)
+            → R.so_far start reader.old from.old answers → ReadingReached options answers taken during more self.old collector.old
+            → ReadsOn (R.so_far start reader.new from.new) (λ fault. R.until start fault from.new) options answers taken (during ++ more) result
             self.new collector.new }
         ensures less { OnOk result (ahead self.new collector.new < ahead self.old collector.old) }
         ensures first { KeepsFirst collector.old collector.new }
-        ensures room { R.is_ready room.new }
+        ensures reader { R.is_ready reader.new }
         ensures kind { IfErr result R.fails }
         ensures cause { RisesWhere (R.faults from.old) (R.faults from.new) (IsFailedCall result) }
     {
@@ -177,7 +177,7 @@ impl Reading {
             self.finish(collector, EndWord::Limit);
             return Ok(None);
         }
-        room.feed(from, self, collector)
+        reader.feed(from, self, collector)
     }
 
     /// The same of a capture.
@@ -189,9 +189,9 @@ impl Reading {
     ) -> Result<Option<Taken>, CaptureStop>
         requires waits { ReadingWaits self.old collector.old }
         requires reached { HasReached self.old collector.old }
-        ensures reads { (start : I) (options : ReceiveOptions) (answers : List Answer) (taken : List Taken) (during more : List Item)
+        ensures reads { (start : I) (options : ReceiveOptions) (answers : List Answer) (taken : List Taken) (during more : List CollectorItem)
             → ReadSoFar packets.old (I.known start) (I.known input.old) answers
-            → Reached options answers taken during more self.old collector.old
+            → ReadingReached options answers taken during more self.old collector.old
             → ReadsOn (ReadSoFar packets.new (I.known start) (I.known input.new))
             (λ stop. HeardUntil stop (I.known start) (I.known input.new)) options answers taken (during ++ more) result
             self.new collector.new }

@@ -2,14 +2,14 @@
 
 ghost use Rattle.std.specs.Prelude.{ℕ, ◌≡◌, ◌<◌, ◌≤◌, List, ◌++◌, length, IfErr, OnOk};
 ghost use Rattle.drm_links.specs.Link.{Answer};
-ghost use Rattle.drm_links.specs.Told.{RisesWhere};
-ghost use Rattle.drm_links.specs.Hearing.{Heard};
+ghost use Rattle.drm_links.specs.Known.{RisesWhere};
+ghost use Rattle.drm_links.specs.Hearing.{LinkHeard};
 ghost use Rattle.dcp_collect.specs.declared.taken.Taken.{Taken};
-ghost use Rattle.dcp_collect.specs.Runs.{Item};
+ghost use Rattle.dcp_collect.specs.Runs.{CollectorItem};
 ghost use Rattle.recv_reading.specs.declared.options.ReceiveOptions.{ReceiveOptions};
 ghost use Rattle.recv_reading.specs.First.{KeepsFirst};
 ghost use Rattle.recv_reading.specs.State.{ahead};
-ghost use Rattle.recv_reading.specs.Reached.{Reached, HasReached, ReadingWaits, ReadsOn};
+ghost use Rattle.recv_reading.specs.ReadingReached.{ReadingReached, HasReached, ReadingWaits, ReadsOn};
 ghost use Rattle.recv_reading.specs.Source.{ReadSoFar, StopsReading, BreaksLink, IsFailedCall, IsOfLink, IsOfCapture};
 
 use crate::reading::Reading;
@@ -62,34 +62,34 @@ pub trait Datagrams<F> {
         reading: &mut Reading,
         collector: &mut Collector,
     ) -> Result<Option<Taken>, SourceFault>
-        requires room { is_ready self.old }
+        requires reader { is_ready self.old }
         requires waits { ReadingWaits reading.old collector.old }
         requires below_limit { reading.old.taken < reading.old.bounds.limit }
         requires reached { HasReached reading.old collector.old }
         ensures reads { (start : F) (options : ReceiveOptions) (answers : List Answer) (taken : List Taken)
-            (during more : List Item)
-            → so_far start self.old from.old answers → Reached options answers taken during more reading.old collector.old
+            (during more : List CollectorItem)
+            → so_far start self.old from.old answers → ReadingReached options answers taken during more reading.old collector.old
             → ReadsOn (so_far start self.new from.new) (λ fault. until start fault from.new) options answers taken (during ++ more) result
             reading.new collector.new }
         ensures less { OnOk result (ahead reading.new collector.new < ahead reading.old collector.old) }
         ensures first { KeepsFirst collector.old collector.new }
-        ensures room { is_ready self.new }
+        ensures reader { is_ready self.new }
         ensures kind { IfErr result fails }
         ensures cause { RisesWhere (faults from.old) (faults from.new) (IsFailedCall result) };
 }
 
 /// The room for one datagram of a link: 65,536 bytes.
 #[derive(Drop)]
-pub struct Room<'a> {
+pub struct ReceiveBuffer<'a> {
     pub bytes: &'a mut [u8],
 }
 
-impl<'a, L: Link> Datagrams<L> for Room<'a> {
-    ghost so_far = { λ start room from answers. Heard (L.known start) (L.known from) answers };
+impl<'a, L: Link> Datagrams<L> for ReceiveBuffer<'a> {
+    ghost so_far = { λ start reader from answers. LinkHeard (L.known start) (L.known from) answers };
 
     ghost until = { λ start fault from answers. BreaksLink fault (L.known start) (L.known from) answers };
 
-    ghost is_ready = { λ room. 65536 ≤ length room.bytes.now };
+    ghost is_ready = { λ reader. 65536 ≤ length reader.bytes.now };
 
     ghost fails = { IsOfLink };
 
@@ -101,9 +101,9 @@ impl<'a, L: Link> Datagrams<L> for Room<'a> {
         reading: &mut Reading,
         collector: &mut Collector,
     ) -> Result<Option<Taken>, SourceFault> {
-        let room = &mut *self.bytes;
-        match from.recv(room) {
-            Came::Datagram(len) => Ok(Some(reading.take(collector, &room[..len]))),
+        let reader = &mut *self.bytes;
+        match from.recv(reader) {
+            Came::Datagram(len) => Ok(Some(reading.take(collector, &reader[..len]))),
             Came::Idle => {
                 reading.idle(collector);
                 Ok(None)

@@ -2,6 +2,6 @@ pub mod Composing
 pub mod OneReport
 pub mod Reporting
 pub mod Coming
-pub mod JobLemmas
+pub mod ReceiverLemmas
 pub mod Unbroken
 pub mod CaptureReading

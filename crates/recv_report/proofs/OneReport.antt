@@ -1,6 +1,6 @@
 -- Answers have one report.
 use Rattle.std.proofs.Common.{◌≡◌, ℕ, ◌++◌, List, Option, sym, ◌∙◌, ap, ap₂, subst}
-use Rattle.recv_reading.proofs.Common.{Taken, made, after_finish, Item, CollectorGives, Run, up_to, datagrams}
+use Rattle.recv_reading.proofs.Common.{Taken, made, after_finish, CollectorItem, CollectorGives, CollectorRun, up_to, datagrams}
 use Rattle.dcp_collect.proofs.Decoded.{one_decoding}
 use Rattle.law_collect.proofs.Unique.{one_giving}
 use Rattle.drm_reconfiguration.specs.Tracker.{new_tracker}
@@ -11,13 +11,13 @@ use Rattle.recv_report.specs.OneReport.{IsOneReport}
 use Rattle.recv_reading.proofs.OneReading.{one_word}
 use Rattle.recv_reading.proofs.Reaching.{one_way}
 
-pub runs_same : (window reach : ℕ) (first told : Option ℕ) (ds : List (List ℕ)) (taken taken' : List Taken) (items items' : List Item)
-    → Run window reach first told ds taken items → Run window reach first told ds taken' items' → (taken' ≡ taken) × (items' ≡ items)
-runs_same window reach first told ds taken taken' items items' r s =
+pub runs_same : (window reach : ℕ) (first frame_limit : Option ℕ) (ds : List (List ℕ)) (taken taken' : List Taken) (items items' : List CollectorItem)
+    → CollectorRun window reach first frame_limit ds taken items → CollectorRun window reach first frame_limit ds taken' items' → (taken' ≡ taken) × (items' ≡ items)
+runs_same window reach first frame_limit ds taken taken' items items' r s =
     let (t, d, m) = one_way (made window reach first) r.mid s.mid ds taken taken' r.during s.during r.steps s.steps in
-    let g : CollectorGives (after_finish r.mid told) s.rest s.after = subst (λ c. CollectorGives (after_finish c told) s.rest s.after) m s.gives in
-    let e : s.rest ≡ r.rest = (one_giving one_decoding (after_finish r.mid told) r.after s.after r.rest s.rest r.gives g).0 in
-    (t, s.are ∙ ap₂ (λ xs ys. up_to told (xs ++ ys)) d e ∙ sym r.are)
+    let g : CollectorGives (after_finish r.mid frame_limit) s.rest s.after = subst (λ c. CollectorGives (after_finish c frame_limit) s.rest s.after) m s.gives in
+    let e : s.rest ≡ r.rest = (one_giving one_decoding (after_finish r.mid frame_limit) r.after s.after r.rest s.rest r.gives g).0 in
+    (t, s.are ∙ ap₂ (λ xs ys. up_to frame_limit (xs ++ ys)) d e ∙ sym r.are)
 
 pub one_report : IsOneReport
 one_report rules feed answers text text' clean clean' r s =

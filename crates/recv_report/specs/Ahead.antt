@@ -7,9 +7,9 @@ use Rattle.drm_timeline.specs.Numbers.{frame_count}
 use Rattle.law_delivery.specs.Sent.{Arrival, pairs_in, IsDeliveryOf, IsInTime}
 use Rattle.drm_links.specs.Hearing.{AreNext}
 use Rattle.recv_reading.specs.declared.options.ReceiveOptions.{ReceiveOptions}
-use Rattle.recv_reading.specs.Ending.{datagrams, GoesOn}
+use Rattle.recv_reading.specs.Ending.{datagrams, ReadingGoesOn}
 use Rattle.report_text.specs.Reports.{Report}
-use Rattle.recv_report.specs.Received.{IsReport, IsBrokenOff, IsReportFront}
+use Rattle.recv_report.specs.Received.{IsReport, IsReportBrokenOff, IsReportPrefix}
 use Rattle.recv_report.specs.Headline.{WouldBeRead, HeadlineOf, CompleteOf}
 
 -- The report of what is ahead of a link: of the answers that are read of it. It is that of the delivery that is read, and
@@ -39,12 +39,12 @@ pub record IsGivenOf (rules : ReceiveOptions) (feed : ℕ) (ahead : List Answer)
   pub answers : List Answer
   pub rest : List Answer
   pub next : AreNext ahead answers rest
-  pub is : IsBrokenOff rules feed answers text
+  pub is : IsReportBrokenOff rules feed answers text
 
 -- The text is a front of what is written of what is ahead of a link.
-pub record IsFrontOf (rules : ReceiveOptions) (feed : ℕ) (ahead : List Answer) (text : List ℕ) : Type 0 where
+pub record IsPrefixAhead (rules : ReceiveOptions) (feed : ℕ) (ahead : List Answer) (text : List ℕ) : Type 0 where
   pub answers : List Answer
   pub rest : List Answer
   pub next : AreNext ahead answers rest
-  pub goes_on : GoesOn rules answers
-  pub is : IsReportFront rules feed answers text
+  pub goes_on : ReadingGoesOn rules answers
+  pub is : IsReportPrefix rules feed answers text

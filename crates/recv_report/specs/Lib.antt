@@ -2,7 +2,7 @@ pub mod Received
 pub mod OneReport
 pub mod Headline
 pub mod Ahead
-pub mod Jobs
+pub mod Receivers
 pub mod Following
 pub mod Settling
 pub mod Captures

@@ -1,11 +1,11 @@
 //! A receiver of a capture: it reads packets until it has read enough, and writes the report of what came.
 
 ghost use Rattle.std.specs.Prelude.{◌≡◌, Err};
-ghost use Rattle.drm_links.specs.Told.{HasCause};
+ghost use Rattle.drm_links.specs.Known.{HasCause};
 ghost use Rattle.capture_reader.specs.declared.packets.CaptureStop.{CaptureStop};
 ghost use Rattle.recv_reading.specs.Options.{AreInRange};
 ghost use Rattle.recv_report.specs.Captures.{EndsReceiving};
-ghost use Rattle.recv_report.specs.declared.capture.Unfinished.{Unfinished};
+ghost use Rattle.recv_report.specs.declared.capture.CaptureReportError.{CaptureReportError};
 
 use crate::reading::{ReceiveFault, write_report};
 use capture_reader::{CaptureStop, Packets};
@@ -18,21 +18,21 @@ use std::alloc::Global;
 
 /// Why the report of a capture isn't whole.
 #[derive(Clone, Copy, Debug, PartialEq, Eq)]
-pub enum Unfinished {
+pub enum CaptureReportError {
     /// No more packets can be read.
     Stopped(CaptureStop),
     Write,
     NoMemory,
 }
 
-impl From<NoMemory> for Unfinished {
+impl From<NoMemory> for CaptureReportError {
     ghost use Rattle.std.specs.Prelude.{◌≡◌};
-    ghost use Rattle.recv_report.specs.declared.capture.Unfinished.TheVariants as unfinished;
+    ghost use Rattle.recv_report.specs.declared.capture.CaptureReportError.TheVariants as unfinished;
 
     ghost from_gives = { λ _ why. why ≡ unfinished.NoMemory };
 
     fn from(_: NoMemory) -> Self {
-        Unfinished::NoMemory
+        CaptureReportError::NoMemory
     }
 }
 
@@ -43,14 +43,14 @@ pub fn receive_capture<I: Source, O: Sink>(
     rules: &ReceiveOptions,
     input: &mut I,
     out: &mut O,
-) -> Result<bool, Unfinished>
+) -> Result<bool, CaptureReportError>
     requires { AreInRange rules.now }
     ensures ended { EndsReceiving rules.now (I.known input.old) (I.known input.new)
         (O.known out.old) (O.known out.new) result }
-    ensures memory { result ≡ Err Unfinished.NoMemory → (input.new ≡ input.old) × (out.new ≡ out.old) }
+    ensures memory { result ≡ Err CaptureReportError.NoMemory → (input.new ≡ input.old) × (out.new ≡ out.old) }
     ensures read { HasCause (I.known input.old) (I.known input.new)
-        (result ≡ Err (Unfinished.Stopped CaptureStop.Read)) }
-    ensures write { HasCause (O.known out.old) (O.known out.new) (result ≡ Err Unfinished.Write) }
+        (result ≡ Err (CaptureReportError.Stopped CaptureStop.Read)) }
+    ensures write { HasCause (O.known out.old) (O.known out.new) (result ≡ Err CaptureReportError.Write) }
 {
     let mut collector = Collector::make(alloc, rules.window, rules.reach, rules.first)?;
     let mut packets = Packets::make(alloc)?;
@@ -66,9 +66,11 @@ pub fn receive_capture<I: Source, O: Sink>(
         out,
     ) {
         Ok(clean) => Ok(clean),
-        Err(ReceiveFault::Source(SourceFault::Capture(stop))) => Err(Unfinished::Stopped(stop)),
+        Err(ReceiveFault::Source(SourceFault::Capture(stop))) => Err(CaptureReportError::Stopped(
+            stop,
+        )),
         Err(ReceiveFault::Source(SourceFault::Link)) => unreachable!(),
-        Err(ReceiveFault::Write) => Err(Unfinished::Write),
-        Err(ReceiveFault::NoMemory) => Err(Unfinished::NoMemory),
+        Err(ReceiveFault::Write) => Err(CaptureReportError::Write),
+        Err(ReceiveFault::NoMemory) => Err(CaptureReportError::NoMemory),
     }
 }

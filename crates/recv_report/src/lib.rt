@@ -2,7 +2,7 @@
 #![tactic(auto)]
 
 mod capture;
-mod job;
+mod one_receiver;
 mod reading;
 mod reading_laws;
 mod receiver;
@@ -10,10 +10,10 @@ mod report_laws;
 mod settling;
 mod stop;
 
-pub use capture::{Unfinished, receive_capture};
-pub use job::{Job, Seat, job_for, run_all, run_live, seat_for, seated};
+pub use capture::{CaptureReportError, receive_capture};
+pub use one_receiver::{Ended, Options, receive_one};
 pub use reading_laws::{one_reading_of_a_link, one_report};
-pub use receiver::{Ended, Options, receive_one};
+pub use receiver::{Receiver, Seat, receiver_for, run_all, run_live, seat_for, seated};
 pub use report_laws::{in_time_is_unbroken, laws_of_deliveries, reports_follow};
 pub use settling::settle;
-pub use stop::Stop;
+pub use stop::ReceiveError;

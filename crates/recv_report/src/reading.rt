@@ -1,11 +1,11 @@
 //! Reading, and the report of what came.
 
 ghost use Rattle.std.specs.Prelude.{◌≡◌, ◌<◌, ◌^◌, [], true, Err, IfOk, IfErr, IsErr};
-ghost use Rattle.drm_links.specs.Told.{RisesWhere, HasCause};
-ghost use Rattle.dcp_collect.specs.State.{made, ready, after_item};
+ghost use Rattle.drm_links.specs.Known.{RisesWhere, HasCause};
+ghost use Rattle.dcp_collect.specs.CollectorState.{made, ready, after_item};
 ghost use Rattle.drm_reconfiguration.specs.Tracker.{new_tracker};
 ghost use Rattle.recv_reading.specs.Options.{AreUsable, options_of};
-ghost use Rattle.recv_report.specs.Received.{Reported};
+ghost use Rattle.recv_report.specs.Received.{ReportWritten};
 ghost use Rattle.report_text.specs.Tallies.{new_tally, items_in};
 ghost use Rattle.recv_report.specs.Progress.{WritesNext, noted_if, WroteItems, StopsReading, StopsReport};
 ghost use Rattle.recv_report.specs.Faults.{IsCallFailed};
@@ -69,17 +69,17 @@ pub(crate) fn write_report<F, R: Datagrams<F>, O: Sink>(
     bounds: Bounds,
     collector: &mut Collector,
     feed: &mut Feed,
-    room: &mut R,
+    reader: &mut R,
     from: &mut F,
     out: &mut O,
 ) -> Result<bool, ReceiveFault>
     requires options { AreUsable (options_of collector.old bounds) }
     requires collector { collector.old ≡ made collector.old.window collector.old.reach collector.old.first }
     requires feed { feed.old ≡ new_tracker }
-    requires room { R.is_ready room.old }
-    requires nothing_came { R.so_far from.old room.old from.old [] }
-    ensures finished { IfOk result (Reported (options_of collector.old bounds) number (R.so_far from.old room.new from.new) (O.known out.old) (O.known out.new)) }
-    ensures stopped { IfErr result (StopsReport (options_of collector.old bounds) number (R.so_far from.old room.new from.new)
+    requires reader { R.is_ready reader.old }
+    requires nothing_heard { R.so_far from.old reader.old from.old [] }
+    ensures finished { IfOk result (ReportWritten (options_of collector.old bounds) number (R.so_far from.old reader.new from.new) (O.known out.old) (O.known out.new)) }
+    ensures stopped { IfErr result (StopsReport (options_of collector.old bounds) number (R.so_far from.old reader.new from.new)
         (λ fault. R.until from.old fault from.new) (O.known out.old) (O.known out.new)) }
     ensures memory { result ≡ Err ReceiveFault.NoMemory → (from.new ≡ from.old) × (out.new ≡ out.old) }
     ensures source { RisesWhere (R.faults from.old) (R.faults from.new) (IsCallFailed result) }
@@ -89,7 +89,7 @@ pub(crate) fn write_report<F, R: Datagrams<F>, O: Sink>(
     let mut lines = LineWriter::make(alloc)?;
     write_feed(out, number)?;
     let word = read_all(
-        bounds, collector, feed, &mut tally, &mut lines, room, from, out,
+        bounds, collector, feed, &mut tally, &mut lines, reader, from, out,
     )?;
     tally.write_refused(out)?;
     tally.write_end(out, word)?;
@@ -104,7 +104,7 @@ fn read_all<F, R: Datagrams<F>, O: Sink>(
     feed: &mut Feed,
     tally: &mut ReportCounts,
     lines: &mut LineWriter,
-    room: &mut R,
+    reader: &mut R,
     from: &mut F,
     out: &mut O,
 ) -> Result<EndWord, ReceiveFault>
@@ -113,11 +113,11 @@ fn read_all<F, R: Datagrams<F>, O: Sink>(
     requires feed { feed.old ≡ new_tracker }
     requires tally { tally.old ≡ new_tally }
     requires lines { lines.old ≡ [] }
-    requires room { R.is_ready room.old }
-    requires nothing_came { R.so_far from.old room.old from.old [] }
-    ensures finished { IfOk result (WroteItems (options_of collector.old bounds) (R.so_far from.old room.new from.new) (O.known out.old) (O.known out.new)
+    requires reader { R.is_ready reader.old }
+    requires nothing_heard { R.so_far from.old reader.old from.old [] }
+    ensures finished { IfOk result (WroteItems (options_of collector.old bounds) (R.so_far from.old reader.new from.new) (O.known out.old) (O.known out.new)
         tally.new) }
-    ensures stopped { IfErr result (StopsReading (options_of collector.old bounds) (R.so_far from.old room.new from.new)
+    ensures stopped { IfErr result (StopsReading (options_of collector.old bounds) (R.so_far from.old reader.new from.new)
         (λ fault. R.until from.old fault from.new) (O.known out.old) (O.known out.new)) }
     ensures source { RisesWhere (R.faults from.old) (R.faults from.new) (IsCallFailed result) }
     ensures write { HasCause (O.known out.old) (O.known out.new) (result ≡ Err ReceiveFault.Write) }
@@ -133,7 +133,7 @@ fn read_all<F, R: Datagrams<F>, O: Sink>(
             return Ok(reading.word());
         }
         let number = reading.taken();
-        let taken = reading.read_on(collector, room, from)?;
+        let taken = reading.read_on(collector, reader, from)?;
         note(tally, number, taken);
     }
 }

@@ -1,13 +1,13 @@
 //! What the laws of deliveries say of reports.
 
-ghost use Rattle.law_delivery.specs.Laws.{Delivering, DeliveringEarly, StraysRefused, GivenInTime, SwitchesAtStarts, AllSwitches, AllFrames};
+ghost use Rattle.law_delivery.specs.Laws.{Delivering, DeliveringEarly, ForeignRefused, GivenInTime, SwitchesAtStarts, AllSwitches, AllFrames};
 ghost use Rattle.law_frame_lines.specs.Laws.{ServedLines};
 ghost use Rattle.recv_report.specs.Following.{HeadlinesFollow, CompletesFollow, NoneBreaksOff};
 
 use law_delivery::{
-    all_frames_are_given, all_frames_are_given_at_once, all_switches_are_told,
-    frames_in_time_are_given, modulators_give, modulators_give_early, strays_are_refused,
-    switches_are_told_at_starts,
+    all_frames_are_given, all_frames_are_given_at_once, all_switches_are_reported,
+    foreign_are_refused, frames_in_time_are_given, modulators_give, modulators_give_early,
+    switches_are_reported_at_starts,
 };
 use law_frame_lines::served_frames_are_printed;
 
@@ -30,7 +30,7 @@ pub fn in_time_is_unbroken()
 pub fn laws_of_deliveries()
     ensures delivering { Delivering }
     ensures early { DeliveringEarly }
-    ensures refused { StraysRefused }
+    ensures refused { ForeignRefused }
     ensures in_time { GivenInTime }
     ensures at_starts { SwitchesAtStarts }
     ensures all_switches { AllSwitches }
@@ -39,10 +39,10 @@ pub fn laws_of_deliveries()
 {
     modulators_give();
     modulators_give_early();
-    strays_are_refused();
+    foreign_are_refused();
     frames_in_time_are_given();
-    switches_are_told_at_starts();
-    all_switches_are_told();
+    switches_are_reported_at_starts();
+    all_switches_are_reported();
     all_frames_are_given();
     served_frames_are_printed();
 }

@@ -24,13 +24,13 @@ use Rattle.drm_sdc.specs.Block.{first_form, IsBlock}
 use Rattle.drm_sdc.specs.Entity.{IsEntity, entity_size}
 use Rattle.drm_sdc.specs.Field.{IsTail, IsField}
 use Rattle.drm_sdc.proofs.EntityLaws.{length-entity, no_tail, small_rest, size_within}
-use Rattle.drm_sdc.proofs.BlockLaws.{framed_length, one_told}
+use Rattle.drm_sdc.proofs.BlockLaws.{framed_length, one_info}
 use Rattle.report_text.specs.HexBits.{hex_of_bits}
 use Rattle.report_text.specs.FrameLine.{front_bits}
 use Rattle.report_text.proofs.HexLemmas.{next_digit}
-use Rattle.report_dump.specs.declared.block.Head.{Head}
-use Rattle.report_dump.specs.Block.{IsTold, HoldsBlock, IsHead, IsZero, head_text}
-use Rattle.report_dump.specs.Content.{bits_at}
+use Rattle.report_dump.specs.declared.block.EntityHead.{EntityHead}
+use Rattle.report_dump.specs.Block.{IsSpanOfBlock, HoldsBlock, IsEntityHead, IsZero, head_text}
+use Rattle.report_dump.specs.PacketContent.{bits_at}
 use Rattle.report_dump.specs.Lines.{kind_text, entity_line, tail_line, tail_text}
 use Rattle.report_dump.specs.Text.{field_text}
 
@@ -64,7 +64,7 @@ bool_zero : (b : Bool) → b ≡ false → from_bool b ≡ 0
 bool_zero b is = ap from_bool is
 
 -- a head of zeros stands where the first two bytes are 0
-zero_bytes : (field : List ℕ) (behind : List Bool) (h : Head) → 2 ≤ length field → IsBytes field → IsHead h (bits_of field ++ behind) → IsZero h → (get_or field 0 0 ≡ 0) × (get_or field 1 0 ≡ 0)
+zero_bytes : (field : List ℕ) (behind : List Bool) (h : EntityHead) → 2 ≤ length field → IsBytes field → IsEntityHead h (bits_of field ++ behind) → IsZero h → (get_or field 0 0 ≡ 0) × (get_or field 1 0 ≡ 0)
 zero_bytes [] behind h long small is none = absurd (omega (arith, long))
 zero_bytes (x ∷ []) behind h long small is none = absurd (omega (arith, long))
 zero_bytes (x ∷ y ∷ field) behind h long small is none =
@@ -80,12 +80,12 @@ zero_bytes (x ∷ y ∷ field) behind h long small is none =
     (sym (value-digits 8 x (small 0)) ∙ first, sym (value-digits 8 y (small 1)) ∙ second)
 
 -- a tail begins there
-is_tail : (field : List ℕ) (behind bits : List Bool) (room : ℕ) → length field ≡ room → IsBytes field → bits ≡ bits_of field ++ behind → (room < 2) ⊎ ((h : Head) × IsHead h bits × IsZero h) → IsTail field
+is_tail : (field : List ℕ) (behind bits : List Bool) (room : ℕ) → length field ≡ room → IsBytes field → bits ≡ bits_of field ++ behind → (room < 2) ⊎ ((h : EntityHead) × IsEntityHead h bits × IsZero h) → IsTail field
 is_tail field behind bits room size small begins (inl few) = inl (omega (arith, size, few))
 is_tail field behind bits room size small begins (inr (h, is, none)) =
     elim (cases_lt (length field) 2) [
       | inl few ↦ inl few
-      | inr many ↦ inr (zero_bytes field behind h many small (subst (IsHead h) begins is) none)
+      | inr many ↦ inr (zero_bytes field behind h many small (subst (IsEntityHead h) begins is) none)
     ]
 
 only_tail : (entities : List Entity) (tail field : List ℕ) → IsBytes field → IsField entities tail field → IsTail field → (entities ≡ []) × (length tail ≡ length field)
@@ -93,7 +93,7 @@ only_tail [] tail field small is ends = (refl, ap length (sym is.0))
 only_tail (e ∷ entities) tail field small is ends = absurd (no_tail e field small is.0 ends)
 
 -- nothing but the tail is left
-pub at_tail : (entities : List Entity) (tail : List ℕ) (room : ℕ) (bits : List Bool) → HoldsBlock entities tail room bits → (room < 2) ⊎ ((h : Head) × IsHead h bits × IsZero h)
+pub at_tail : (entities : List Entity) (tail : List ℕ) (room : ℕ) (bits : List Bool) → HoldsBlock entities tail room bits → (room < 2) ⊎ ((h : EntityHead) × IsEntityHead h bits × IsZero h)
     → (entities ≡ []) × (length tail ≡ room)
 at_tail entities tail room bits holds ends =
     let only = only_tail entities tail holds.field holds.octets holds.is (is_tail holds.field holds.behind bits room holds.size holds.octets holds.begins ends) in
@@ -102,7 +102,7 @@ at_tail entities tail room bits holds ends =
 -- ---- the next entity
 
 -- The first entity has this head, and the others stand behind its body.
-pub record HasNext (entities : List Entity) (tail : List ℕ) (room : ℕ) (h : Head) (bits : List Bool) : Type 0 where
+pub record HasNext (entities : List Entity) (tail : List ℕ) (room : ℕ) (h : EntityHead) (bits : List Bool) : Type 0 where
   pub e : Entity
   pub rest : List Entity
   pub are : entities ≡ e ∷ rest
@@ -137,7 +137,7 @@ unfolding digits
 zero_nibble bits = refl
 
 -- two bytes that are 0 are a head of zeros
-zero_head : (field : List ℕ) (behind : List Bool) (h : Head) → 2 ≤ length field → get_or field 0 0 ≡ 0 → get_or field 1 0 ≡ 0 → IsHead h (bits_of field ++ behind) → IsZero h
+zero_head : (field : List ℕ) (behind : List Bool) (h : EntityHead) → 2 ≤ length field → get_or field 0 0 ≡ 0 → get_or field 1 0 ≡ 0 → IsEntityHead h (bits_of field ++ behind) → IsZero h
 zero_head [] behind h long first second is = absurd (omega (arith, long))
 zero_head (x ∷ []) behind h long first second is = absurd (omega (arith, long))
 zero_head (x ∷ y ∷ field) behind h long first second is =
@@ -146,7 +146,7 @@ zero_head (x ∷ y ∷ field) behind h long first second is =
     append_assoc (digits 8 x) (digits 8 y ++ bits_of field) behind
     ∙ (ap (λ l. digits 8 x ++ l) (append_assoc (digits 8 y) (bits_of field) behind)
     ∙ (ap (λ n. digits 8 n ++ (digits 8 y ++ rest)) first ∙ ap (λ n. digits 8 0 ++ (digits 8 n ++ rest)) second)) in
-    let zeroed : IsHead h (digits 8 0 ++ (digits 8 0 ++ rest)) = subst (IsHead h) parts is in
+    let zeroed : IsEntityHead h (digits 8 0 ++ (digits 8 0 ++ rest)) = subst (IsEntityHead h) parts is in
     record {
       len = zeroed.len ∙ zero_front rest;
       version = no_flag h.version (sym zeroed.version ∙ zero_version rest);
@@ -154,7 +154,7 @@ zero_head (x ∷ y ∷ field) behind h long first second is =
       nibble = zeroed.nibble ∙ zero_nibble rest;
     }
 
-no_entity : (tail field : List ℕ) (behind : List Bool) (h : Head) → 2 ≤ length field → IsField [] tail field → IsHead h (bits_of field ++ behind) → IsZero h
+no_entity : (tail field : List ℕ) (behind : List Bool) (h : EntityHead) → 2 ≤ length field → IsField [] tail field → IsEntityHead h (bits_of field ++ behind) → IsZero h
 no_entity tail field behind h long (is, inl few) head = absurd (omega (arith, long, ap length is, few))
 no_entity tail field behind h long (is, inr zeros) head =
     zero_head field behind h long (ap (λ l. get_or l 0 0) is ∙ zeros.0) (ap (λ l. get_or l 1 0) is ∙ zeros.1) head
@@ -166,13 +166,13 @@ first_bits n field behind =
     ∙ (ap (λ l. l ++ behind) (bits_of-append (take n field) (drop n field)) ∙ append_assoc (bits_of (take n field)) (bits_of (drop n field)) behind)
 
 -- what the head of an entity says, by its own bits
-pub record Agrees (e : Entity) (h : Head) (own : List Bool) : Type 0 where
+pub record Agrees (e : Entity) (h : EntityHead) (own : List Bool) : Type 0 where
   pub len : h.len ≡ body_length e.body
   pub version : h.version ≡ e.version
   pub kind : h.kind ≡ kind_of e.body
   pub hex : hex_of_bits (spelled (body_fields e.body)) ≡ (slice_index lower_digits h.nibble ∷ []) ++ hex_of_bits (drop 16 own)
 
-agrees : (e : Entity) (h : Head) (bytes : List ℕ) (rest : List Bool) → IsEntity e bytes → IsHead h (bits_of bytes ++ rest) → Agrees e h (bits_of bytes)
+agrees : (e : Entity) (h : EntityHead) (bytes : List ℕ) (rest : List Bool) → IsEntity e bytes → IsEntityHead h (bits_of bytes ++ rest) → Agrees e h (bits_of bytes)
 agrees e h bytes rest is head =
     let own : List Bool = bits_of bytes in
     let long : length own ≡ 8 * (2 + body_length e.body) = omega (arith, length-bits_of bytes, length-entity e bytes is) in
@@ -195,14 +195,14 @@ agrees e h bytes rest is head =
     }
 
 -- its line is that of the head and the bits behind it
-line_is : (e : Entity) (h : Head) (own bits : List Bool) → Agrees e h own → bits ≡ drop 16 own → entity_line e ≡ head_text h bits
+line_is : (e : Entity) (h : EntityHead) (own bits : List Bool) → Agrees e h own → bits ≡ drop 16 own → entity_line e ≡ head_text h bits
 line_is e h own bits a is =
     ap (λ l. kind_text (kind_of e.body) e.version ++ (l ++ codes "\n")) a.hex
     ∙ (ap (λ k. kind_text k e.version ++ (((slice_index lower_digits h.nibble ∷ []) ++ hex_of_bits (drop 16 own)) ++ codes "\n")) (sym a.kind)
     ∙ (ap (λ v. kind_text h.kind v ++ (((slice_index lower_digits h.nibble ∷ []) ++ hex_of_bits (drop 16 own)) ++ codes "\n")) (sym a.version)
     ∙ ap (λ l. kind_text h.kind h.version ++ (((slice_index lower_digits h.nibble ∷ []) ++ hex_of_bits l) ++ codes "\n")) (sym is)))
 
-next_of : (entities : List Entity) (tail field : List ℕ) (behind : List Bool) (h : Head) → IsBytes field → IsField entities tail field → 2 ≤ length field → IsHead h (bits_of field ++ behind) → ¬ IsZero h
+next_of : (entities : List Entity) (tail field : List ℕ) (behind : List Bool) (h : EntityHead) → IsBytes field → IsField entities tail field → 2 ≤ length field → IsEntityHead h (bits_of field ++ behind) → ¬ IsZero h
     → HasNext entities tail (length field) h (bits_of field ++ behind)
 next_of [] tail field behind h small is long head some = absurd (some (no_entity tail field behind h long is head))
 next_of (e ∷ entities) tail field behind h small is long head some =
@@ -210,7 +210,7 @@ next_of (e ∷ entities) tail field behind h small is long head some =
     let own : List Bool = bits_of (take n field) in
     let rest : List Bool = bits_of (drop n field) ++ behind in
     let parts : bits_of field ++ behind ≡ own ++ rest = first_bits n field behind in
-    let a : Agrees e h own = agrees e h (take n field) rest is.0 (subst (IsHead h) parts head) in
+    let a : Agrees e h own = agrees e h (take n field) rest is.0 (subst (IsEntityHead h) parts head) in
     let within : n ≤ length field = size_within e field is.0 in
     let size : length own ≡ 8 * n = omega (arith, length-bits_of (take n field), length-take-le n field within) in
     let len : 2 + h.len ≡ n = omega (arith, a.len) in
@@ -234,11 +234,11 @@ next_of (e ∷ entities) tail field behind h small is long head some =
       line = line_is e h own (take (8 * h.len) (drop 16 (bits_of field ++ behind))) a body;
     }
 
-pub next_entity : (entities : List Entity) (tail : List ℕ) (room : ℕ) (h : Head) (bits : List Bool) → HoldsBlock entities tail room bits → 2 ≤ room → IsHead h bits → ¬ IsZero h → HasNext entities tail room h bits
+pub next_entity : (entities : List Entity) (tail : List ℕ) (room : ℕ) (h : EntityHead) (bits : List Bool) → HoldsBlock entities tail room bits → 2 ≤ room → IsEntityHead h bits → ¬ IsZero h → HasNext entities tail room h bits
 next_entity entities tail room h bits holds long head some =
     subst (λ n. HasNext entities tail n h bits) holds.size
     (subst (λ l. HasNext entities tail (length holds.field) h l) (sym holds.begins)
-    (next_of entities tail holds.field holds.behind h holds.octets holds.is (omega (arith, long, holds.size)) (subst (IsHead h) holds.begins head) some))
+    (next_of entities tail holds.field holds.behind h holds.octets holds.is (omega (arith, long, holds.size)) (subst (IsEntityHead h) holds.begins head) some))
 
 -- the bits are at least those of the bytes
 pub enough_bits : (entities : List Entity) (tail : List ℕ) (room : ℕ) (bits : List Bool) → HoldsBlock entities tail room bits → 8 * room ≤ length bits
@@ -307,12 +307,12 @@ index_there block bits is n is_n =
     ]
 
 -- So the block that stands in a payload has its entities and its tail in the bits that are taken, as many as is told.
-pub told_holds : (payload : List ℕ) (span : SdcSpan) (block : Block) (room : ℕ) (bits : List Bool) → span.at + bytes_for span.bits ≤ length payload → IsTold payload span → IsBlock block (bits_at payload span)
+pub span_holds : (payload : List ℕ) (span : SdcSpan) (block : Block) (room : ℕ) (bits : List Bool) → span.at + bytes_for span.bits ≤ length payload → IsSpanOfBlock payload span → IsBlock block (bits_at payload span)
     → room ≡ span.info.room → bits ≡ drop 4 (drop (front_bits span.bits) (bits_at payload span)) → HoldsBlock block.entities block.tail room bits
-told_holds payload span block room bits inside (other, told, info) is is_room is_bits =
+span_holds payload span block room bits inside (other, is_block, info) is is_room is_bits =
     let all : List Bool = bits_at payload span in
     let size : length all ≡ span.bits = length-take-le span.bits (bits_of (drop span.at payload)) (omega (arith, inside, length-bits_of (drop span.at payload), length-drop span.at payload)) in
     let same : length is.field ≡ room =
-    ap (λ (i : BlockInfo). i.room) (one_told block other all all refl is told) ∙ (ap (λ (i : BlockInfo). i.room) (sym info) ∙ sym is_room) in
+    ap (λ (i : BlockInfo). i.room) (one_info block other all all refl is is_block) ∙ (ap (λ (i : BlockInfo). i.room) (sym info) ∙ sym is_room) in
     subst (λ n. HoldsBlock block.entities block.tail n bits) same
     (subst (HoldsBlock block.entities block.tail (length is.field)) (sym is_bits) (block_holds block all is span.bits (sym size)))

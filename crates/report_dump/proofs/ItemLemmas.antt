@@ -5,18 +5,18 @@ use Rattle.std.proofs.lemmas.List.{take-append-drop, take_at, drop_at, length-ta
 use Rattle.std.proofs.lemmas.Bool.{cases_lt}
 use Rattle.drm_bits.specs.Bits.{bits_of, IsBytes}
 use Rattle.drm_bits.proofs.BitsLemmas.{length-bits_of}
-use Rattle.drm_links.specs.Told.{Known}
-use Rattle.drm_links.specs.Sink.{Output, Outputs}
-use Rattle.drm_links.proofs.ToldLemmas.{Outputs-weaker}
+use Rattle.drm_links.specs.Known.{Known}
+use Rattle.drm_links.specs.Sink.{Output, OutputsText}
+use Rattle.drm_links.proofs.KnownLemmas.{OutputsText-weaker}
 use Rattle.drm_sdc.proofs.EntityLaws.{small_front, small_rest}
 use Rattle.dcp_tag.specs.declared.items.Item.{Item}
 use Rattle.dcp_tag.specs.Tag.{TagItem, bytes_for, head, HasHead, IsSpelling}
-use Rattle.dcp_tag.specs.Place.{Place, left}
+use Rattle.dcp_tag.specs.PayloadPlace.{PayloadPlace, left}
 use Rattle.dcp_tag.specs.Reading.{item_of, tag_of, GivesItem}
 use Rattle.dcp_tag.proofs.TagLemmas.{split_front, head_size, padded, one_front, cut_front, item_front, spelling_size}
 use Rattle.dcp_af.specs.Packet.{AfPacket, IsAf}
 use Rattle.dcp_af.specs.Packet as packet
-use Rattle.report_dump.specs.Content.{HasNoItem, AreItems}
+use Rattle.report_dump.specs.PacketContent.{HasNoItem, AreItems}
 use Rattle.report_dump.specs.Lines.{tag_text, tag_line}
 use Rattle.report_dump.specs.Text.{items_text}
 
@@ -62,7 +62,7 @@ pub items_there : (bytes : List ℕ) → IsBytes bytes → (items : List TagItem
 items_there bytes small = items_within (length bytes) bytes (omega arith) small
 
 -- the item that is given is the first of these
-pub item_given : (items : List TagItem) (old new : Place) (item : Item) → AreItems items (left old) → GivesItem item old new → (rest : List TagItem) × (items ≡ tag_of item ∷ rest) × AreItems rest (left new)
+pub item_given : (items : List TagItem) (old new : PayloadPlace) (item : Item) → AreItems items (left old) → GivesItem item old new → (rest : List TagItem) × (items ≡ tag_of item ∷ rest) × AreItems rest (left new)
 item_given [] old new item (inl short) gives = absurd (omega (arith, short, gives.shorter))
 item_given [] old new item (inr cut) gives =
     let short = cut_front (left old) item.name item.bits (item.value.now ++ left new) cut gives.begins in
@@ -83,12 +83,12 @@ no_item (i ∷ items) bytes (spelling, rest, stands, spelled, more) (inr cut) =
     absurd (omega (arith, cut.short, enough.0))
 
 -- the number of an item's bits
-pub item_text : (item : Item) (old new : Place) → GivesItem item old new → tag_line (tag_of item) ≡ tag_text item.name item.bits
+pub item_text : (item : Item) (old new : PayloadPlace) → GivesItem item old new → tag_line (tag_of item) ≡ tag_text item.name item.bits
 item_text item old new gives =
     ap (tag_text item.name) (length-take-le item.bits (bits_of item.value.now) (omega (arith, length-bits_of item.value.now, gives.size)))
 
 -- its line, and those of the others
-pub text_then : (items rest : List TagItem) (item : Item) (old new : Place) → items ≡ tag_of item ∷ rest → GivesItem item old new → items_text items ≡ tag_text item.name item.bits ++ items_text rest
+pub text_then : (items rest : List TagItem) (item : Item) (old new : PayloadPlace) → items ≡ tag_of item ∷ rest → GivesItem item old new → items_text items ≡ tag_text item.name item.bits ++ items_text rest
 text_then items rest item old new is gives = ap items_text is ∙ ap (λ l. l ++ items_text rest) (item_text item old new gives)
 
 -- one content of items
@@ -102,9 +102,9 @@ one_list (i ∷ items) (o ∷ others) bytes h k =
 
 -- all lines were written where no item is left
 pub all_items : (items rest : List TagItem) (bytes : List ℕ) (a b : Known Output) → AreItems rest bytes → HasNoItem bytes
-    → Outputs a b (λ text. text ++ items_text rest ≡ items_text items) → Outputs a b (λ text. text ≡ items_text items)
+    → OutputsText a b (λ text. text ++ items_text rest ≡ items_text items) → OutputsText a b (λ text. text ≡ items_text items)
 all_items items rest bytes a b are ends done =
-    Outputs-weaker (λ text. text ++ items_text rest ≡ items_text items) (λ text. text ≡ items_text items) a b done
+    OutputsText-weaker (λ text. text ++ items_text rest ≡ items_text items) (λ text. text ≡ items_text items) a b done
     (λ text is. sym (append-nil text) ∙ (ap (λ l. text ++ items_text l) (sym (no_item rest bytes are ends)) ∙ is))
 
 -- the payload of a packet is bytes of it

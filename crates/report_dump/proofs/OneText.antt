@@ -13,7 +13,7 @@ use Rattle.dcp_pft.proofs.Table.{one_first, none_first}
 use Rattle.mdi_items.specs.declared.view.SdcSpan.{SdcSpan}
 use Rattle.mdi_items.specs.Frame.{Frame}
 use Rattle.mdi_items.proofs.MdiLemmas.{one_mdi, mdi_or_fault, one_mdi_fault}
-use Rattle.report_dump.specs.Content.{Saying, FrameOf, NoFrame, Content, Fragment, NoFragment, Whole, NoPacket, bits_at, AreItems, IsBlockOf, PayloadSays, IsContent}
+use Rattle.report_dump.specs.PacketContent.{Saying, FrameOf, NoFrame, PacketContent, Fragment, NoFragment, Whole, NoPacket, bits_at, AreItems, IsBlockOf, PayloadSays, IsContent}
 use Rattle.report_dump.specs.Text.{packet_text, is_bad, IsPacketText}
 use Rattle.report_dump.proofs.ItemLemmas.{one_list}
 
@@ -59,7 +59,7 @@ one_whole p q items others s t same are says are_too says_too =
 
 -- ---- contents
 
-pub one_content : (bytes : List ℕ) (content other : Content) → IsContent content bytes → IsContent other bytes → content ≡ other
+pub one_content : (bytes : List ℕ) (content other : PacketContent) → IsContent content bytes → IsContent other bytes → content ≡ other
 one_content bytes (Fragment f) (Fragment g) is is_too = ap (λ x. Fragment x) (sym (is_fragment_at f bytes is) ∙ is_fragment_at g bytes is_too)
 one_content bytes (Fragment f) (NoFragment fault) is is_too = absurd (none_first table fault bytes (none_holds f bytes is) is_too.1)
 one_content bytes (Fragment f) (Whole q others t) is is_too = absurd (not_both bytes (fragment_begins f bytes is) (packet_begins q bytes is_too.0))

@@ -1,9 +1,9 @@
 -- The last part of a text, and what a packet's lines make of the answer.
 use Rattle.std.proofs.Common.{◌≡◌, ℕ, Bool, sym, List, [], ◌++◌, Result, Ok, Err, refl, ◌∙◌, ap, subst, append-nil}
 use Rattle.std.specs.Prelude.{Option}
-use Rattle.drm_links.specs.Told.{Known}
-use Rattle.drm_links.specs.Sink.{Output, Outputs, WritesWhole}
-use Rattle.drm_links.proofs.ToldLemmas.{counts_one, counts_none, counts_then, Outputs-then, Outputs-weaker}
+use Rattle.drm_links.specs.Known.{Known}
+use Rattle.drm_links.specs.Sink.{Output, OutputsText, WritesWhole}
+use Rattle.drm_links.proofs.KnownLemmas.{counts_one, counts_none, counts_then, OutputsText-then, OutputsText-weaker}
 use Rattle.drm_links.proofs.WritingLemmas.{Writes-broken}
 use Rattle.drm_links.specs.declared.sink.WriteFault.{WriteFault}
 use Rattle.drm_sdc.specs.declared.block.Block.{Block}
@@ -11,24 +11,24 @@ use Rattle.dcp_tag.specs.Tag.{TagItem}
 use Rattle.dcp_af.specs.Packet.{AfPacket}
 use Rattle.mdi_items.specs.Frame.{Frame}
 use Rattle.report_dump.specs.declared.packet.ShowFault.{ShowFault}
-use Rattle.report_dump.specs.Content.{Content, IsContent}
+use Rattle.report_dump.specs.PacketContent.{PacketContent, IsContent}
 use Rattle.report_dump.specs.Lines.{af_line, mdi_line, fac_text, mux_line}
 use Rattle.report_dump.specs.Text.{block_text, frame_text, items_text, front_text, packet_text, is_bad}
 use Rattle.report_dump.specs.Shown.{ShowsPacket, answer}
 
 -- what is left behind what was written
-pub last_written : {E : Type 0} (whole s : List ℕ) (a b c : Known Output) (r : Result (Unit {0}) E) → Outputs a b (λ text. text ++ s ≡ whole) → b.faults ≡ a.faults → WritesWhole r b c s → WritesWhole r a c whole
+pub last_written : {E : Type 0} (whole s : List ℕ) (a b c : Known Output) (r : Result (Unit {0}) E) → OutputsText a b (λ text. text ++ s ≡ whole) → b.faults ≡ a.faults → WritesWhole r b c s → WritesWhole r a c whole
 last_written whole s a b c (Ok done) first still second =
     record {
       whole =
-          Outputs-then (λ text. text ++ s ≡ whole) (λ text. text ≡ s) (λ text. text ≡ whole) a b c first second.whole
+          OutputsText-then (λ text. text ++ s ≡ whole) (λ text. text ≡ s) (λ text. text ≡ whole) a b c first second.whole
           (λ x y is_x is_y. ap (λ l. x ++ l) is_y ∙ is_x);
       front = tt;
       cause = counts_then still second.cause;
     }
 last_written whole s a b c (Err fault) first still second =
     Writes-broken whole s [] a b c (Err fault) fault fault
-    (Outputs-weaker (λ text. text ++ s ≡ whole) (λ text. text ++ (s ++ []) ≡ whole) a b first (λ text is. ap (λ l. text ++ l) (append-nil s) ∙ is))
+    (OutputsText-weaker (λ text. text ++ s ≡ whole) (λ text. text ++ (s ++ []) ≡ whole) a b first (λ text is. ap (λ l. text ++ l) (append-nil s) ∙ is))
     still refl second
 
 -- the lines of a frame, one after another
@@ -49,7 +49,7 @@ pub as_front : {E : Type 0} (at : ℕ) (p : AfPacket) (items : List TagItem) (a 
 as_front at p items a b r writes = subst (λ l. WritesWhole r a b l) (front_lines at p items) writes
 
 -- the answer of a packet whose lines were written, or a front of them
-pub shows : (content : Content) (at : ℕ) (bytes : List ℕ) (a b : Known Output) (w : Result (Unit {0}) WriteFault) (bad : Bool) (r : Result Bool ShowFault) → IsContent content bytes → bad ≡ is_bad content
+pub shows : (content : PacketContent) (at : ℕ) (bytes : List ℕ) (a b : Known Output) (w : Result (Unit {0}) WriteFault) (bad : Bool) (r : Result Bool ShowFault) → IsContent content bytes → bad ≡ is_bad content
     → WritesWhole w a b (packet_text at content) → r ≡ answer w bad → ShowsPacket r a b at bytes
 shows content at bytes a b (Ok done) bad r is same writes ends =
     subst (λ x. ShowsPacket x a b at bytes) (sym ends)

@@ -1,4 +1,4 @@
-pub mod Content
+pub mod PacketContent
 pub mod Lines
 pub mod Text
 pub mod Shown

@@ -1,7 +1,7 @@
 -- What a call that shows a packet has written.
 use Rattle.std.specs.Prelude.{ℕ, ◌≡◌, ◌≢◌, Bool, List, Result, Ok, Err, IfOk, OnErr, IsErr}
-use Rattle.drm_links.specs.Told.{Known, HasCause}
-use Rattle.drm_links.specs.Sink.{Output, Outputs, IsFront}
+use Rattle.drm_links.specs.Known.{Known, HasCause}
+use Rattle.drm_links.specs.Sink.{Output, OutputsText, IsPrefix}
 use Rattle.drm_links.specs.declared.sink.WriteFault.{WriteFault}
 use Rattle.report_dump.specs.declared.packet.ShowFault.{ShowFault}
 use Rattle.report_dump.specs.declared.packet.ShowFault.TheVariants as fault
@@ -13,8 +13,8 @@ pub record ShowsPacket (result : Result Bool ShowFault) (before after : Known Ou
   pub text : List ℕ
   pub bad : Bool
   pub is : IsPacketText at bytes text bad
-  pub whole : IfOk result (λ answer. (answer ≡ bad) × Outputs before after (λ written. written ≡ text))
-  pub front : OnErr result (Outputs before after (IsFront text))
+  pub whole : IfOk result (λ answer. (answer ≡ bad) × OutputsText before after (λ written. written ≡ text))
+  pub front : OnErr result (OutputsText before after (IsPrefix text))
   pub cause : HasCause before after (IsErr result)
   pub memory : result ≢ Err fault.NoMemory
 

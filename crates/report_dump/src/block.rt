@@ -6,8 +6,8 @@ ghost use Rattle.drm_sdc.specs.declared.block.Block.{Block};
 ghost use Rattle.drm_sdc.specs.declared.entity.Entity.{Entity};
 ghost use Rattle.drm_sdc.specs.Block.{IsBlock};
 ghost use Rattle.dcp_tag.specs.Tag.{bytes_for};
-ghost use Rattle.report_dump.specs.Block.{IsTold, HoldsBlock, IsHead, IsZero, head_text};
-ghost use Rattle.report_dump.specs.Content.{bits_at};
+ghost use Rattle.report_dump.specs.Block.{IsSpanOfBlock, HoldsBlock, IsEntityHead, IsZero, head_text};
+ghost use Rattle.report_dump.specs.PacketContent.{bits_at};
 ghost use Rattle.report_dump.specs.Lines.{kind_text, tail_text};
 ghost use Rattle.report_dump.specs.Text.{field_text};
 
@@ -24,7 +24,7 @@ pub(crate) fn write_block<O: Sink>(
     span: &SdcSpan,
 ) -> Result<(), WriteFault>
     requires inside { span.now.at + bytes_for span.now.bits ≤ length payload.now }
-    requires told { IsTold payload.now span.now }
+    requires is_block { IsSpanOfBlock payload.now span.now }
     ensures { (block : Block) → IsBlock block (bits_at payload.now span.now)
         → WritesWhole result (O.known out.old) (O.known out.new) (field_text block.entities block.tail) }
 {
@@ -49,7 +49,7 @@ fn write_field<O: Sink>(out: &mut O, bits: &mut Bits<'_>, room: usize) -> Result
 
 /// The first two bytes of an entity.
 #[derive(Drop)]
-pub(crate) struct Head {
+pub(crate) struct EntityHead {
     /// How many bytes the body has behind its four bits.
     pub len: u8,
     pub version: bool,
@@ -59,13 +59,13 @@ pub(crate) struct Head {
 }
 
 // Takes the head of the next entity, or None where the tail begins.
-fn next_head(bits: &mut Bits<'_>, left: usize) -> Option<Head>
+fn next_head(bits: &mut Bits<'_>, left: usize) -> Option<EntityHead>
     requires { 8 * left ≤ length bits.old }
-    ensures head { IfSome result (λ h. IsHead h bits.old) }
+    ensures head { IfSome result (λ h. IsEntityHead h bits.old) }
     ensures found { IfSome result (λ h. (2 ≤ left) × (¬ IsZero h)) }
     ensures nibble { IfSome result (λ h. h.nibble < 16) }
     ensures rest { IfSome result (λ h. bits.new ≡ drop 16 bits.old) }
-    ensures tail { IfNone result ((left < 2) ⊎ ((h : Head) × IsHead h bits.old × IsZero h)) }
+    ensures tail { IfNone result ((left < 2) ⊎ ((h : EntityHead) × IsEntityHead h bits.old × IsZero h)) }
 {
     if left < 2 {
         return None;
@@ -77,13 +77,13 @@ fn next_head(bits: &mut Bits<'_>, left: usize) -> Option<Head>
     Some(head)
 }
 
-fn take_head(bits: &mut Bits<'_>) -> Head
+fn take_head(bits: &mut Bits<'_>) -> EntityHead
     requires { 16 ≤ length bits.old }
-    ensures head { IsHead result bits.old }
+    ensures head { IsEntityHead result bits.old }
     ensures nibble { result.nibble < 16 }
     ensures rest { bits.new ≡ drop 16 bits.old }
 {
-    Head {
+    EntityHead {
         len: bits.take_u8(7),
         version: bits.take_flag(),
         kind: bits.take_u8(4),
@@ -91,14 +91,18 @@ fn take_head(bits: &mut Bits<'_>) -> Head
     }
 }
 
-fn is_zero(head: &Head) -> bool
+fn is_zero(head: &EntityHead) -> bool
     ensures { IsTrue result ↔ IsZero head.now }
 {
     head.len == 0 && !head.version && head.kind == 0 && head.nibble == 0
 }
 
 // Writes the line of an entity, and takes its body.
-fn write_entity<O: Sink>(out: &mut O, head: &Head, bits: &mut Bits<'_>) -> Result<(), WriteFault>
+fn write_entity<O: Sink>(
+    out: &mut O,
+    head: &EntityHead,
+    bits: &mut Bits<'_>,
+) -> Result<(), WriteFault>
     requires nibble { head.now.nibble < 16 }
     requires body { 8 * head.now.len ≤ length bits.old }
     ensures written { WritesWhole result (O.known out.old) (O.known out.new) (head_text head.now (take (8 * head.now.len) bits.old)) }
@@ -110,7 +114,7 @@ fn write_entity<O: Sink>(out: &mut O, head: &Head, bits: &mut Bits<'_>) -> Resul
     write_all(out, b"\n")
 }
 
-fn write_kind<O: Sink>(out: &mut O, head: &Head) -> Result<(), WriteFault>
+fn write_kind<O: Sink>(out: &mut O, head: &EntityHead) -> Result<(), WriteFault>
     ensures { WritesWhole result (O.known out.old) (O.known out.new) (kind_text head.now.kind head.now.version) }
 {
     write_pieces(

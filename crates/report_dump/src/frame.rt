@@ -7,7 +7,7 @@ ghost use Rattle.drm_sdc.specs.declared.block.Block.{Block};
 ghost use Rattle.mdi_items.specs.Frame.{frame_of};
 ghost use Rattle.mdi_items.specs.Mdi.{IsMdi};
 ghost use Rattle.mdi_items.specs.View.{IsWholeView};
-ghost use Rattle.report_dump.specs.Content.{IsBlockOf};
+ghost use Rattle.report_dump.specs.PacketContent.{IsBlockOf};
 ghost use Rattle.report_dump.specs.Lines.{mdi_line, fac_text};
 ghost use Rattle.report_dump.specs.Text.{frame_text, block_text};
 

@@ -2,7 +2,7 @@
 
 ghost use Rattle.std.specs.Prelude.{◌≡◌, take};
 ghost use Rattle.dcp_pft.specs.Head.{sync};
-ghost use Rattle.report_dump.specs.Content.{PacketBegins};
+ghost use Rattle.report_dump.specs.PacketContent.{PacketBegins};
 ghost use Rattle.report_dump.specs.Shown.{ShowsPacket, answer};
 
 use crate::bad::{plain, write_bad};

@@ -4,9 +4,9 @@ ghost use Rattle.std.specs.Prelude.{List, IfSome, IfNone};
 ghost use Rattle.std.specs.List.{flat_map};
 ghost use Rattle.drm_links.specs.Sink.{WritesWhole};
 ghost use Rattle.dcp_tag.specs.Tag.{TagItem};
-ghost use Rattle.dcp_tag.specs.Place.{left};
+ghost use Rattle.dcp_tag.specs.PayloadPlace.{left};
 ghost use Rattle.dcp_tag.specs.Reading.{GivesItem};
-ghost use Rattle.report_dump.specs.Content.{HasNoItem, AreItems};
+ghost use Rattle.report_dump.specs.PacketContent.{HasNoItem, AreItems};
 ghost use Rattle.report_dump.specs.Lines.{name_byte, tag_text};
 ghost use Rattle.report_dump.specs.Text.{items_text};
 

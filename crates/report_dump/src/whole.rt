@@ -11,7 +11,7 @@ ghost use Rattle.mdi_items.specs.Mdi.{IsMdi};
 ghost use Rattle.mdi_items.specs.View.{IsWholeView};
 ghost use Rattle.report_text.specs.FaultWords.{mdi_words};
 ghost use Rattle.text_output.specs.Text.{piece_text};
-ghost use Rattle.report_dump.specs.Content.{AreItems, IsBlockOf};
+ghost use Rattle.report_dump.specs.PacketContent.{AreItems, IsBlockOf};
 ghost use Rattle.report_dump.specs.Lines.{af_line, bad_line};
 ghost use Rattle.report_dump.specs.Text.{front_text, frame_text};
 ghost use Rattle.report_dump.specs.Shown.{ShowsPacket};

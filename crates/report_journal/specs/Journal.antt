@@ -1,18 +1,18 @@
 -- A journal as data.
 use Rattle.std.specs.Prelude.{ℕ, ◌≡◌, ◌≤◌, ◌++◌, ◌∷◌, [], Bool, true, false, List, map, length, IfSome}
 use Rattle.dcp_collect.specs.declared.taken.Taken.{Taken}
-use Rattle.dcp_collect.specs.State.{State, made}
+use Rattle.dcp_collect.specs.CollectorState.{CollectorState, made}
 use Rattle.dcp_collect.specs.Runs.{CollectorTakes}
 use Rattle.drm_reconfiguration.specs.Tracker.{TrackerState, new_tracker}
 use Rattle.report_text.specs.Report.{feed_line}
-use Rattle.report_text.specs.Tallies.{Tallied, new_tally, noted}
+use Rattle.report_text.specs.Tallies.{TallyContents, new_tally, noted}
 use Rattle.report_journal.specs.declared.journal.Entry.{Entry}
-use Rattle.report_journal.specs.declared.settings.Settings.{Settings}
-use Rattle.report_journal.specs.Report.{IsReportSoFar, IsFrontSoFar}
+use Rattle.report_journal.specs.declared.options.JournalOptions.{JournalOptions}
+use Rattle.report_journal.specs.Report.{IsReportSoFar, IsPrefixSoFar}
 use Rattle.report_journal.specs.Lines.{WritesAll, CountsFirst}
 
 -- each number is in its range
-pub record AreInRange (by : Settings) : Type 0 where
+pub record AreInRange (by : JournalOptions) : Type 0 where
   pub some_window : 1 ≤ by.window
   pub few_packets : by.window ≤ 64
   pub some_reach : 1 ≤ by.reach
@@ -24,10 +24,10 @@ pub record AreInRange (by : Settings) : Type 0 where
 -- the report so far, and whether it has stopped.
 pub record JournalState : Type 0 where
   pub entries : List (ℕ × List ℕ)
-  pub settings : Settings
-  pub collector : State
+  pub options : JournalOptions
+  pub collector : CollectorState
   pub feed : TrackerState
-  pub tally : Tallied
+  pub tally : TallyContents
   pub text : List ℕ
   pub stopped : Bool
 
@@ -38,10 +38,10 @@ entry_of e = (e.path, e.datagram.items)
 abbrev pub datagrams : List (ℕ × List ℕ) → List (List ℕ)
 datagrams entries = map (λ e. e.1) entries
 
-abbrev pub new_journal : Settings → JournalState
+abbrev pub new_journal : JournalOptions → JournalState
 new_journal by = record {
   entries = [];
-  settings = by;
+  options = by;
   collector = made by.window by.reach by.first;
   feed = new_tracker;
   tally = new_tally;
@@ -51,16 +51,16 @@ new_journal by = record {
 
 -- What a journal keeps: where it hasn't stopped, the report so far of its entries; else a front of that.
 pub record IsKept (s : JournalState) : Type 0 where
-  pub whole : s.stopped ≡ false → IsReportSoFar s.settings (datagrams s.entries) s.collector s.feed s.tally s.text
-  pub front : s.stopped ≡ true → IsFrontSoFar s.settings (datagrams s.entries) s.text
+  pub whole : s.stopped ≡ false → IsReportSoFar s.options (datagrams s.entries) s.collector s.feed s.tally s.text
+  pub front : s.stopped ≡ true → IsPrefixSoFar s.options (datagrams s.entries) s.text
 
 -- The entry stands behind the others, and its datagram was taken with this answer. All that it made ready was given, and its
 -- lines stand behind the text; or the report has stopped: some first ones of these were given, and the text is as it was.
 pub record JournalEnters (s : JournalState) (entry : ℕ × List ℕ) (answer : Taken) (s' : JournalState) : Type 0 where
   pub entries : s'.entries ≡ s.entries ++ entry ∷ []
-  pub settings : s'.settings ≡ s.settings
-  pub kept : State
+  pub options : s'.options ≡ s.options
+  pub kept : CollectorState
   pub takes : CollectorTakes s.collector entry.1 answer kept
-  pub writes : s'.stopped ≡ false → WritesAll s.settings.frames kept s'.collector s.feed s'.feed (noted s.tally (length s.entries) answer) s'.tally s.text s'.text
+  pub writes : s'.stopped ≡ false → WritesAll s.options.frames kept s'.collector s.feed s'.feed (noted s.tally (length s.entries) answer) s'.tally s.text s'.text
   pub stops : s'.stopped ≡ true → s'.text ≡ s.text
-  pub first : s'.stopped ≡ true → CountsFirst s.settings.frames kept s'.collector s.feed s'.feed (noted s.tally (length s.entries) answer) s'.tally
+  pub first : s'.stopped ≡ true → CountsFirst s.options.frames kept s'.collector s.feed s'.feed (noted s.tally (length s.entries) answer) s'.tally

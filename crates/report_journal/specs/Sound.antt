@@ -1,14 +1,14 @@
 -- What a journal's fields stand for, and what holds of them.
 use Rattle.std.specs.Prelude.{◌≡◌, map, false, None}
-use Rattle.dcp_collect.specs.State.{ready}
-use Rattle.law_collect.specs.Laws.{IsFit}
+use Rattle.dcp_collect.specs.CollectorState.{ready}
+use Rattle.law_collect.specs.Laws.{CollectorInvariant}
 use Rattle.report_journal.specs.declared.journal.Journal.TheInside.{Inside}
 use Rattle.report_journal.specs.Journal.{JournalState, AreInRange, entry_of, IsKept}
 
 abbrev pub state : Inside → JournalState
 state j = record {
   entries = map entry_of j.entries.items;
-  settings = j.settings;
+  options = j.options;
   collector = j.collector;
   feed = j.feed;
   tally = j.counts;
@@ -17,12 +17,12 @@ state j = record {
 }
 
 -- more datagrams can be taken
-pub record IsOpen (s : JournalState) : Type 0 where
-  pub fit : IsFit s.collector
+pub record IsJournalOpen (s : JournalState) : Type 0 where
+  pub fit : CollectorInvariant s.collector
   pub unfinished : s.collector.end ≡ None
   pub quiet : ready s.collector ≡ false
 
-pub record IsSound (j : Inside) : Type 0 where
-  pub range : AreInRange j.settings
+pub record JournalInvariant (j : Inside) : Type 0 where
+  pub range : AreInRange j.options
   pub kept : IsKept (state j)
-  pub goes_on : j.stopped ≡ false → IsOpen (state j)
+  pub goes_on : j.stopped ≡ false → IsJournalOpen (state j)

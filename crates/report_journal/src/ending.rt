@@ -2,11 +2,11 @@
 
 ghost use Rattle.std.specs.Prelude.{◌≡◌, ◌++◌, ◌↔◌, IsTrue, IfOk, OnErr, IsErr};
 ghost use Rattle.std.specs.List.{AllByRecursion};
-ghost use Rattle.report_text.specs.FaultWords.{IsTold};
+ghost use Rattle.report_text.specs.FaultWords.{IsReportable};
 ghost use Rattle.report_text.specs.Report.{end_line};
 ghost use Rattle.report_text.specs.Reports.{refused_text, Report};
-ghost use Rattle.drm_links.specs.Told.{HasCause};
-ghost use Rattle.drm_links.specs.Sink.{Outputs, IsFront};
+ghost use Rattle.drm_links.specs.Known.{HasCause};
+ghost use Rattle.drm_links.specs.Sink.{OutputsText, IsPrefix};
 
 use drm_links::{Sink, WriteFault, write_all};
 use report_text::{EndWord, ReportCounts};
@@ -25,7 +25,7 @@ pub struct Ending {
 impl Model for Ending {
     ghost use Rattle.std.specs.Prelude.{◌++◌};
     ghost use Rattle.std.specs.List.{AllByRecursion};
-    ghost use Rattle.report_text.specs.FaultWords.{IsTold};
+    ghost use Rattle.report_text.specs.FaultWords.{IsReportable};
     ghost use Rattle.report_text.specs.Report.{end_line};
     ghost use Rattle.report_text.specs.Reports.{refused_text, Report};
 
@@ -36,13 +36,13 @@ impl Model for Ending {
       clean = e.clean;
     } };
 
-    ghost invariant = { λ e. AllByRecursion (λ r. IsTold r.taken) e.counts.refused };
+    ghost invariant = { λ e. AllByRecursion (λ r. IsReportable r.taken) e.counts.refused };
 }
 
 impl Ending {
     // The report of a text so far, of what is counted, and of why it ends.
     pub(crate) fn new(text: Vec<u8>, counts: ReportCounts, word: EndWord) -> Ending
-        requires { AllByRecursion (λ r. IsTold r.taken) counts.refused }
+        requires { AllByRecursion (λ r. IsReportable r.taken) counts.refused }
         ensures text { result.text ≡ text.items ++ (refused_text counts.refused ++ end_line word counts.sums) }
         ensures clean { IsTrue result.clean ↔ ((counts.sums.missing ≡ 0) × (counts.sums.bad ≡ 0)) }
     {
@@ -57,9 +57,9 @@ impl Ending {
 
     /// Writes the report, and answers whether no line of it is missing or bad.
     pub fn write<O: Sink>(&self, out: &mut O) -> Result<bool, WriteFault>
-        ensures whole { IfOk result (λ _. Outputs (O.known out.old) (O.known out.new) (λ text. text ≡ self.now.text)) }
+        ensures whole { IfOk result (λ _. OutputsText (O.known out.old) (O.known out.new) (λ text. text ≡ self.now.text)) }
         ensures clean { IfOk result (λ clean. clean ≡ self.now.clean) }
-        ensures front { OnErr result (Outputs (O.known out.old) (O.known out.new) (IsFront self.now.text)) }
+        ensures front { OnErr result (OutputsText (O.known out.old) (O.known out.new) (IsPrefix self.now.text)) }
         ensures cause { HasCause (O.known out.old) (O.known out.new) (IsErr result) }
     {
         write_all(out, &self.text)?;

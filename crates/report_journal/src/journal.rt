@@ -9,7 +9,7 @@ ghost use Rattle.report_journal.specs.Took.{IfTook};
 ghost use Rattle.report_journal.specs.declared.event.Event.{Event};
 
 use crate::lines::{is_full, write_ready};
-use crate::{Ending, Event, Settings};
+use crate::{Ending, Event, JournalOptions};
 use dcp_collect::Collector;
 use drm_bits::NoMemory;
 use mod_feed::Feed;
@@ -29,7 +29,7 @@ pub struct Entry {
 #[derive(Drop)]
 pub struct Journal {
     entries: Vec<Entry>,
-    settings: Settings,
+    options: JournalOptions,
     collector: Collector,
     feed: Feed,
     counts: ReportCounts,
@@ -40,13 +40,13 @@ pub struct Journal {
 
 impl Model for Journal {
     ghost use Rattle.report_journal.specs.Journal.{JournalState};
-    ghost use Rattle.report_journal.specs.Sound.{state, IsSound};
+    ghost use Rattle.report_journal.specs.Sound.{state, JournalInvariant};
 
     ghost Value = { JournalState };
 
     ghost view = { state };
 
-    ghost invariant = { IsSound };
+    ghost invariant = { JournalInvariant };
 }
 
 /// No journal has more entries.
@@ -54,16 +54,16 @@ const MOST_ENTRIES: usize = 1 << 40;
 
 impl Journal {
     /// A journal without entries. All memory that taking datagrams wants, but for the entries and the lines, is taken here.
-    pub fn make(alloc: Global, settings: Settings) -> Result<Journal, NoMemory>
-        requires { AreInRange settings }
-        ensures { IfOk result (λ journal. journal ≡ new_journal settings) }
+    pub fn make(alloc: Global, options: JournalOptions) -> Result<Journal, NoMemory>
+        requires { AreInRange options }
+        ensures { IfOk result (λ journal. journal ≡ new_journal options) }
     {
-        let collector = Collector::make(alloc, settings.window, settings.reach, settings.first)?;
+        let collector = Collector::make(alloc, options.window, options.reach, options.first)?;
         let counts = ReportCounts::new(alloc)?;
         let text = first_line(alloc)?;
         Ok(Journal {
             entries: Vec::new(alloc),
-            settings,
+            options,
             collector,
             feed: Feed::new(),
             counts,
@@ -93,7 +93,7 @@ impl Journal {
             &mut self.collector,
             &mut self.feed,
             &mut self.counts,
-            self.settings.frames,
+            self.options.frames,
             &mut self.text,
         );
         self.stopped = written.is_err();
@@ -123,28 +123,28 @@ impl Journal {
 
     /// Ends the report, where it hasn't stopped.
     pub fn finish(self, alloc: Global) -> Result<Ending, NoMemory>
-        ensures whole { IfOk result (λ ending. IsReportOf self.settings (datagrams self.entries) ending.text ending.clean) }
+        ensures whole { IfOk result (λ ending. IsReportOf self.options (datagrams self.entries) ending.text ending.clean) }
         ensures stopped { self.stopped ≡ true → IsErr result }
     {
         if self.stopped {
             return Err(NoMemory);
         }
         let Journal {
-            settings,
+            options,
             mut collector,
             mut feed,
             mut counts,
             mut text,
             ..
         } = self;
-        let word = word_for(&counts, settings.frames);
-        collector.finish(settings.frames);
+        let word = word_for(&counts, options.frames);
+        collector.finish(options.frames);
         write_ready(
             alloc,
             &mut collector,
             &mut feed,
             &mut counts,
-            settings.frames,
+            options.frames,
             &mut text,
         )?;
         Ok(Ending::new(text, counts, word))
@@ -168,11 +168,11 @@ fn push_entry(
 }
 
 // Why a report ends where so much is counted.
-fn word_for(counts: &ReportCounts, told: Option<u64>) -> EndWord
-    requires { IfSome told (λ _. items_in counts.now.sums < 2 ^ 63) }
-    ensures { result ≡ word_for told (items_in counts.now.sums) }
+fn word_for(counts: &ReportCounts, frame_limit: Option<u64>) -> EndWord
+    requires { IfSome frame_limit (λ _. items_in counts.now.sums < 2 ^ 63) }
+    ensures { result ≡ word_for frame_limit (items_in counts.now.sums) }
 {
-    if is_full(counts, told) {
+    if is_full(counts, frame_limit) {
         EndWord::Frames
     } else {
         EndWord::Paths
@@ -187,7 +187,7 @@ fn first_line(alloc: Global) -> Result<Vec<u8>, NoMemory>
     let Ok(()) = write_feed(&mut lines, 1) else {
         return Err(NoMemory);
     };
-    if !lines.is_told() {
+    if !lines.is_complete() {
         return Err(NoMemory);
     }
     Ok(lines.bytes().to_vec(alloc)?)

@@ -5,9 +5,9 @@ mod ending;
 mod event;
 mod journal;
 mod lines;
-mod settings;
+mod options;
 
 pub use ending::Ending;
 pub use event::Event;
 pub use journal::{Entry, Journal};
-pub use settings::Settings;
+pub use options::JournalOptions;

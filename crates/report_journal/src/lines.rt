@@ -1,7 +1,7 @@
 //! The lines of the items that are ready.
 
 ghost use Rattle.std.specs.Prelude.{◌≡◌, ◌≤◌, ◌<◌, ◌^◌, ◌⊎◌, true, false, OnOk, OnErr, IsErr, IfSome};
-ghost use Rattle.dcp_collect.specs.State.{ready, after_item};
+ghost use Rattle.dcp_collect.specs.CollectorState.{ready, after_item};
 ghost use Rattle.report_text.specs.Tallies.{items_in};
 ghost use Rattle.recv_reading.specs.State.{is_full};
 ghost use Rattle.report_journal.specs.Lines.{HasFed, PrintsNext, JournalPrints, PrintsAll, WritesAll, CountsFirst, GivesRest};
@@ -14,12 +14,12 @@ use report_text::{ReportBuffer, ReportCounts, write_step};
 use std::alloc::Global;
 
 /// Whether the told number of items was given.
-pub(crate) fn is_full(counts: &ReportCounts, told: Option<u64>) -> bool
-    requires { IfSome told (λ _. items_in counts.now.sums < 2 ^ 63) }
-    ensures { result ≡ is_full told (items_in counts.now.sums) }
+pub(crate) fn is_full(counts: &ReportCounts, frame_limit: Option<u64>) -> bool
+    requires { IfSome frame_limit (λ _. items_in counts.now.sums < 2 ^ 63) }
+    ensures { result ≡ is_full frame_limit (items_in counts.now.sums) }
 {
-    match told {
-        Some(told) => told <= counts.items(),
+    match frame_limit {
+        Some(frame_limit) => frame_limit <= counts.items(),
         None => false,
     }
 }
@@ -50,18 +50,18 @@ fn print_ready<O: Sink>(
     collector: &mut Collector,
     feed: &mut Feed,
     counts: &mut ReportCounts,
-    told: Option<u64>,
+    frame_limit: Option<u64>,
     out: &mut O,
 ) -> Result<(), WriteFault>
-    requires within_limit { IfSome told (λ n. n ≤ 3000000) }
-    requires fed { HasFed told collector.old.next feed.old counts.old }
+    requires within_limit { IfSome frame_limit (λ n. n ≤ 3000000) }
+    requires fed { HasFed frame_limit collector.old.next feed.old counts.old }
     ensures prints { OnOk result (JournalPrints collector.old collector.new feed.old feed.new counts.old counts.new (O.known out.old) (O.known out.new)) }
-    ensures fed { OnOk result (HasFed told collector.new.next feed.new counts.new) }
-    ensures over { OnOk result ((is_full told (items_in counts.new.sums) ≡ true) ⊎ (ready collector.new ≡ false)) }
-    ensures first { OnErr result (CountsFirst told collector.old collector.new feed.old feed.new counts.old counts.new) }
+    ensures fed { OnOk result (HasFed frame_limit collector.new.next feed.new counts.new) }
+    ensures over { OnOk result ((is_full frame_limit (items_in counts.new.sums) ≡ true) ⊎ (ready collector.new ≡ false)) }
+    ensures first { OnErr result (CountsFirst frame_limit collector.old collector.new feed.old feed.new counts.old counts.new) }
 {
     'items: loop {
-        if is_full(counts, told) || !collector.ready() {
+        if is_full(counts, frame_limit) || !collector.ready() {
             return Ok(());
         }
         print_next(collector, feed, counts, out)?;
@@ -80,15 +80,15 @@ fn give_ready<O: Sink>(
     collector: &mut Collector,
     feed: &mut Feed,
     counts: &mut ReportCounts,
-    told: Option<u64>,
+    frame_limit: Option<u64>,
     out: &mut O,
 ) -> Result<(), WriteFault>
-    requires within_limit { IfSome told (λ n. n ≤ 3000000) }
-    requires fed { HasFed told collector.old.next feed.old counts.old }
-    ensures prints_all { OnOk result (PrintsAll told collector.old collector.new feed.old feed.new counts.old counts.new (O.known out.old) (O.known out.new)) }
-    ensures first { OnErr result (CountsFirst told collector.old collector.new feed.old feed.new counts.old counts.new) }
+    requires within_limit { IfSome frame_limit (λ n. n ≤ 3000000) }
+    requires fed { HasFed frame_limit collector.old.next feed.old counts.old }
+    ensures prints_all { OnOk result (PrintsAll frame_limit collector.old collector.new feed.old feed.new counts.old counts.new (O.known out.old) (O.known out.new)) }
+    ensures first { OnErr result (CountsFirst frame_limit collector.old collector.new feed.old feed.new counts.old counts.new) }
 {
-    print_ready(collector, feed, counts, told, out)?;
+    print_ready(collector, feed, counts, frame_limit, out)?;
     skip_ready(collector);
     Ok(())
 }
@@ -100,21 +100,21 @@ pub(crate) fn write_ready(
     collector: &mut Collector,
     feed: &mut Feed,
     counts: &mut ReportCounts,
-    told: Option<u64>,
+    frame_limit: Option<u64>,
     text: &mut Vec<u8>,
 ) -> Result<(), NoMemory>
-    requires within_limit { IfSome told (λ n. n ≤ 3000000) }
-    requires fed { HasFed told collector.old.next feed.old counts.old }
-    ensures written { OnOk result (WritesAll told collector.old collector.new feed.old feed.new
+    requires within_limit { IfSome frame_limit (λ n. n ≤ 3000000) }
+    requires fed { HasFed frame_limit collector.old.next feed.old counts.old }
+    ensures written { OnOk result (WritesAll frame_limit collector.old collector.new feed.old feed.new
         counts.old counts.new text.old.items text.new.items) }
     ensures none { OnErr result (text.new.items ≡ text.old.items) }
-    ensures first { OnErr result (CountsFirst told collector.old collector.new feed.old feed.new counts.old counts.new) }
+    ensures first { OnErr result (CountsFirst frame_limit collector.old collector.new feed.old feed.new counts.old counts.new) }
 {
     let mut lines = ReportBuffer::new(alloc);
-    let Ok(()) = give_ready(collector, feed, counts, told, &mut lines) else {
+    let Ok(()) = give_ready(collector, feed, counts, frame_limit, &mut lines) else {
         return Err(NoMemory);
     };
-    if !lines.is_told() {
+    if !lines.is_complete() {
         return Err(NoMemory);
     }
     text.extend_from_slice(lines.bytes())?;

@@ -5,17 +5,17 @@ use Rattle.std.proofs.lemmas.List.{append-nil, drop-append-le, drop-drop}
 use Rattle.std.proofs.lemmas.List.Elements.{filter-append}
 use Rattle.circular_buffer.specs.Buffer.{keep_last}
 use Rattle.dcp_collect.specs.declared.taken.Taken.{Taken}
-use Rattle.dcp_collect.specs.State.{State}
-use Rattle.dcp_collect.specs.Runs.{Item as Given, CollectorSteps}
-use Rattle.mod_feed.specs.Items.{Item, Frame, Missing, Bad}
+use Rattle.dcp_collect.specs.CollectorState.{CollectorState}
+use Rattle.dcp_collect.specs.Runs.{CollectorItem as Given, CollectorSteps}
+use Rattle.mod_feed.specs.Items.{FrameItem, Frame, Missing, Bad}
 use Rattle.mod_feed.specs.Feeding.{FeedStep}
 use Rattle.report_text.specs.declared.report.Sums.{Sums}
-use Rattle.report_text.specs.FaultWords.{IsTold}
+use Rattle.report_text.specs.FaultWords.{IsReportable}
 use Rattle.report_text.specs.declared.counts.Refusal.{Refusal}
 use Rattle.report_text.specs.Reports.{is_given, is_missing, is_bad, is_refused, refusals_from, refusals, sums_of, is_clean}
-use Rattle.report_text.specs.Tallies.{Tallied, one_more_item, noted, with_steps, tally_of}
-use Rattle.report_text.proofs.TakenLemmas.{takes_told}
-use Rattle.report_text.proofs.RefusalLemmas.{AreTold}
+use Rattle.report_text.specs.Tallies.{TallyContents, one_more_item, noted, with_steps, tally_of}
+use Rattle.report_text.proofs.TakenLemmas.{takes_reportable}
+use Rattle.report_text.proofs.RefusalLemmas.{AreReportable}
 
 -- ---- refusals
 
@@ -45,24 +45,24 @@ refusals_few n (a ∷ taken) =
     let l = one_at_most (is_refused a) (record { number = n; taken = a }) (refusals_from (n + 1) taken) (length taken) (refusals_few (n + 1) taken) in
     omega (arith, l)
 
-put_told : (b : Bool) (r : Refusal) (rs : List Refusal) → (b ≡ true → IsTold r.taken) → AreTold rs → AreTold (if b then r ∷ rs else rs)
-put_told true r rs one all = (one refl, all)
-put_told false r rs one all = all
+put_reportable : (b : Bool) (r : Refusal) (rs : List Refusal) → (b ≡ true → IsReportable r.taken) → AreReportable rs → AreReportable (if b then r ∷ rs else rs)
+put_reportable true r rs one all = (one refl, all)
+put_reportable false r rs one all = all
 
-pub refusals_told : (c d : State) (ds : List (List ℕ)) (taken : List Taken) (items : List Given) (n : ℕ) → CollectorSteps c ds taken items d → AreTold (refusals_from n taken)
-refusals_told c d [] [] items n s = tt
-refusals_told c d [] (a ∷ taken) items n s = absurd s
-refusals_told c d (b ∷ ds) [] items n s = absurd s
-refusals_told c d (b ∷ ds) (a ∷ taken) items n (now, later, kept, mid, takes, gives, steps, are) =
-    put_told (is_refused a) (record { number = n; taken = a }) (refusals_from (n + 1) taken) (takes_told c kept b a takes) (refusals_told mid d ds taken later (n + 1) steps)
+pub refusals_reportable : (c d : CollectorState) (ds : List (List ℕ)) (taken : List Taken) (items : List Given) (n : ℕ) → CollectorSteps c ds taken items d → AreReportable (refusals_from n taken)
+refusals_reportable c d [] [] items n s = tt
+refusals_reportable c d [] (a ∷ taken) items n s = absurd s
+refusals_reportable c d (b ∷ ds) [] items n s = absurd s
+refusals_reportable c d (b ∷ ds) (a ∷ taken) items n (now, later, kept, mid, takes, gives, steps, are) =
+    put_reportable (is_refused a) (record { number = n; taken = a }) (refusals_from (n + 1) taken) (takes_reportable c kept b a takes) (refusals_reportable mid d ds taken later (n + 1) steps)
 
-drop_told : (n : ℕ) (rs : List Refusal) → AreTold rs → AreTold (drop n rs)
-drop_told zero rs all = all
-drop_told (suc n) [] all = tt
-drop_told (suc n) (r ∷ rs) all = drop_told n rs all.1
+drop_reportable : (n : ℕ) (rs : List Refusal) → AreReportable rs → AreReportable (drop n rs)
+drop_reportable zero rs all = all
+drop_reportable (suc n) [] all = tt
+drop_reportable (suc n) (r ∷ rs) all = drop_reportable n rs all.1
 
-pub last_told : (n : ℕ) (rs : List Refusal) → AreTold rs → AreTold (keep_last n rs)
-last_told n rs all = drop_told (length rs - n) rs all
+pub last_reportable : (n : ℕ) (rs : List Refusal) → AreReportable rs → AreReportable (keep_last n rs)
+last_reportable n rs all = drop_reportable (length rs - n) rs all
 
 -- ---- the last ones
 
@@ -101,7 +101,7 @@ one_kept P s = by (P s)
 count_more : (P : FeedStep → Bool) (ss : List FeedStep) (s : FeedStep) → length (filter P (ss ++ s ∷ [])) ≡ length (filter P ss) + one (P s)
 count_more P ss s = ap length (filter-append P ss (s ∷ [])) ∙ length-append (filter P ss) (filter P (s ∷ [])) ∙ ap (λ k. length (filter P ss) + k) (one_kept P s)
 
-one_item : (g m b r : ℕ) (item : Item)
+one_item : (g m b r : ℕ) (item : FrameItem)
     → one_more_item (sums_from g m b r) item ≡ sums_from (g + one (is_given item)) (m + one (is_missing item)) (b + one (is_bad item)) r
 one_item g m b r (Frame index frame payload) = sums_same (g + 1) (g + 1) m (m + 0) b (b + 0) r r refl (omega arith) (omega arith) refl
 one_item g m b r (Missing index had total) = sums_same g (g + 0) (m + 1) (m + 1) b (b + 0) r r (omega arith) refl (omega arith) refl
@@ -115,7 +115,7 @@ sums_more ss s rs =
 
 -- ---- the tally
 
-abbrev tally_from : Sums → List Refusal → Tallied
+abbrev tally_from : Sums → List Refusal → TallyContents
 tally_from sums refused = record { sums = sums; refused = refused }
 
 tally_same : (s s' : Sums) (rs : List Refusal) → s ≡ s' → tally_from s rs ≡ tally_from s' rs
@@ -149,7 +149,7 @@ answer_noted ss taken a number is =
 abbrev AreNone : Bool → List FeedStep → List FeedStep → Type 0
 AreNone all missing bad = IsTrue all ↔ ((length missing ≡ 0) × (length bad ≡ 0))
 
-one_kind : (item : Item) (s : FeedStep) (all : Bool) (missing bad : List FeedStep)
+one_kind : (item : FrameItem) (s : FeedStep) (all : Bool) (missing bad : List FeedStep)
     → AreNone all missing bad → AreNone (is_given item && all) (if is_missing item then s ∷ missing else missing) (if is_bad item then s ∷ bad else bad)
 one_kind (Frame index frame payload) s all missing bad h = h
 one_kind (Missing index had total) s all missing bad h = ((λ t. absurd (let e : false ≡ true = t in cc)), (λ (m, b). absurd (omega (arith, m))))
@@ -165,7 +165,7 @@ same_true true false P h k = absurd (let e : false ≡ true = k.1 (h.0 refl) in 
 same_true false true P h k = absurd (let e : false ≡ true = h.1 (k.0 refl) in cc)
 same_true false false P h k = refl
 
-pub clean_is : (clean : Bool) (t : Tallied) (steps : List FeedStep) (taken : List Taken) → IsTrue clean ↔ ((t.sums.missing ≡ 0) × (t.sums.bad ≡ 0)) → t ≡ tally_of steps taken → clean ≡ is_clean steps
+pub clean_is : (clean : Bool) (t : TallyContents) (steps : List FeedStep) (taken : List Taken) → IsTrue clean ↔ ((t.sums.missing ≡ 0) × (t.sums.bad ≡ 0)) → t ≡ tally_of steps taken → clean ≡ is_clean steps
 clean_is clean t steps taken h is =
     same_true clean (is_clean steps) ((length (filter (λ s. is_missing s.item) steps) ≡ 0) × (length (filter (λ s. is_bad s.item) steps) ≡ 0))
-    (subst (λ (u : Tallied). IsTrue clean ↔ ((u.sums.missing ≡ 0) × (u.sums.bad ≡ 0))) is h) (clean_as steps)
+    (subst (λ (u : TallyContents). IsTrue clean ↔ ((u.sums.missing ≡ 0) × (u.sums.bad ≡ 0))) is h) (clean_as steps)

@@ -4,9 +4,9 @@ use Rattle.std.specs.Prelude.{slice_index}
 use Rattle.std.proofs.lemmas.List.{take-take, drop-take, length-take-le}
 use Rattle.hex.specs.Hex.{lower_digits}
 use Rattle.drm_bits.specs.Bits.{value}
-use Rattle.drm_links.specs.Told.{Known}
-use Rattle.drm_links.specs.Sink.{Output, Outputs}
-use Rattle.drm_links.proofs.ToldLemmas.{Outputs-weaker}
+use Rattle.drm_links.specs.Known.{Known}
+use Rattle.drm_links.specs.Sink.{Output, OutputsText}
+use Rattle.drm_links.proofs.KnownLemmas.{OutputsText-weaker}
 use Rattle.report_text.specs.HexBits.{hex_of_bits}
 
 -- the digit of the first four bits, and those of the rest
@@ -31,9 +31,9 @@ pub digit_then : (bits new : List Bool) (n digit : ℕ) → 4 ≤ length bits �
 digit_then bits new n digit enough number is rest = rw (is, number, rest) (next_digit bits enough)
 
 -- no digit is left
-pub all_digits : (all bits : List Bool) (a b : Known Output) → length bits < 4 → Outputs a b (λ text. text ++ hex_of_bits bits ≡ hex_of_bits all) → Outputs a b (λ text. text ≡ hex_of_bits all)
+pub all_digits : (all bits : List Bool) (a b : Known Output) → length bits < 4 → OutputsText a b (λ text. text ++ hex_of_bits bits ≡ hex_of_bits all) → OutputsText a b (λ text. text ≡ hex_of_bits all)
 all_digits all bits a b few done =
-    Outputs-weaker (λ text. text ++ hex_of_bits bits ≡ hex_of_bits all) (λ text. text ≡ hex_of_bits all) a b done
+    OutputsText-weaker (λ text. text ++ hex_of_bits bits ≡ hex_of_bits all) (λ text. text ≡ hex_of_bits all) a b done
     (λ text is. sym (append-nil text) ∙ (ap (λ l. text ++ l) (sym (no_digit bits few)) ∙ is))
 
 -- the next one of so many digits, and the others
@@ -52,7 +52,7 @@ one_of bits new count i n digit below enough number is rest =
     ∙ ap (λ d. d ∷ hex_of_bits (take m new)) (ap (λ k. slice_index lower_digits k) (sym number) ∙ sym is)))
 
 -- none of them is left
-pub no_digits : (all : List ℕ) (bits : List Bool) (n : ℕ) (a b : Known Output) → n ≡ 0 → Outputs a b (λ text. text ++ hex_of_bits (take n bits) ≡ all) → Outputs a b (λ text. text ≡ all)
+pub no_digits : (all : List ℕ) (bits : List Bool) (n : ℕ) (a b : Known Output) → n ≡ 0 → OutputsText a b (λ text. text ++ hex_of_bits (take n bits) ≡ all) → OutputsText a b (λ text. text ≡ all)
 no_digits all bits n a b none done =
-    Outputs-weaker (λ text. text ++ hex_of_bits (take n bits) ≡ all) (λ text. text ≡ all) a b done
+    OutputsText-weaker (λ text. text ++ hex_of_bits (take n bits) ≡ all) (λ text. text ≡ all) a b done
     (λ text is. sym (append-nil text) ∙ (ap (λ k. text ++ hex_of_bits (take k bits)) (sym none) ∙ is))

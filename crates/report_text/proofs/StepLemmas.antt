@@ -2,10 +2,10 @@
 use Rattle.std.proofs.Common.{◌≡◌, ℕ, ◌+◌, List, [], ◌∷◌, ◌++◌, sym, ◌∙◌, ap, arith, append_assoc}
 use Rattle.std.proofs.lemmas.List.{append-nil}
 use Rattle.std.proofs.lemmas.List.Concat.{flat_map-append}
-use Rattle.drm_links.specs.Told.{Known}
-use Rattle.drm_links.specs.Sink.{Output, Outputs, IsFrontBehind}
-use Rattle.drm_links.proofs.ToldLemmas.{Outputs-then}
-use Rattle.mod_feed.specs.Items.{Item as FeedItem, Frame, Missing, Bad}
+use Rattle.drm_links.specs.Known.{Known}
+use Rattle.drm_links.specs.Sink.{Output, OutputsText, IsPrefixBehind}
+use Rattle.drm_links.proofs.KnownLemmas.{OutputsText-then}
+use Rattle.mod_feed.specs.Items.{FrameItem as FeedItem, Frame, Missing, Bad}
 use Rattle.mod_feed.specs.Feeding.{FeedStep}
 use Rattle.report_text.specs.declared.report.Sums.{Sums}
 use Rattle.report_text.specs.Report.{step_text}
@@ -24,6 +24,6 @@ pub one_text : (step : FeedStep) → step_text step ≡ steps_text (step ∷ [])
 one_text step = sym (append-nil (step_text step))
 
 -- a front behind what was written before
-pub front_further : (ws xs ys : List ℕ) (a b c : Known Output) → Outputs a b (λ t. t ≡ ws) → Outputs b c (IsFrontBehind xs ys) → Outputs a c (IsFrontBehind (ws ++ xs) ys)
-front_further ws xs ys a b c p q = Outputs-then (λ t. t ≡ ws) (IsFrontBehind xs ys) (IsFrontBehind (ws ++ xs) ys) a b c p q
+pub front_further : (ws xs ys : List ℕ) (a b c : Known Output) → OutputsText a b (λ t. t ≡ ws) → OutputsText b c (IsPrefixBehind xs ys) → OutputsText a c (IsPrefixBehind (ws ++ xs) ys)
+front_further ws xs ys a b c p q = OutputsText-then (λ t. t ≡ ws) (IsPrefixBehind xs ys) (IsPrefixBehind (ws ++ xs) ys) a b c p q
     (λ s t e (front, f, is). (front, f, ap (λ l. l ++ t) e ∙ ap (λ l. ws ++ l) is ∙ sym (append_assoc ws xs front)))

@@ -8,9 +8,9 @@ use Rattle.hex.specs.Hex.{encode_with, encode_lower}
 use Rattle.drm_bits.specs.Description.{IsDescription}
 use Rattle.drm_bits.specs.declared.description.Part.{Part}
 use Rattle.drm_bits.specs.declared.description.MuxDesc.{MuxDesc}
-use Rattle.drm_links.specs.Told.{Known}
-use Rattle.drm_links.specs.Sink.{Output, Outputs, WritesWhole}
-use Rattle.drm_links.proofs.ToldLemmas.{Outputs-weaker}
+use Rattle.drm_links.specs.Known.{Known}
+use Rattle.drm_links.specs.Sink.{Output, OutputsText, WritesWhole}
+use Rattle.drm_links.proofs.KnownLemmas.{OutputsText-weaker}
 use Rattle.drm_mux.specs.declared.frame.Spans.{Spans}
 use Rattle.drm_mux.specs.Frame.{parts_a, parts_b, multiplex_frame, pieces, streams_in, part_length, frame_length, HaveTheirLengths, EndBy}
 use Rattle.drm_bits.proofs.PartLemmas.{no_part}
@@ -64,9 +64,9 @@ one_part payload parts index part below is =
 
 -- the digits of all parts
 pub all_parts : (bytes rest : List ℕ) (a b : Known Output) → 0 < length bytes → rest ≡ []
-    → Outputs a b (λ text. text ++ encode_lower rest ≡ encode_lower bytes) → Outputs a b (λ text. text ≡ bytes_text bytes)
+    → OutputsText a b (λ text. text ++ encode_lower rest ≡ encode_lower bytes) → OutputsText a b (λ text. text ≡ bytes_text bytes)
 unfolding encode_with
 all_parts bytes [] a b some none done =
-    Outputs-weaker (λ text. text ++ [] ≡ encode_lower bytes) (λ text. text ≡ bytes_text bytes) a b done
+    OutputsText-weaker (λ text. text ++ [] ≡ encode_lower bytes) (λ text. text ≡ bytes_text bytes) a b done
     (λ text is. sym (append-nil text) ∙ (is ∙ sym (some_bytes bytes some)))
 all_parts bytes (x ∷ rest) a b some none done = cc

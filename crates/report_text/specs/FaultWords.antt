@@ -91,8 +91,8 @@ taken_words (taken.Inconsistent kept came) = codes "pft inconsistent"
 taken_words _ = []
 
 -- The datagram is told of.
-abbrev pub IsTold : Taken → Type 0
-IsTold (taken.Refused (field.Pft pft.Sync)) = ⊥
-IsTold (taken.Refused cause) = Unit {0}
-IsTold (taken.Inconsistent kept came) = Unit {0}
-IsTold _ = ⊥
+abbrev pub IsReportable : Taken → Type 0
+IsReportable (taken.Refused (field.Pft pft.Sync)) = ⊥
+IsReportable (taken.Refused cause) = Unit {0}
+IsReportable (taken.Inconsistent kept came) = Unit {0}
+IsReportable _ = ⊥

@@ -5,7 +5,7 @@ use Rattle.dcp_collect.specs.declared.taken.Taken.{Taken}
 use Rattle.drm_reconfiguration.specs.declared.tracker.Before.{Before}
 use Rattle.drm_reconfiguration.specs.declared.tracker.Before.TheVariants.{Switch, Resumed}
 use Rattle.mod_feed.specs.declared.item.BadFault.{BadFault}
-use Rattle.mod_feed.specs.Items.{Item, Frame, Missing, Bad}
+use Rattle.mod_feed.specs.Items.{FrameItem, Frame, Missing, Bad}
 use Rattle.mod_feed.specs.Feeding.{FeedStep}
 use Rattle.recv_reading.specs.declared.reason.EndWord.{EndWord}
 use Rattle.recv_reading.specs.declared.reason.EndWord.TheVariants.{Frames, Limit, Idle, Input, Paths}
@@ -30,7 +30,7 @@ abbrev pub bad_line : ℕ → BadFault → List ℕ
 bad_line index fault = concat (codes "bad " ∷ decimal index ∷ codes " " ∷ bad_words fault ∷ codes "\n" ∷ [])
 
 -- the line of an item
-abbrev pub item_line : Item → List ℕ
+abbrev pub item_line : FrameItem → List ℕ
 item_line (Frame index frame payload) = frame_line index frame payload
 item_line (Missing index had total) = missing_line index had total
 item_line (Bad index fault) = bad_line index fault

@@ -4,24 +4,24 @@ use Rattle.std.specs.List.{filter, flat_map, list_all}
 use Rattle.circular_buffer.specs.Buffer.{keep_last}
 use Rattle.dcp_collect.specs.declared.taken.Taken.{Taken}
 use Rattle.dcp_collect.specs.declared.taken.Taken.TheVariants.{Refused, Inconsistent}
-use Rattle.mod_feed.specs.Items.{Item, Frame, Missing, Bad}
+use Rattle.mod_feed.specs.Items.{FrameItem, Frame, Missing, Bad}
 use Rattle.mod_feed.specs.Feeding.{FeedStep}
 use Rattle.recv_reading.specs.declared.reason.EndWord.{EndWord}
 use Rattle.report_text.specs.declared.report.Sums.{Sums}
 use Rattle.report_text.specs.Report.{feed_line, step_text, refused_line, end_line}
 use Rattle.report_text.specs.declared.counts.Refusal.{Refusal}
 
-abbrev pub is_given : Item → Bool
+abbrev pub is_given : FrameItem → Bool
 is_given (Frame index frame payload) = true
 is_given (Missing index had total) = false
 is_given (Bad index fault) = false
 
-abbrev pub is_missing : Item → Bool
+abbrev pub is_missing : FrameItem → Bool
 is_missing (Frame index frame payload) = false
 is_missing (Missing index had total) = true
 is_missing (Bad index fault) = false
 
-abbrev pub is_bad : Item → Bool
+abbrev pub is_bad : FrameItem → Bool
 is_bad (Frame index frame payload) = false
 is_bad (Missing index had total) = false
 is_bad (Bad index fault) = true

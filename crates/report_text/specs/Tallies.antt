@@ -2,31 +2,31 @@
 use Rattle.std.specs.Prelude.{ℕ, ◌+◌, if◌then◌else◌, List, [], ◌∷◌, ◌++◌}
 use Rattle.circular_buffer.specs.Buffer.{keep_last}
 use Rattle.dcp_collect.specs.declared.taken.Taken.{Taken}
-use Rattle.mod_feed.specs.Items.{Item, Frame, Missing, Bad}
+use Rattle.mod_feed.specs.Items.{FrameItem, Frame, Missing, Bad}
 use Rattle.report_text.specs.declared.report.Sums.{Sums}
 use Rattle.report_text.specs.declared.counts.Refusal.{Refusal}
 use Rattle.mod_feed.specs.Feeding.{FeedStep}
 use Rattle.report_text.specs.Reports.{is_refused, refusals, sums_of}
 
 -- the sums, and the last sixteen refusals
-pub record Tallied : Type 0 where
+pub record TallyContents : Type 0 where
   pub sums : Sums
   pub refused : List Refusal
 
-abbrev pub new_tally : Tallied
+abbrev pub new_tally : TallyContents
 new_tally = record { sums = record { given = 0; missing = 0; bad = 0; refused = 0 }; refused = [] }
 
 -- the sums with one item more
-abbrev pub one_more_item : Sums → Item → Sums
+abbrev pub one_more_item : Sums → FrameItem → Sums
 one_more_item sums (Frame index frame payload) = record sums { given = sums.given + 1 }
 one_more_item sums (Missing index had total) = record sums { missing = sums.missing + 1 }
 one_more_item sums (Bad index fault) = record sums { bad = sums.bad + 1 }
 
-abbrev pub counted : Tallied → Item → Tallied
+abbrev pub counted : TallyContents → FrameItem → TallyContents
 counted tally item = record tally { sums = one_more_item tally.sums item }
 
 -- with what became of a datagram, where it was refused or disagrees
-abbrev pub noted : Tallied → ℕ → Taken → Tallied
+abbrev pub noted : TallyContents → ℕ → Taken → TallyContents
 noted tally number taken =
     if is_refused taken
     then record {
@@ -40,10 +40,10 @@ abbrev pub items_in : Sums → ℕ
 items_in sums = sums.given + sums.missing + sums.bad
 
 -- with these items more
-abbrev pub with_steps : Tallied → List FeedStep → Tallied
+abbrev pub with_steps : TallyContents → List FeedStep → TallyContents
 with_steps tally [] = tally
 with_steps tally (step ∷ steps) = with_steps (counted tally step.item) steps
 
 -- what is counted of these steps and of what became of these datagrams
-abbrev pub tally_of : List FeedStep → List Taken → Tallied
+abbrev pub tally_of : List FeedStep → List Taken → TallyContents
 tally_of steps taken = record { sums = sums_of steps (refusals taken); refused = keep_last 16 (refusals taken) }

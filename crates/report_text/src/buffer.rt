@@ -19,7 +19,7 @@ const MOST_CALLS: u64 = 1 << 62;
 
 impl ReportBuffer {
     pub fn new(alloc: Global) -> ReportBuffer
-        ensures { (text_known result).told ≡ Some (record { written = []; calls = 0 }) }
+        ensures { (text_known result).contents ≡ Some (record { written = []; calls = 0 }) }
     {
         ReportBuffer {
             bytes: Vec::new(alloc),
@@ -29,8 +29,8 @@ impl ReportBuffer {
     }
 
     /// Whether it still tells what was written.
-    pub fn is_told(&self) -> bool
-        ensures { IsTrue result ↔ IsSome (text_known self.now).told }
+    pub fn is_complete(&self) -> bool
+        ensures { IsTrue result ↔ IsSome (text_known self.now).contents }
     {
         self.calls <= MOST_CALLS
     }

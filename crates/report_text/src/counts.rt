@@ -3,7 +3,7 @@
 ghost use Rattle.std.specs.Prelude.{◌≡◌, ◌+◌, ◌<◌, ◌^◌, ◌↔◌, IsTrue, IfOk};
 ghost use Rattle.std.specs.List.{AllByRecursion};
 ghost use Rattle.drm_links.specs.Sink.{WritesWhole};
-ghost use Rattle.report_text.specs.FaultWords.{IsTold};
+ghost use Rattle.report_text.specs.FaultWords.{IsReportable};
 ghost use Rattle.report_text.specs.Report.{end_line};
 ghost use Rattle.mod_feed.specs.Items.{item_of};
 ghost use Rattle.report_text.specs.Reports.{refused_text};
@@ -40,9 +40,9 @@ pub struct ReportCounts {
 
 impl Model for ReportCounts {
     ghost use Rattle.std.specs.Prelude.{◌≡◌};
-    ghost use Rattle.report_text.specs.Tallies.{Tallied};
+    ghost use Rattle.report_text.specs.Tallies.{TallyContents};
 
-    ghost Value = { Tallied };
+    ghost Value = { TallyContents };
 
     ghost view = { λ c. record { sums = c.sums; refused = c.refused.items } };
 
@@ -109,7 +109,7 @@ impl ReportCounts {
 
     /// Writes the lines of the last refusals.
     pub fn write_refused<O: Sink>(&self, out: &mut O) -> Result<(), WriteFault>
-        requires { AllByRecursion (λ r. IsTold r.taken) self.now.refused }
+        requires { AllByRecursion (λ r. IsReportable r.taken) self.now.refused }
         ensures { WritesWhole result (O.known out.old) (O.known out.new) (refused_text self.now.refused) }
     {
         for refusal in &self.refused {

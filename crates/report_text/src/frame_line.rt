@@ -11,7 +11,7 @@ ghost use Rattle.report_text.specs.FrameParts.{part_text};
 use crate::block::write_block;
 use crate::description::write_description;
 use crate::streams::write_streams;
-use Part::Text;
+use LinePart::Text;
 use Piece::{Hex, Number, Words};
 use drm_links::{Sink, WriteFault};
 use mdi_items::MdiView;
@@ -31,7 +31,7 @@ pub(crate) fn write_frame<O: Sink>(
 
 /// A part of the line: a piece of text, or what is written straight out of the frame.
 #[derive(Clone, Copy)]
-pub(crate) enum Part<'a> {
+pub(crate) enum LinePart<'a> {
     Text(Piece<'a>),
     Block,
     Description,
@@ -40,7 +40,7 @@ pub(crate) enum Part<'a> {
 
 const PARTS: usize = 15;
 
-fn parts<'a>(index: u64, view: &'a MdiView<'_>) -> [Part<'a>; PARTS]
+fn parts<'a>(index: u64, view: &'a MdiView<'_>) -> [LinePart<'a>; PARTS]
     ensures { flat_map (part_text (frame_of view.now) view.now.payload.now) result
         ≡ frame_line index (frame_of view.now) view.now.payload.now }
 {
@@ -54,11 +54,11 @@ fn parts<'a>(index: u64, view: &'a MdiView<'_>) -> [Part<'a>; PARTS]
         Text(Words(" fac ")),
         Text(Hex(&view.fac_bytes)),
         Text(Words(" sdc ")),
-        Part::Block,
+        LinePart::Block,
         Text(Words(" mux ")),
-        Part::Description,
+        LinePart::Description,
         Text(Words(" msc ")),
-        Part::Streams,
+        LinePart::Streams,
         Text(Words("\n")),
     ]
 }
@@ -67,7 +67,7 @@ fn parts<'a>(index: u64, view: &'a MdiView<'_>) -> [Part<'a>; PARTS]
 fn write_parts<O: Sink>(
     out: &mut O,
     view: &MdiView<'_>,
-    parts: &[Part<'_>],
+    parts: &[LinePart<'_>],
 ) -> Result<(), WriteFault>
     requires { IsWholeView view.now }
     ensures { WritesWhole result (O.known out.old) (O.known out.new)
@@ -79,14 +79,18 @@ fn write_parts<O: Sink>(
     Ok(())
 }
 
-fn write_part<O: Sink>(out: &mut O, view: &MdiView<'_>, part: Part<'_>) -> Result<(), WriteFault>
+fn write_part<O: Sink>(
+    out: &mut O,
+    view: &MdiView<'_>,
+    part: LinePart<'_>,
+) -> Result<(), WriteFault>
     requires { IsWholeView view.now }
     ensures { WritesWhole result (O.known out.old) (O.known out.new) (part_text (frame_of view.now) view.now.payload.now part.entry) }
 {
     match part {
-        Part::Text(piece) => write_piece(out, piece),
-        Part::Block => write_block(out, view),
-        Part::Description => write_description(out, view),
-        Part::Streams => write_streams(out, &view.mux, &view.streams, view.payload),
+        LinePart::Text(piece) => write_piece(out, piece),
+        LinePart::Block => write_block(out, view),
+        LinePart::Description => write_description(out, view),
+        LinePart::Streams => write_streams(out, &view.mux, &view.streams, view.payload),
     }
 }

@@ -1,7 +1,7 @@
 //! The lines of items on their way out.
 
 ghost use Rattle.std.specs.Prelude.{◌≡◌, [], IfOk};
-ghost use Rattle.mod_feed.specs.Items.{IsRead};
+ghost use Rattle.mod_feed.specs.Items.{IsReadItem};
 ghost use Rattle.mod_feed.specs.Feeding.{step_of};
 ghost use Rattle.report_text.specs.Report.{step_text};
 ghost use Rattle.drm_links.specs.Sink.{WritesWhole};
@@ -51,7 +51,7 @@ impl LineWriter {
 
     /// Writes the lines of a step. What has no room goes out piece by piece.
     pub fn write_step<O: Sink>(&mut self, out: &mut O, step: &Step<'_>) -> Result<(), WriteFault>
-        requires { IsRead step.now.item }
+        requires { IsReadItem step.now.item }
         ensures same { self.new ≡ self.old }
         ensures writes { WritesWhole result (O.known out.old) (O.known out.new) (step_text (step_of step.now)) }
     {
@@ -66,7 +66,7 @@ impl LineWriter {
 
     /// Puts the lines of a step behind those that are gathered. What has no room goes out piece by piece.
     pub fn put_step<O: Sink>(&mut self, out: &mut O, step: &Step<'_>) -> Result<(), WriteFault>
-        requires { IsRead step.now.item }
+        requires { IsReadItem step.now.item }
         ensures { PutsText result self.old self.new (O.known out.old) (O.known out.new) (step_text (step_of step.now)) }
     {
         self.lines.clear();

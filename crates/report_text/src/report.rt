@@ -2,7 +2,7 @@
 
 ghost use Rattle.std.specs.Prelude.{◌≡◌};
 ghost use Rattle.drm_links.specs.Sink.{WritesWhole};
-ghost use Rattle.report_text.specs.FaultWords.{IsTold};
+ghost use Rattle.report_text.specs.FaultWords.{IsReportable};
 ghost use Rattle.report_text.specs.Report.{feed_line, refused_line, end_word, end_line};
 
 use crate::words::taken_words;
@@ -36,7 +36,7 @@ pub fn write_feed<O: Sink>(out: &mut O, k: u8) -> Result<(), WriteFault>
 
 /// Writes the line of the `n`-th datagram of a link, from 0 on, which was refused or disagreed.
 pub fn write_refused<O: Sink>(out: &mut O, n: u64, taken: &Taken) -> Result<(), WriteFault>
-    requires { IsTold taken.now }
+    requires { IsReportable taken.now }
     ensures { WritesWhole result (O.known out.old) (O.known out.new) (refused_line n taken.now) }
 {
     write_pieces(

@@ -2,7 +2,7 @@
 
 ghost use Rattle.std.specs.Prelude.{◌≡◌};
 ghost use Rattle.drm_links.specs.Sink.{WritesWhole};
-ghost use Rattle.mod_feed.specs.Items.{item_of, IsRead};
+ghost use Rattle.mod_feed.specs.Items.{item_of, IsReadItem};
 ghost use Rattle.mod_feed.specs.Feeding.{step_of};
 ghost use Rattle.text_output.specs.Text.{text_of};
 ghost use Rattle.report_text.specs.Report.{before_line, missing_line, bad_line, item_line, step_text};
@@ -16,7 +16,7 @@ use text_output::{Piece, write_pieces};
 
 /// Writes the line of an item, behind that of the switch that stands before it.
 pub fn write_step<O: Sink>(out: &mut O, step: &Step<'_>) -> Result<(), WriteFault>
-    requires { IsRead step.now.item }
+    requires { IsReadItem step.now.item }
     ensures { WritesWhole result (O.known out.old) (O.known out.new) (step_text (step_of step.now)) }
 {
     write_before(out, step.before)?;
@@ -38,7 +38,7 @@ fn write_before<O: Sink>(out: &mut O, before: Option<Before>) -> Result<(), Writ
 }
 
 fn write_item<O: Sink>(out: &mut O, item: &FeedItem<'_>) -> Result<(), WriteFault>
-    requires { IsRead item.now }
+    requires { IsReadItem item.now }
     ensures { WritesWhole result (O.known out.old) (O.known out.new) (item_line (item_of item.now)) }
 {
     match item {

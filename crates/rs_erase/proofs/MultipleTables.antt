@@ -5,7 +5,7 @@ use Rattle.gf_field.specs.Field.{power, times, polynomial_product, remainder}
 use Rattle.gf_field.proofs.EachBelow.{each_at, each_below}
 use Rattle.rs_erase.specs.Equations.{nth_power, word_value}
 use Rattle.rs_erase.specs.Polynomial.{scale}
-use Rattle.rs_erase.specs.Register.{AreMultiples, IsMultiple}
+use Rattle.rs_erase.specs.Register.{AreMultiples, IsMultipleRemainder}
 use Rattle.rs_erase.specs.declared.multiples_51.TheConstants.{MULTIPLES_51}
 use Rattle.rs_erase.specs.declared.multiples_55.TheConstants.{MULTIPLES_55}
 use Rattle.rs_erase.specs.declared.multiples_59.TheConstants.{MULTIPLES_59}
@@ -37,7 +37,7 @@ multiple_is by from table h i n li ln =
     same_is (chunk (48 * (32 * i + from + n)) 48 table) (scale (by n) (one table i))
     (each_at 16 row (each_at 4 (λ i. each_below 16 (λ n. same (chunk (48 * (32 * i + from + n)) 48 table) (scale (by n) (one table i)))) h i li) n ln)
 
-scaled_is_multiple : (factor top i : ℕ) (row : List ℕ) → i < 4 → 3 ≤ top → row ≡ scale factor (nexts (top - i)) → IsMultiple factor (48 + top - i) row
+scaled_is_multiple : (factor top i : ℕ) (row : List ℕ) → i < 4 → 3 ≤ top → row ≡ scale factor (nexts (top - i)) → IsMultipleRemainder factor (48 + top - i) row
 scaled_is_multiple factor top i row lt le is = record {
   long = ap (λ (r : List ℕ). length r) is ∙ length-scale factor (nexts (top - i)) ∙ length-nexts (top - i);
   values = λ j pos few.

@@ -13,7 +13,7 @@ use Rattle.gf_field.proofs.Times.{times_assoc, times_comm, times_xor, times_zero
 use Rattle.rs_erase.specs.Code.{AreElements, IsCodeWord, word_of}
 use Rattle.rs_erase.specs.Equations.{nth_power, word_value}
 use Rattle.rs_erase.specs.Polynomial.{add}
-use Rattle.rs_erase.specs.Register.{HasTaken, IsMultiple, IsRemainder}
+use Rattle.rs_erase.specs.Register.{HasTaken, IsMultipleRemainder, IsRemainder}
 use Rattle.rs_erase.proofs.CodeWords.{code_word_from}
 use Rattle.rs_erase.proofs.Elements.{append_elements, zeros_elements}
 use Rattle.rs_erase.proofs.LaneRows.{length_three, sum_is}
@@ -41,7 +41,7 @@ two_nibbles : (f : ℕ) → f < 256 → bit_xor (f % 16) (16 * (f / 16)) ≡ f
 two_nibbles f lt = eqb-true _ _ (each_at 256 (λ f. bit_xor (f % 16) (16 * (f / 16)) == f) refl f lt)
 
 pub one_taken : (leaving moved r new low high : List ℕ) (f k : ℕ) → k < 16 → length leaving ≡ 16 → f ≡ get_or leaving k 0 → f < 256
-    → IsMultiple (f % 16) (63 - k) low → IsMultiple (16 * (f / 16)) (63 - k) high → new ≡ add (add r low) high
+    → IsMultipleRemainder (f % 16) (63 - k) low → IsMultipleRemainder (16 * (f / 16)) (63 - k) high → new ≡ add (add r low) high
     → HasTaken leaving moved r k → HasTaken leaving moved new (k + 1)
 one_taken leaving moved r new low high f k lt ll hf small hlow hhigh is h =
     let llow = hlow.long in let lhigh = hhigh.long in let lr = h.long in

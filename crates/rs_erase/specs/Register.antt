@@ -20,11 +20,11 @@ pub record HasTaken (leaving moved register : List ℕ) (k : ℕ) : Type 0 where
       ≡ bit_xor (word_value (power j) moved) (times (word_value (power j) (take k leaving)) (nth_power (power j) (64 - k)))
 
 -- what remains of a multiple of x to the p: it has the same values at the roots
-pub record IsMultiple (factor p : ℕ) (row : List ℕ) : Type 0 where
+pub record IsMultipleRemainder (factor p : ℕ) (row : List ℕ) : Type 0 where
   pub long : length row ≡ 48
   pub values : (j : ℕ) → 0 < j → j ≤ 48 → word_value (power j) row ≡ times factor (nth_power (power j) p)
 
 -- for four powers of x, from the highest down, the multiples by the elements of four bits, and then by these times 16
 pub record AreMultiples (highest : ℕ) (rows : List ℕ) : Type 0 where
-  pub low : (i n : ℕ) → i < 4 → n < 16 → IsMultiple n (highest - i) (chunk (48 * (32 * i + n)) 48 rows)
-  pub high : (i n : ℕ) → i < 4 → n < 16 → IsMultiple (16 * n) (highest - i) (chunk (48 * (32 * i + 16 + n)) 48 rows)
+  pub low : (i n : ℕ) → i < 4 → n < 16 → IsMultipleRemainder n (highest - i) (chunk (48 * (32 * i + n)) 48 rows)
+  pub high : (i n : ℕ) → i < 4 → n < 16 → IsMultipleRemainder (16 * n) (highest - i) (chunk (48 * (32 * i + 16 + n)) 48 rows)

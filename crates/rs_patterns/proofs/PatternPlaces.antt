@@ -9,7 +9,7 @@ use Rattle.rs_patterns.specs.Positions.{erased_positions, position}
 use Rattle.rs_erase.specs.Code.{AgreesOutside, IsCodeWord, IsOnlyCodeWord}
 use Rattle.rs_erase.specs.Spaced.{HasMessage, SpacedPlaces}
 use Rattle.rs_patterns.specs.declared.patterns.Kept.{Kept}
-use Rattle.rs_patterns.specs.Patterns.{IsFor, IsRight}
+use Rattle.rs_patterns.specs.Patterns.{IsFor, IsWellFormed}
 use Rattle.rs_patterns.specs.Marks.{is_marked}
 
 -- the marks of the fragments decide
@@ -46,7 +46,7 @@ same_positions kept count k start marks some is =
     start k (k + 48)
 
 -- a kept pattern is the one of these chunks, if it is for them
-pub right_pattern : (kept : Kept) (pattern : SpacedPlaces) (count k start : ℕ) (marks : List Bool) → 0 < count → IsRight kept → kept.pattern ≡ Some pattern
+pub right_pattern : (kept : Kept) (pattern : SpacedPlaces) (count k start : ℕ) (marks : List Bool) → 0 < count → IsWellFormed kept → kept.pattern ≡ Some pattern
     → IsFor kept count k (start % count) marks
     → (pattern.places ≡ erased_positions count (is_marked marks) start k (k + 48)) × (pattern.distance ≡ count)
 right_pattern kept pattern count k start marks some right is for =
@@ -60,7 +60,7 @@ right_pattern kept pattern count k start marks some right is for =
 -- and where one is for these chunks, their pattern is right for it
 pub right_with : (kept : Kept) (pattern : Option SpacedPlaces) (count k start : ℕ) (marks : List Bool) → 0 < count
     → IfSome pattern (λ p. p ≡ record { places = erased_positions count (is_marked marks) start k (k + 48); distance = count })
-    → IsFor kept count k (start % count) marks → IsRight (record kept { pattern = pattern })
+    → IsFor kept count k (start % count) marks → IsWellFormed (record kept { pattern = pattern })
 right_with kept None count k start marks some is for = tt
 right_with kept (Some pattern) count k start marks some is for =
     is

@@ -4,7 +4,7 @@ ghost use Rattle.std.specs.Prelude.{◌≡◌, ◌+◌, ◌<◌, ◌≤◌, ◌�
 ghost use Rattle.rs_erase.specs.Code.{HasCodeWord};
 ghost use Rattle.rs_erase.specs.Spaced.{HasMessage};
 ghost use Rattle.rs_patterns.specs.Positions.{erased_positions};
-ghost use Rattle.rs_patterns.specs.Patterns.{AreKept, IsErased, IsFor, IsRight};
+ghost use Rattle.rs_patterns.specs.Patterns.{AreKept, IsErased, IsFor, IsWellFormed};
 ghost use Rattle.rs_patterns.specs.Marks.{is_marked};
 
 use crate::erased::write_erased;
@@ -207,11 +207,11 @@ fn solve_kept(
     start: usize,
     word: &mut [u8; 255],
 ) -> Result<(), SolveFault>
-    requires right { IsRight kept.old }
+    requires right { IsWellFormed kept.old }
     requires spaced { spacing.now ≡ count }
     requires within_limit { count ≤ 64 }
     requires erased { IsErased count k start marks.now }
-    ensures right { IsRight kept.new }
+    ensures right { IsWellFormed kept.new }
     ensures solved { IsOk result ↔ HasCodeWord (erased_positions count (is_marked marks.now) start k (k + 48)) word.old }
     ensures message { OnOk result (HasMessage (erased_positions count (is_marked marks.now) start k (k + 48)) word.old word.new) }
 {
@@ -229,7 +229,7 @@ fn solve_kept(
 fn note(kept: &mut Kept, marks: &[bool], count: usize, k: usize, first: usize)
     requires within_limit { count ≤ 64 }
     requires room { count ≤ length marks.now }
-    ensures { IsRight kept.new }
+    ensures { IsWellFormed kept.new }
 {
     kept.count = count;
     kept.k = k;

@@ -18,7 +18,7 @@ pub struct NamedFile {
 
 /// Bytes to read, how many of them a read gives at most, and the numbers of the reads that fail.
 #[derive(Drop)]
-pub struct Input {
+pub struct InputCase {
     pub bytes: Vec<u8>,
     pub piece: NonZeroUsize,
     pub fails: Vec<u64>,
@@ -27,16 +27,16 @@ pub struct Input {
 /// How many bytes there is room for, how many of them a write takes at most, the numbers of the writes that fail, and
 /// what has to be written in the end.
 #[derive(Drop)]
-pub struct Output {
+pub struct OutputCase {
     pub room: usize,
     pub piece: NonZeroUsize,
     pub fails: Vec<u64>,
     pub wanted: Vec<u8>,
 }
 
-impl Output {
-    fn new(alloc: Global, room: usize) -> Output {
-        Output {
+impl OutputCase {
+    fn new(alloc: Global, room: usize) -> OutputCase {
+        OutputCase {
             room,
             piece: usual_piece(),
             fails: Vec::new(alloc),
@@ -72,7 +72,7 @@ impl LinkCase {
 
 /// What has to be sent over a link that is closed at this address.
 #[derive(Drop)]
-pub struct Sent {
+pub struct SentCase {
     pub at: Address,
     pub datagrams: Vec<Vec<u8>>,
 }
@@ -86,14 +86,14 @@ pub struct Case {
     pub words: Vec<String>,
     pub files: Vec<NamedFile>,
     pub failing_loads: Vec<u64>,
-    pub input: Input,
-    pub out: Output,
-    pub err: Output,
+    pub input: InputCase,
+    pub out: OutputCase,
+    pub err: OutputCase,
     /// Out may end before all that is wanted.
     pub is_prefix: bool,
     pub failing_openings: Vec<u64>,
     pub links: Vec<LinkCase>,
-    pub sent: Vec<Sent>,
+    pub sent: Vec<SentCase>,
     /// Each case that a reader gives has one.
     pub status: Option<u8>,
     /// What the comparison has to say: nothing, or how this case differs.
@@ -108,13 +108,13 @@ impl Case {
             words: Vec::new(alloc),
             files: Vec::new(alloc),
             failing_loads: Vec::new(alloc),
-            input: Input {
+            input: InputCase {
                 bytes: Vec::new(alloc),
                 piece: usual_piece(),
                 fails: Vec::new(alloc),
             },
-            out: Output::new(alloc, 1 << 20),
-            err: Output::new(alloc, 1 << 16),
+            out: OutputCase::new(alloc, 1 << 20),
+            err: OutputCase::new(alloc, 1 << 16),
             is_prefix: false,
             failing_openings: Vec::new(alloc),
             links: Vec::new(alloc),

@@ -2,7 +2,7 @@
 
 /// The keywords that begin a line of a case, in the order in which its lines stand.
 #[derive(Clone, Copy, PartialEq, Eq, PartialOrd, Ord)]
-pub enum Keyword {
+pub enum CaseKeyword {
     Words,
     Word,
     File,
@@ -26,36 +26,36 @@ pub enum Keyword {
     Differs,
 }
 
-impl Keyword {
-    pub fn parse(text: &str) -> Option<Keyword> {
+impl CaseKeyword {
+    pub fn parse(text: &str) -> Option<CaseKeyword> {
         Some(match text {
-            "words" => Keyword::Words,
-            "word" => Keyword::Word,
-            "file" => Keyword::File,
-            "shelf-fails" => Keyword::ShelfFails,
-            "input" => Keyword::Input,
-            "input-piece" => Keyword::InputPiece,
-            "input-fails" => Keyword::InputFails,
-            "sink-room" => Keyword::SinkRoom,
-            "sink-piece" => Keyword::SinkPiece,
-            "sink-fails" => Keyword::SinkFails,
-            "err-room" => Keyword::ErrRoom,
-            "err-piece" => Keyword::ErrPiece,
-            "err-fails" => Keyword::ErrFails,
-            "dock-fails" => Keyword::DockFails,
-            "link" => Keyword::Link,
-            "status" => Keyword::Status,
-            "out" => Keyword::Out,
-            "out-prefix" => Keyword::OutPrefix,
-            "err" => Keyword::Err,
-            "sent" => Keyword::Sent,
-            "differs" => Keyword::Differs,
+            "words" => CaseKeyword::Words,
+            "word" => CaseKeyword::Word,
+            "file" => CaseKeyword::File,
+            "shelf-fails" => CaseKeyword::ShelfFails,
+            "input" => CaseKeyword::Input,
+            "input-piece" => CaseKeyword::InputPiece,
+            "input-fails" => CaseKeyword::InputFails,
+            "sink-room" => CaseKeyword::SinkRoom,
+            "sink-piece" => CaseKeyword::SinkPiece,
+            "sink-fails" => CaseKeyword::SinkFails,
+            "err-room" => CaseKeyword::ErrRoom,
+            "err-piece" => CaseKeyword::ErrPiece,
+            "err-fails" => CaseKeyword::ErrFails,
+            "dock-fails" => CaseKeyword::DockFails,
+            "link" => CaseKeyword::Link,
+            "status" => CaseKeyword::Status,
+            "out" => CaseKeyword::Out,
+            "out-prefix" => CaseKeyword::OutPrefix,
+            "err" => CaseKeyword::Err,
+            "sent" => CaseKeyword::Sent,
+            "differs" => CaseKeyword::Differs,
             _ => return None,
         })
     }
 
     /// Whether a line of this keyword may stand behind one of the other.
-    pub fn may_follow(self, last: Option<Keyword>) -> bool {
+    pub fn may_follow(self, last: Option<CaseKeyword>) -> bool {
         match last {
             None => true,
             Some(last) if last == self => self.is_repeated(),
@@ -66,7 +66,7 @@ impl Keyword {
     fn is_repeated(self) -> bool {
         matches!(
             self,
-            Keyword::Word | Keyword::File | Keyword::Link | Keyword::Sent
+            CaseKeyword::Word | CaseKeyword::File | CaseKeyword::Link | CaseKeyword::Sent
         )
     }
 }

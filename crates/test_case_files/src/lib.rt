@@ -7,5 +7,5 @@ mod pieces;
 mod reader;
 mod words;
 
-pub use case::{Case, Input, LinkCase, NamedFile, Output, Sent};
+pub use case::{Case, InputCase, LinkCase, NamedFile, OutputCase, SentCase};
 pub use reader::Reader;

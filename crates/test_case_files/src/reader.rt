@@ -1,7 +1,7 @@
 //! Reads a file of cases, line by line.
 
-use crate::case::{Case, LinkCase, NamedFile, Sent};
-use crate::keyword::Keyword;
+use crate::case::{Case, LinkCase, NamedFile, SentCase};
+use crate::keyword::CaseKeyword;
 use crate::pieces::{append, append_digits, is_piece};
 use crate::words::{address, number, numbers, piece, size, status, words};
 use anyhow::{Context, Result, bail};
@@ -12,7 +12,7 @@ use std::mem;
 
 /// The byte list to which pieces are appended.
 #[derive(Drop)]
-enum Part {
+enum PieceTarget {
     Absent,
     Let(String),
     Datagram,
@@ -38,12 +38,12 @@ pub struct Reader {
     alloc: Global,
     lets: BTreeMap<String, Vec<u8>>,
     lists: BTreeMap<String, Vec<Vec<u8>>>,
-    part: Part,
+    part: PieceTarget,
     bytes: Vec<u8>,
     group: Group,
     datagrams: Vec<Vec<u8>>,
     case: Option<Case>,
-    last: Option<Keyword>,
+    last: Option<CaseKeyword>,
 }
 
 impl Reader {
@@ -52,7 +52,7 @@ impl Reader {
             alloc,
             lets: BTreeMap::new(alloc),
             lists: BTreeMap::new(alloc),
-            part: Part::Absent,
+            part: PieceTarget::Absent,
             bytes: Vec::new(alloc),
             group: Group::Absent,
             datagrams: Vec::new(alloc),
@@ -105,7 +105,7 @@ impl Reader {
     }
 
     fn piece(&mut self, keyword: &str, rest: &str) -> Result<()> {
-        if matches!(&self.part, Part::Absent) {
+        if matches!(&self.part, PieceTarget::Absent) {
             bail!("a piece of nothing");
         }
         append(&mut self.bytes, &self.lets, keyword, rest)
@@ -113,14 +113,16 @@ impl Reader {
 
     fn end_part(&mut self) -> Result<()> {
         let bytes = mem::replace(&mut self.bytes, Vec::new(self.alloc));
-        match mem::replace(&mut self.part, Part::Absent) {
-            Part::Absent => Ok(()),
-            Part::Let(name) => {
+        match mem::replace(&mut self.part, PieceTarget::Absent) {
+            PieceTarget::Absent => Ok(()),
+            PieceTarget::Let(name) => {
                 self.lets.insert(name, bytes)?;
                 Ok(())
             }
-            Part::Datagram if bytes.len() > LONGEST_DATAGRAM => bail!("a datagram is too long"),
-            Part::Datagram => Ok(self.datagrams.push(bytes)?),
+            PieceTarget::Datagram if bytes.len() > LONGEST_DATAGRAM => bail!(
+                "a datagram is too long"
+            ),
+            PieceTarget::Datagram => Ok(self.datagrams.push(bytes)?),
             part => match &mut self.case {
                 Some(case) => fill(case, part, bytes),
                 None => bail!("no case has begun"),
@@ -132,7 +134,7 @@ impl Reader {
         if matches!(&self.group, Group::Absent) {
             bail!("a datagram of no list");
         }
-        self.part = Part::Datagram;
+        self.part = PieceTarget::Datagram;
         append_digits(&mut self.bytes, digits)
     }
 
@@ -190,7 +192,7 @@ impl Reader {
                 None => bail!("no case has begun"),
             },
             Group::Sent(at) => match &mut self.case {
-                Some(case) => case.sent.push(Sent { at, datagrams })?,
+                Some(case) => case.sent.push(SentCase { at, datagrams })?,
                 None => bail!("no case has begun"),
             },
         }
@@ -206,9 +208,9 @@ impl Reader {
                 return Ok(ended);
             }
             "let" | "list" if self.case.is_some() => bail!("{keyword} stands behind a case"),
-            "let" => self.part = Part::Let(String::from_str(self.alloc, rest)?),
+            "let" => self.part = PieceTarget::Let(String::from_str(self.alloc, rest)?),
             "list" => self.group = Group::List(String::from_str(self.alloc, rest)?),
-            _ => match Keyword::parse(keyword) {
+            _ => match CaseKeyword::parse(keyword) {
                 Some(keyword) if keyword.may_follow(self.last) => {
                     self.last = Some(keyword);
                     self.line(keyword, rest)?;
@@ -221,20 +223,20 @@ impl Reader {
     }
 
     // A line of a case.
-    fn line(&mut self, keyword: Keyword, rest: &str) -> Result<()> {
+    fn line(&mut self, keyword: CaseKeyword, rest: &str) -> Result<()> {
         match keyword {
-            Keyword::Word => {
-                self.part = Part::Word;
+            CaseKeyword::Word => {
+                self.part = PieceTarget::Word;
                 self.bytes.extend_from_slice(rest.as_bytes())?;
             }
-            Keyword::File => self.part = Part::File(String::from_str(self.alloc, rest)?),
-            Keyword::Input => self.part = Part::Input,
-            Keyword::Out | Keyword::OutPrefix => self.part = Part::Out,
-            Keyword::Err => self.part = Part::Err,
-            Keyword::Link => {
+            CaseKeyword::File => self.part = PieceTarget::File(String::from_str(self.alloc, rest)?),
+            CaseKeyword::Input => self.part = PieceTarget::Input,
+            CaseKeyword::Out | CaseKeyword::OutPrefix => self.part = PieceTarget::Out,
+            CaseKeyword::Err => self.part = PieceTarget::Err,
+            CaseKeyword::Link => {
                 self.group = Group::Link(LinkCase::new(self.alloc, address(rest)?));
             }
-            Keyword::Sent => self.group = Group::Sent(address(rest)?),
+            CaseKeyword::Sent => self.group = Group::Sent(address(rest)?),
             _ => {}
         }
         match &mut self.case {
@@ -263,40 +265,42 @@ fn bounds(places: &str, count: usize) -> Result<(usize, usize)> {
     Ok((first, last.saturating_add(1)))
 }
 
-fn fill(case: &mut Case, part: Part, bytes: Vec<u8>) -> Result<()> {
+fn fill(case: &mut Case, part: PieceTarget, bytes: Vec<u8>) -> Result<()> {
     match part {
-        Part::Word => {
+        PieceTarget::Word => {
             let word = String::from_utf8(bytes)
                 .ok()
                 .context("a word that isn't UTF-8")?;
             case.words.push(word)?;
         }
-        Part::File(name) => case.files.push(NamedFile { name, bytes })?,
-        Part::Input => case.input.bytes = bytes,
-        Part::Out => case.out.wanted = bytes,
-        Part::Err => case.err.wanted = bytes,
-        Part::Absent | Part::Let(_) | Part::Datagram => bail!("no part of a case"),
+        PieceTarget::File(name) => case.files.push(NamedFile { name, bytes })?,
+        PieceTarget::Input => case.input.bytes = bytes,
+        PieceTarget::Out => case.out.wanted = bytes,
+        PieceTarget::Err => case.err.wanted = bytes,
+        PieceTarget::Absent | PieceTarget::Let(_) | PieceTarget::Datagram => bail!(
+            "no part of a case"
+        ),
     }
     Ok(())
 }
 
 // What a line says that has no byte list behind it.
-fn set(alloc: Global, case: &mut Case, keyword: Keyword, rest: &str) -> Result<()> {
+fn set(alloc: Global, case: &mut Case, keyword: CaseKeyword, rest: &str) -> Result<()> {
     match keyword {
-        Keyword::Words => case.words = words(alloc, rest)?,
-        Keyword::Status => case.status = Some(status(rest)?),
-        Keyword::OutPrefix => case.is_prefix = true,
-        Keyword::Differs => case.differences = String::from_str(alloc, rest)?,
-        Keyword::ShelfFails => case.failing_loads = numbers(alloc, rest)?,
-        Keyword::DockFails => case.failing_openings = numbers(alloc, rest)?,
-        Keyword::InputPiece => case.input.piece = piece(rest)?,
-        Keyword::InputFails => case.input.fails = numbers(alloc, rest)?,
-        Keyword::SinkRoom => case.out.room = size(rest)?,
-        Keyword::SinkPiece => case.out.piece = piece(rest)?,
-        Keyword::SinkFails => case.out.fails = numbers(alloc, rest)?,
-        Keyword::ErrRoom => case.err.room = size(rest)?,
-        Keyword::ErrPiece => case.err.piece = piece(rest)?,
-        Keyword::ErrFails => case.err.fails = numbers(alloc, rest)?,
+        CaseKeyword::Words => case.words = words(alloc, rest)?,
+        CaseKeyword::Status => case.status = Some(status(rest)?),
+        CaseKeyword::OutPrefix => case.is_prefix = true,
+        CaseKeyword::Differs => case.differences = String::from_str(alloc, rest)?,
+        CaseKeyword::ShelfFails => case.failing_loads = numbers(alloc, rest)?,
+        CaseKeyword::DockFails => case.failing_openings = numbers(alloc, rest)?,
+        CaseKeyword::InputPiece => case.input.piece = piece(rest)?,
+        CaseKeyword::InputFails => case.input.fails = numbers(alloc, rest)?,
+        CaseKeyword::SinkRoom => case.out.room = size(rest)?,
+        CaseKeyword::SinkPiece => case.out.piece = piece(rest)?,
+        CaseKeyword::SinkFails => case.out.fails = numbers(alloc, rest)?,
+        CaseKeyword::ErrRoom => case.err.room = size(rest)?,
+        CaseKeyword::ErrPiece => case.err.piece = piece(rest)?,
+        CaseKeyword::ErrFails => case.err.fails = numbers(alloc, rest)?,
         _ => {}
     }
     Ok(())

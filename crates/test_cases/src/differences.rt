@@ -1,6 +1,6 @@
 //! Runs a case, and compares.
 
-use crate::forms::Outside;
+use crate::forms::MemOutside;
 use cmd_paths::run_paths;
 use drm_bits::NoMemory;
 use drm_links::{MemDock, MemLink};
@@ -9,7 +9,7 @@ use std::alloc::{AllocError, Global};
 use std::fmt::Display;
 use std::sync::Wait;
 use std::thread::Threads;
-use test_case_files::{Case, Sent};
+use test_case_files::{Case, SentCase};
 
 /// The program whose run a case is of.
 #[derive(Clone, Copy)]
@@ -25,7 +25,7 @@ pub fn differences<R: Threads + Wait + Sync + AllocGlobal>(
     case: &Case,
 ) -> Result<String, NoMemory> {
     let alloc = rt.alloc();
-    let mut outside = Outside::make(alloc, case)?;
+    let mut outside = MemOutside::make(alloc, case)?;
     let code = match program {
         Program::Drmcast => run_drmcast(rt, alloc, &case.words, &mut outside),
         Program::Drmpaths => run_drmpaths(rt, alloc, &case.words, &mut outside),
@@ -41,7 +41,7 @@ fn run_drmcast<R: Threads + Sync>(
     rt: &R,
     alloc: Global,
     words: &[String],
-    outside: &mut Outside,
+    outside: &mut MemOutside,
 ) -> u8 {
     run(
         rt,
@@ -60,7 +60,7 @@ fn run_drmpaths<R: Threads + Wait + Sync>(
     rt: &R,
     alloc: Global,
     words: &[String],
-    outside: &mut Outside,
+    outside: &mut MemOutside,
 ) -> u8 {
     run_paths(
         rt,
@@ -77,7 +77,7 @@ fn compare_output(
     found: &mut String,
     case: &Case,
     code: u8,
-    outside: &Outside,
+    outside: &MemOutside,
 ) -> Result<(), AllocError> {
     let (out, err) = (outside.out.bytes(), outside.err.bytes());
     if case.status != Some(code) {
@@ -134,7 +134,7 @@ fn compare_links(
     Ok(())
 }
 
-fn compare_sent(found: &mut String, dock: &MemDock, sent: &Sent) -> Result<(), AllocError> {
+fn compare_sent(found: &mut String, dock: &MemDock, sent: &SentCase) -> Result<(), AllocError> {
     let Some(link) = dock.closed(sent.at) else {
         return note(found, "no link was closed");
     };

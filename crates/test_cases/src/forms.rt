@@ -1,16 +1,16 @@
 //! The outside of a case, in memory.
 
 ghost use Rattle.std.specs.Prelude.{IfOk};
-ghost use Rattle.drm_links.specs.MemoryLink.{IsUntouched};
+ghost use Rattle.drm_links.specs.MemoryLink.{IsUntouchedLink};
 
 use drm_bits::NoMemory;
 use drm_links::{LONGEST_DATAGRAM, MemDock, MemLink, MemShelf, MemSink, MemSource};
 use std::alloc::Global;
-use test_case_files::{Case, LinkCase, Output};
+use test_case_files::{Case, LinkCase, OutputCase};
 
 /// What a run reads, writes and opens.
 #[derive(Drop)]
-pub struct Outside {
+pub struct MemOutside {
     pub shelf: MemShelf,
     pub input: MemSource,
     pub out: MemSink,
@@ -18,10 +18,10 @@ pub struct Outside {
     pub dock: MemDock,
 }
 
-impl Outside {
-    pub fn make(alloc: Global, case: &Case) -> Result<Outside, NoMemory> {
+impl MemOutside {
+    pub fn make(alloc: Global, case: &Case) -> Result<MemOutside, NoMemory> {
         let input = &case.input;
-        Ok(Outside {
+        Ok(MemOutside {
             shelf: shelf_of(alloc, case)?,
             input: MemSource::make(alloc, &input.bytes, &input.fails, input.piece.get())?,
             out: sink_of(alloc, &case.out)?,
@@ -39,7 +39,7 @@ fn shelf_of(alloc: Global, case: &Case) -> Result<MemShelf, NoMemory> {
     Ok(shelf)
 }
 
-fn sink_of(alloc: Global, output: &Output) -> Result<MemSink, NoMemory> {
+fn sink_of(alloc: Global, output: &OutputCase) -> Result<MemSink, NoMemory> {
     MemSink::make(alloc, output.room, &output.fails, output.piece.get())
 }
 
@@ -56,7 +56,7 @@ fn dock_of(alloc: Global, case: &Case) -> Result<MemDock, NoMemory> {
 }
 
 fn link_of(alloc: Global, case: &LinkCase) -> Result<MemLink, NoMemory>
-    ensures { IfOk result IsUntouched }
+    ensures { IfOk result IsUntouchedLink }
 {
     let mut failing = case.fails.to_vec(alloc)?;
     failing.extend_from_slice(&case.failing_sends)?;

@@ -16,12 +16,12 @@ use test_case_files::{Case, Reader};
 
 /// How many cases were run, and how many of them differ.
 #[derive(Drop)]
-struct Tally {
+struct CaseCounts {
     cases: u64,
     differ: u64,
 }
 
-impl Tally {
+impl CaseCounts {
     fn add<R: Print>(&mut self, rt: &R, path: &str, case: &Case, found: &str) -> Result<()> {
         self.cases = self.cases.saturating_add(1);
         if found == case.differences.as_str() {
@@ -40,7 +40,7 @@ impl Tally {
 }
 
 fn main(rt: HostRuntime) -> Result<ExitCode> {
-    let mut tally = Tally {
+    let mut tally = CaseCounts {
         cases: 0,
         differ: 0,
     };
@@ -64,7 +64,7 @@ fn try_file<R: Files + Print + Threads + Wait + Sync + AllocGlobal>(
     rt: &R,
     program: Program,
     path: &str,
-    tally: &mut Tally,
+    tally: &mut CaseCounts,
 ) -> Result<()> {
     let text = fs::read_to_string(rt, path).context(format_args!("{path}"))?;
     let mut reader = Reader::new(rt.alloc());
@@ -80,7 +80,7 @@ fn try_lines<R: Print + Threads + Wait + Sync + AllocGlobal>(
     path: &str,
     text: &str,
     reader: &mut Reader,
-    tally: &mut Tally,
+    tally: &mut CaseCounts,
 ) -> Result<()> {
     for (number, line) in text.split_terminator('\n').enumerate() {
         let ended = read_line(reader, path, number.saturating_add(1), line)?;
@@ -101,7 +101,7 @@ fn try_ended<R: Print + Threads + Wait + Sync + AllocGlobal>(
     program: Program,
     path: &str,
     ended: Option<Case>,
-    tally: &mut Tally,
+    tally: &mut CaseCounts,
 ) -> Result<()> {
     let Some(case) = ended else {
         return Ok(());

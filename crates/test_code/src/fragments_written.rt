@@ -92,10 +92,10 @@ fn writes_fragments(rt: HostRuntime) {
 
 /// A fragment: the length of its packet, the fragments that may be lost, the numbers of packet and fragment; its length and
 /// the check value of all its bytes.
-type Case = (usize, u8, u16, u32, usize, u16);
+type WriteCase = (usize, u8, u16, u32, usize, u16);
 
 // Two chunks, and without a code two pieces, of which the last has the rest.
-const DATAGRAMS: [Case; 23] = [
+const DATAGRAMS: [WriteCase; 23] = [
     (209, 5, 65535, 0, 32, 0xba9f),
     (209, 5, 65535, 1, 32, 0xb431),
     (209, 5, 65535, 2, 32, 0x5ebe),
@@ -121,7 +121,7 @@ const DATAGRAMS: [Case; 23] = [
     (400, 2, 7, 15, 47, 0x1155),
 ];
 
-fn is_written(case: &Case) -> bool {
+fn is_written(case: &WriteCase) -> bool {
     let (len, m, seq, index, end, check) = *case;
     if len < 1 || len > 1400 || m > 5 {
         return false;

@@ -3,9 +3,9 @@
 use dcp_pft::{Carry, MOST_FRAGMENTS, Rs, Shape, chunks, most_packet, shape_for};
 
 /// The length of the packet, the fragments that may be lost, the longest datagram; the shape, and the number of chunks.
-type Case = (usize, u8, u16, u32, u16, Option<Rs>, u32);
+type ShapeCase = (usize, u8, u16, u32, u16, Option<Rs>, u32);
 
-const CASES: [Case; 22] = [
+const CASES: [ShapeCase; 22] = [
     (12, 5, 1400, 8, 8, Some(Rs { k: 12, z: 0 }), 1),
     (207, 1, 1400, 11, 24, Some(Rs { k: 207, z: 0 }), 1),
     (208, 5, 1400, 19, 16, Some(Rs { k: 104, z: 0 }), 2),
@@ -30,7 +30,7 @@ const CASES: [Case; 22] = [
     (8192, 5, 255, 43, 236, Some(Rs { k: 205, z: 8 }), 40),
 ];
 
-fn is_cut_so(case: &Case) -> bool {
+fn is_cut_so(case: &ShapeCase) -> bool {
     let (len, m, mtu, count, piece, rs, made) = *case;
     if len < 1 || len > most_packet(Carry::Pft { m, mtu }) || m > 5 || mtu < 128 || mtu > 1500 {
         return false;

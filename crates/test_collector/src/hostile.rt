@@ -1,18 +1,18 @@
 //! Datagrams that nobody would send so, for the narrowest window and for the widest.
 
-use crate::runs::{Item, Sent, Step, run};
+use crate::runs::{CollectorCall, ExpectedItem, SentDatagram, run};
 use crate::without_code::{FIRST, LAST, PACKET, SECOND};
 use dcp_collect::Taken::{Kept, Late, Repeated};
 use drm_bits::NoMemory;
 
 // One that is ahead by more than the window, where each packet before the window's end has a fragment already.
-const AHEAD: [Step<'static>; 6] = [
-    Step::Takes(Sent::Cut(0, 0), Kept),
-    Step::Takes(Sent::Whole(200, 500), Kept),
-    Step::Gives(Item::Lost(0, 1, 10)),
-    Step::Gives(Item::Nothing(1, 200)),
-    Step::Gives(Item::Whole(200, 200, 500)),
-    Step::GivesNone,
+const AHEAD: [CollectorCall<'static>; 6] = [
+    CollectorCall::Takes(SentDatagram::Cut(0, 0), Kept),
+    CollectorCall::Takes(SentDatagram::Whole(200, 500), Kept),
+    CollectorCall::Gives(ExpectedItem::Lost(0, 1, 10)),
+    CollectorCall::Gives(ExpectedItem::Nothing(1, 200)),
+    CollectorCall::Gives(ExpectedItem::Whole(200, 200, 500)),
+    CollectorCall::GivesNone,
 ];
 
 #[test]
@@ -20,25 +20,25 @@ fn what_runs_ahead_is_kept(rt: HostRuntime) -> Result<(), NoMemory> {
     run(&rt, rt.alloc(), (1, Some(0)), &AHEAD, None, &[])
 }
 
-const FAR_AHEAD_REST: [Item<'static>; 3] = [
-    Item::Lost(137, 1, 9),
-    Item::Nothing(138, 200),
-    Item::Whole(200, 200, 500),
+const FAR_AHEAD_REST: [ExpectedItem<'static>; 3] = [
+    ExpectedItem::Lost(137, 1, 9),
+    ExpectedItem::Nothing(138, 200),
+    ExpectedItem::Whole(200, 200, 500),
 ];
 
 // A fragment of each packet of the widest window, one far ahead, and what is given before it.
-fn far_ahead() -> [Step<'static>; 133] {
-    let mut steps = [Step::GivesNone; 133];
+fn far_ahead() -> [CollectorCall<'static>; 133] {
+    let mut steps = [CollectorCall::GivesNone; 133];
     for number in 0..64u16 {
         let place = usize::from(number);
         let count = if number == 0 { 10 } else { 9 };
-        steps[place] = Step::Takes(Sent::Cut(number, 0), Kept);
-        steps[65 + place] = Step::Gives(Item::Lost(u64::from(number), 1, count));
+        steps[place] = CollectorCall::Takes(SentDatagram::Cut(number, 0), Kept);
+        steps[65 + place] = CollectorCall::Gives(ExpectedItem::Lost(u64::from(number), 1, count));
     }
-    steps[64] = Step::Takes(Sent::Whole(200, 500), Kept);
-    steps[129] = Step::Gives(Item::Nothing(64, 137));
-    steps[130] = Step::Takes(Sent::Cut(136, 0), Late);
-    steps[131] = Step::Takes(Sent::Cut(137, 1), Kept);
+    steps[64] = CollectorCall::Takes(SentDatagram::Whole(200, 500), Kept);
+    steps[129] = CollectorCall::Gives(ExpectedItem::Nothing(64, 137));
+    steps[130] = CollectorCall::Takes(SentDatagram::Cut(136, 0), Late);
+    steps[131] = CollectorCall::Takes(SentDatagram::Cut(137, 1), Kept);
     steps
 }
 
@@ -56,31 +56,31 @@ fn what_runs_far_ahead_is_kept(rt: HostRuntime) -> Result<(), NoMemory> {
 }
 
 // What is kept of a packet stands where another one stood: nothing of that one is seen.
-const GIVEN_BEFORE: [Step<'static>; 24] = [
-    Step::Takes(Sent::Bytes(LAST), Kept),
-    Step::Takes(Sent::Bytes(FIRST), Kept),
-    Step::Takes(Sent::Bytes(SECOND), Kept),
-    Step::Gives(Item::Bytes(0, PACKET)),
-    Step::Takes(Sent::Cut(2, 8), Kept),
-    Step::Takes(Sent::Cut(2, 7), Kept),
-    Step::Takes(Sent::Cut(2, 6), Kept),
-    Step::Takes(Sent::Cut(2, 5), Kept),
-    Step::Takes(Sent::Cut(2, 4), Kept),
-    Step::Takes(Sent::Cut(2, 3), Kept),
-    Step::Gives(Item::Packet(1, 2, 90)),
-    Step::Takes(Sent::Whole(3, 49152), Kept),
-    Step::Gives(Item::Whole(2, 3, 49152)),
-    Step::Takes(Sent::Cut(4, 8), Kept),
-    Step::Takes(Sent::Cut(4, 0), Kept),
-    Step::Takes(Sent::Cut(4, 8), Repeated),
-    Step::Takes(Sent::Cut(4, 1), Kept),
-    Step::Takes(Sent::Cut(4, 2), Kept),
-    Step::Takes(Sent::Cut(4, 3), Kept),
-    Step::GivesNone,
-    Step::Holds(80, Some(1), Some(3)),
-    Step::Takes(Sent::Cut(4, 4), Kept),
-    Step::Gives(Item::Packet(3, 4, 90)),
-    Step::Holds(0, Some(1), Some(3)),
+const GIVEN_BEFORE: [CollectorCall<'static>; 24] = [
+    CollectorCall::Takes(SentDatagram::Bytes(LAST), Kept),
+    CollectorCall::Takes(SentDatagram::Bytes(FIRST), Kept),
+    CollectorCall::Takes(SentDatagram::Bytes(SECOND), Kept),
+    CollectorCall::Gives(ExpectedItem::Bytes(0, PACKET)),
+    CollectorCall::Takes(SentDatagram::Cut(2, 8), Kept),
+    CollectorCall::Takes(SentDatagram::Cut(2, 7), Kept),
+    CollectorCall::Takes(SentDatagram::Cut(2, 6), Kept),
+    CollectorCall::Takes(SentDatagram::Cut(2, 5), Kept),
+    CollectorCall::Takes(SentDatagram::Cut(2, 4), Kept),
+    CollectorCall::Takes(SentDatagram::Cut(2, 3), Kept),
+    CollectorCall::Gives(ExpectedItem::Packet(1, 2, 90)),
+    CollectorCall::Takes(SentDatagram::Whole(3, 49152), Kept),
+    CollectorCall::Gives(ExpectedItem::Whole(2, 3, 49152)),
+    CollectorCall::Takes(SentDatagram::Cut(4, 8), Kept),
+    CollectorCall::Takes(SentDatagram::Cut(4, 0), Kept),
+    CollectorCall::Takes(SentDatagram::Cut(4, 8), Repeated),
+    CollectorCall::Takes(SentDatagram::Cut(4, 1), Kept),
+    CollectorCall::Takes(SentDatagram::Cut(4, 2), Kept),
+    CollectorCall::Takes(SentDatagram::Cut(4, 3), Kept),
+    CollectorCall::GivesNone,
+    CollectorCall::Holds(80, Some(1), Some(3)),
+    CollectorCall::Takes(SentDatagram::Cut(4, 4), Kept),
+    CollectorCall::Gives(ExpectedItem::Packet(3, 4, 90)),
+    CollectorCall::Holds(0, Some(1), Some(3)),
 ];
 
 #[test]

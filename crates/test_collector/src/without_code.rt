@@ -1,6 +1,6 @@
 //! Fragments without a code. The check values are from a program in Python.
 
-use crate::runs::{Item, Sent, Step, run};
+use crate::runs::{CollectorCall, ExpectedItem, SentDatagram, run};
 use dcp_collect::Head;
 use dcp_collect::Taken::{Inconsistent, Kept, Late, Repeated};
 use drm_bits::NoMemory;
@@ -29,26 +29,26 @@ const LONGEST_LAST: &[u8] = b"PF\0\x01\0\0\x02\0\0\x03\0\x06}\xc2abcdef";
 
 const OF_FOUR: &[u8] = b"PF\0\x01\0\0\x03\0\0\x04\0\x03\xedWabc";
 
-const EQUAL: [Step<'static>; 3] = [
-    Step::Takes(Sent::Bytes(EQUAL_LAST), Kept),
-    Step::Takes(Sent::Bytes(FIRST), Kept),
-    Step::Takes(Sent::Bytes(SECOND), Kept),
+const EQUAL: [CollectorCall<'static>; 3] = [
+    CollectorCall::Takes(SentDatagram::Bytes(EQUAL_LAST), Kept),
+    CollectorCall::Takes(SentDatagram::Bytes(FIRST), Kept),
+    CollectorCall::Takes(SentDatagram::Bytes(SECOND), Kept),
 ];
 
-const EQUAL_GIVEN: [Item<'static>; 1] = [Item::Bytes(0, b"Radio Nordabcde")];
+const EQUAL_GIVEN: [ExpectedItem<'static>; 1] = [ExpectedItem::Bytes(0, b"Radio Nordabcde")];
 
 // The pieces come in this order.
-fn join<'a>(first: &'a [u8], second: &'a [u8], third: &'a [u8]) -> [Step<'a>; 9] {
+fn join<'a>(first: &'a [u8], second: &'a [u8], third: &'a [u8]) -> [CollectorCall<'a>; 9] {
     [
-        Step::Takes(Sent::Bytes(first), Kept),
-        Step::GivesNone,
-        Step::Takes(Sent::Bytes(second), Kept),
-        Step::Takes(Sent::Bytes(first), Repeated),
-        Step::GivesNone,
-        Step::Takes(Sent::Bytes(third), Kept),
-        Step::Holds(13, Some(1), Some(0)),
-        Step::Gives(Item::Bytes(0, PACKET)),
-        Step::Holds(0, Some(1), Some(0)),
+        CollectorCall::Takes(SentDatagram::Bytes(first), Kept),
+        CollectorCall::GivesNone,
+        CollectorCall::Takes(SentDatagram::Bytes(second), Kept),
+        CollectorCall::Takes(SentDatagram::Bytes(first), Repeated),
+        CollectorCall::GivesNone,
+        CollectorCall::Takes(SentDatagram::Bytes(third), Kept),
+        CollectorCall::Holds(13, Some(1), Some(0)),
+        CollectorCall::Gives(ExpectedItem::Bytes(0, PACKET)),
+        CollectorCall::Holds(0, Some(1), Some(0)),
     ]
 }
 
@@ -93,15 +93,15 @@ fn disagree<'a>(
     kept: (u32, u16),
     datagram: &'a [u8],
     came: (u32, u16),
-) -> [Step<'a>; 3] {
+) -> [CollectorCall<'a>; 3] {
     let odd = Inconsistent {
         kept: head(kept.0, kept.1),
         came: head(came.0, came.1),
     };
     [
-        Step::Takes(Sent::Bytes(before), Kept),
-        Step::Takes(Sent::Bytes(datagram), odd),
-        Step::Holds(usize::from(kept.1), Some(1), Some(0)),
+        CollectorCall::Takes(SentDatagram::Bytes(before), Kept),
+        CollectorCall::Takes(SentDatagram::Bytes(datagram), odd),
+        CollectorCall::Holds(usize::from(kept.1), Some(1), Some(0)),
     ]
 }
 
@@ -115,7 +115,7 @@ fn names_lengths_that_disagree(rt: HostRuntime) -> Result<(), NoMemory> {
             (1, None),
             &steps,
             None,
-            &[Item::Lost(0, 1, 3)],
+            &[ExpectedItem::Lost(0, 1, 3)],
         )?;
     }
     Ok(())
@@ -146,30 +146,33 @@ const CAME_OF_FOUR: Head = Head {
 };
 
 // Of several fragments that are kept the one with the lowest index is told, and none once the packet is whole.
-const LOWEST: [Step<'static>; 8] = [
-    Step::Takes(Sent::Bytes(SECOND), Kept),
-    Step::Takes(Sent::Bytes(FIRST), Kept),
-    Step::Takes(
-        Sent::Bytes(LONGEST_LAST),
+const LOWEST: [CollectorCall<'static>; 8] = [
+    CollectorCall::Takes(SentDatagram::Bytes(SECOND), Kept),
+    CollectorCall::Takes(SentDatagram::Bytes(FIRST), Kept),
+    CollectorCall::Takes(
+        SentDatagram::Bytes(LONGEST_LAST),
         Inconsistent {
             kept: KEPT_FIRST,
             came: CAME_LONGEST,
         },
     ),
-    Step::Takes(
-        Sent::Bytes(OF_FOUR),
+    CollectorCall::Takes(
+        SentDatagram::Bytes(OF_FOUR),
         Inconsistent {
             kept: KEPT_FIRST,
             came: CAME_OF_FOUR,
         },
     ),
-    Step::Takes(Sent::Bytes(LAST), Kept),
-    Step::Takes(Sent::Bytes(LONGEST_LAST), Repeated),
-    Step::Takes(Sent::Bytes(OF_FOUR), Repeated),
-    Step::Holds(13, Some(0), Some(1)),
+    CollectorCall::Takes(SentDatagram::Bytes(LAST), Kept),
+    CollectorCall::Takes(SentDatagram::Bytes(LONGEST_LAST), Repeated),
+    CollectorCall::Takes(SentDatagram::Bytes(OF_FOUR), Repeated),
+    CollectorCall::Holds(13, Some(0), Some(1)),
 ];
 
-const LOWEST_REST: [Item<'static>; 2] = [Item::Nothing(0, 1), Item::Bytes(1, PACKET)];
+const LOWEST_REST: [ExpectedItem<'static>; 2] = [
+    ExpectedItem::Nothing(0, 1),
+    ExpectedItem::Bytes(1, PACKET),
+];
 
 #[test]
 fn names_the_first_that_disagrees(rt: HostRuntime) -> Result<(), NoMemory> {
@@ -178,12 +181,12 @@ fn names_the_first_that_disagrees(rt: HostRuntime) -> Result<(), NoMemory> {
 
 const SINGLE: &[u8] = b"PF\0\x05\0\0\0\0\0\x01\0\0d\xcb";
 
-const EMPTY: [Step<'static>; 5] = [
-    Step::Takes(Sent::Bytes(SINGLE), Kept),
-    Step::Holds(0, Some(5), Some(0)),
-    Step::Gives(Item::Bytes(0, b"")),
-    Step::GivesNone,
-    Step::Takes(Sent::Bytes(SINGLE), Late),
+const EMPTY: [CollectorCall<'static>; 5] = [
+    CollectorCall::Takes(SentDatagram::Bytes(SINGLE), Kept),
+    CollectorCall::Holds(0, Some(5), Some(0)),
+    CollectorCall::Gives(ExpectedItem::Bytes(0, b"")),
+    CollectorCall::GivesNone,
+    CollectorCall::Takes(SentDatagram::Bytes(SINGLE), Late),
 ];
 
 #[test]
@@ -200,15 +203,15 @@ const EMPTY_2: &[u8] = b"PF\0\0\0\0\x02\0\0\x04\0\0s\xb7";
 
 const EMPTY_3: &[u8] = b"PF\0\0\0\0\x03\0\0\x04\0\x006\x17";
 
-const FOUR_EMPTY: [Step<'static>; 8] = [
-    Step::Takes(Sent::Bytes(EMPTY_3), Kept),
-    Step::Takes(Sent::Bytes(EMPTY_1), Kept),
-    Step::Takes(Sent::Bytes(EMPTY_1), Repeated),
-    Step::Takes(Sent::Bytes(EMPTY_0), Kept),
-    Step::GivesNone,
-    Step::Takes(Sent::Bytes(EMPTY_2), Kept),
-    Step::Holds(0, Some(0), Some(0)),
-    Step::Gives(Item::Bytes(0, b"")),
+const FOUR_EMPTY: [CollectorCall<'static>; 8] = [
+    CollectorCall::Takes(SentDatagram::Bytes(EMPTY_3), Kept),
+    CollectorCall::Takes(SentDatagram::Bytes(EMPTY_1), Kept),
+    CollectorCall::Takes(SentDatagram::Bytes(EMPTY_1), Repeated),
+    CollectorCall::Takes(SentDatagram::Bytes(EMPTY_0), Kept),
+    CollectorCall::GivesNone,
+    CollectorCall::Takes(SentDatagram::Bytes(EMPTY_2), Kept),
+    CollectorCall::Holds(0, Some(0), Some(0)),
+    CollectorCall::Gives(ExpectedItem::Bytes(0, b"")),
 ];
 
 #[test]

@@ -9,7 +9,7 @@ use std::alloc::Global;
 
 /// A call of a joiner, and what it answers.
 #[derive(Clone, Copy)]
-enum Step<'a> {
+enum JoinerCall<'a> {
     Packet(&'a [u8], Joined<'a>),
     Gap(bool),
     End(bool),
@@ -36,74 +36,74 @@ const WRONG_IS: DataFault = DataFault::Crc {
     computed: 0x3f04,
 };
 
-const WHOLE: [Step<'static>; 5] = [
-    Step::Packet(HI, Joined::Unit(b"Hi")),
-    Step::Packet(ONE_TO_FOUR, Joined::Nothing),
-    Step::Packet(FIVE, Joined::Unit(UNIT)),
-    Step::Packet(EMPTY, Joined::Unit(b"")),
-    Step::End(false),
+const WHOLE: [JoinerCall<'static>; 5] = [
+    JoinerCall::Packet(HI, Joined::Unit(b"Hi")),
+    JoinerCall::Packet(ONE_TO_FOUR, Joined::Nothing),
+    JoinerCall::Packet(FIVE, Joined::Unit(UNIT)),
+    JoinerCall::Packet(EMPTY, Joined::Unit(b"")),
+    JoinerCall::End(false),
 ];
 
-const WITHOUT_THE_SECOND: [Step<'static>; 3] = [
-    Step::Packet(HI, Joined::Unit(b"Hi")),
-    Step::Gap(false),
-    Step::Packet(FIVE, Joined::Nothing),
+const WITHOUT_THE_SECOND: [JoinerCall<'static>; 3] = [
+    JoinerCall::Packet(HI, Joined::Unit(b"Hi")),
+    JoinerCall::Gap(false),
+    JoinerCall::Packet(FIVE, Joined::Nothing),
 ];
 
-const ENDED: [Step<'static>; 4] = [
-    Step::Packet(HI, Joined::Unit(b"Hi")),
-    Step::Packet(ONE_TO_FOUR, Joined::Nothing),
-    Step::End(true),
-    Step::End(false),
+const ENDED: [JoinerCall<'static>; 4] = [
+    JoinerCall::Packet(HI, Joined::Unit(b"Hi")),
+    JoinerCall::Packet(ONE_TO_FOUR, Joined::Nothing),
+    JoinerCall::End(true),
+    JoinerCall::End(false),
 ];
 
-const CUT: [Step<'static>; 12] = [
-    Step::Packet(ONE_TO_FOUR, Joined::Nothing),
-    Step::Gap(true),
-    Step::Packet(FIVE, Joined::Nothing),
-    Step::Packet(ONE_TO_FOUR, Joined::Nothing),
-    Step::Packet(ONE_TO_FOUR, Joined::Cut),
-    Step::Packet(HI_AGAIN, Joined::CutUnit(b"Hi")),
-    Step::Packet(ONE_TO_FOUR, Joined::Nothing),
-    Step::Packet(FIVE_BEHIND, Joined::Cut),
-    Step::Packet(ONE_TO_FOUR, Joined::Nothing),
-    Step::Packet(
+const CUT: [JoinerCall<'static>; 12] = [
+    JoinerCall::Packet(ONE_TO_FOUR, Joined::Nothing),
+    JoinerCall::Gap(true),
+    JoinerCall::Packet(FIVE, Joined::Nothing),
+    JoinerCall::Packet(ONE_TO_FOUR, Joined::Nothing),
+    JoinerCall::Packet(ONE_TO_FOUR, Joined::Cut),
+    JoinerCall::Packet(HI_AGAIN, Joined::CutUnit(b"Hi")),
+    JoinerCall::Packet(ONE_TO_FOUR, Joined::Nothing),
+    JoinerCall::Packet(FIVE_BEHIND, Joined::Cut),
+    JoinerCall::Packet(ONE_TO_FOUR, Joined::Nothing),
+    JoinerCall::Packet(
         WRONG,
         Joined::Refused {
             fault: WRONG_IS,
             cut: true,
         },
     ),
-    Step::Packet(
+    JoinerCall::Packet(
         WRONG,
         Joined::Refused {
             fault: WRONG_IS,
             cut: false,
         },
     ),
-    Step::Gap(false),
+    JoinerCall::Gap(false),
 ];
 
-const PASSED_OVER: [Step<'static>; 6] = [
-    Step::Packet(ONE_TO_FOUR, Joined::Nothing),
-    Step::Packet(OTHER, Joined::Nothing),
-    Step::Packet(FILLER, Joined::Nothing),
-    Step::Packet(OTHER, Joined::Nothing),
-    Step::Packet(FIVE_BEHIND, Joined::Unit(UNIT)),
-    Step::End(false),
+const PASSED_OVER: [JoinerCall<'static>; 6] = [
+    JoinerCall::Packet(ONE_TO_FOUR, Joined::Nothing),
+    JoinerCall::Packet(OTHER, Joined::Nothing),
+    JoinerCall::Packet(FILLER, Joined::Nothing),
+    JoinerCall::Packet(OTHER, Joined::Nothing),
+    JoinerCall::Packet(FIVE_BEHIND, Joined::Unit(UNIT)),
+    JoinerCall::End(false),
 ];
 
 // Whether the call answers so.
-fn answers(joiner: &mut Joiner, step: &Step<'_>) -> bool {
+fn answers(joiner: &mut Joiner, step: &JoinerCall<'_>) -> bool {
     match step {
-        Step::Packet(bytes, said) => joiner.packet(bytes) == *said,
-        Step::Gap(cut) => joiner.gap() == *cut,
-        Step::End(cut) => joiner.end() == *cut,
+        JoinerCall::Packet(bytes, said) => joiner.packet(bytes) == *said,
+        JoinerCall::Gap(cut) => joiner.gap() == *cut,
+        JoinerCall::End(cut) => joiner.end() == *cut,
     }
 }
 
 // The first call that answers otherwise, if one does.
-fn wrong_step(alloc: Global, steps: &[Step<'_>]) -> Result<Option<usize>, NoMemory> {
+fn wrong_step(alloc: Global, steps: &[JoinerCall<'_>]) -> Result<Option<usize>, NoMemory> {
     let mut joiner = Joiner::make(alloc, 2, 4)?;
     for (k, step) in steps.iter().enumerate() {
         if !answers(&mut joiner, step) {

@@ -42,7 +42,7 @@ fn cuts_messages(rt: HostRuntime) {
 
 /// A call of a joiner, and what it answers.
 #[derive(Clone, Copy)]
-enum Step<'a> {
+enum JoinerCall<'a> {
     Nothing([u8; 4]),
     Gives([u8; 4], &'a str),
     Gap,
@@ -55,43 +55,43 @@ const HEAD: [u8; 4] = *b"a\0Hi";
 
 const END: [u8; 4] = *b"-\xb3\0\0";
 
-const WHOLE: [Step<'static>; 12] = [
-    Step::Nothing(START),
-    Step::Nothing(HEAD),
-    Step::Gives(END, "Hi"),
-    Step::Nothing(START),
-    Step::Nothing(*b"\xcf\0Ra"),
-    Step::Nothing(*b"dio "),
-    Step::Nothing(*b"Nord"),
-    Step::Nothing(*b" 12 "),
-    Step::Nothing(*b"Uh\x87\x14"),
-    Step::Nothing(START),
-    Step::Nothing(*b"\xa0\x10r\xd3"),
-    Step::Gives(*b"Y\0\0\0", "Radio Nord 12 Uhr"),
+const WHOLE: [JoinerCall<'static>; 12] = [
+    JoinerCall::Nothing(START),
+    JoinerCall::Nothing(HEAD),
+    JoinerCall::Gives(END, "Hi"),
+    JoinerCall::Nothing(START),
+    JoinerCall::Nothing(*b"\xcf\0Ra"),
+    JoinerCall::Nothing(*b"dio "),
+    JoinerCall::Nothing(*b"Nord"),
+    JoinerCall::Nothing(*b" 12 "),
+    JoinerCall::Nothing(*b"Uh\x87\x14"),
+    JoinerCall::Nothing(START),
+    JoinerCall::Nothing(*b"\xa0\x10r\xd3"),
+    JoinerCall::Gives(*b"Y\0\0\0", "Radio Nord 12 Uhr"),
 ];
 
 // A gap, another start and a piece of none break off what was begun.
-const BROKEN: [Step<'static>; 12] = [
-    Step::Nothing(START),
-    Step::Nothing(HEAD),
-    Step::Gap,
-    Step::Nothing(END),
-    Step::Nothing(START),
-    Step::Nothing(HEAD),
-    Step::Nothing(START),
-    Step::Nothing(END),
-    Step::Nothing(HEAD),
-    Step::Nothing(START),
-    Step::Nothing(HEAD),
-    Step::Gives(END, "Hi"),
+const BROKEN: [JoinerCall<'static>; 12] = [
+    JoinerCall::Nothing(START),
+    JoinerCall::Nothing(HEAD),
+    JoinerCall::Gap,
+    JoinerCall::Nothing(END),
+    JoinerCall::Nothing(START),
+    JoinerCall::Nothing(HEAD),
+    JoinerCall::Nothing(START),
+    JoinerCall::Nothing(END),
+    JoinerCall::Nothing(HEAD),
+    JoinerCall::Nothing(START),
+    JoinerCall::Nothing(HEAD),
+    JoinerCall::Gives(END, "Hi"),
 ];
 
 // Whether the call answers so.
-fn answers(joiner: &mut TextJoiner, step: &Step<'_>) -> bool {
+fn answers(joiner: &mut TextJoiner, step: &JoinerCall<'_>) -> bool {
     match step {
-        Step::Nothing(piece) => joiner.piece(*piece).is_none(),
-        Step::Gives(piece, message) => joiner.piece(*piece) == Some(*message),
-        Step::Gap => {
+        JoinerCall::Nothing(piece) => joiner.piece(*piece).is_none(),
+        JoinerCall::Gives(piece, message) => joiner.piece(*piece) == Some(*message),
+        JoinerCall::Gap => {
             joiner.gap();
             true
         }
@@ -99,7 +99,7 @@ fn answers(joiner: &mut TextJoiner, step: &Step<'_>) -> bool {
 }
 
 // The first call that answers otherwise, if one does.
-fn wrong_step(steps: &[Step<'_>]) -> Option<usize> {
+fn wrong_step(steps: &[JoinerCall<'_>]) -> Option<usize> {
     let mut joiner = TextJoiner::new();
     for (k, step) in steps.iter().enumerate() {
         if !answers(&mut joiner, step) {

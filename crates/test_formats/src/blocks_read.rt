@@ -51,8 +51,8 @@ fn reads_blocks_of_both_forms(rt: HostRuntime) {
 
 #[test]
 fn tells_of_a_block_without_entities(rt: HostRuntime) {
-    let told = check_block(&[0x00, 0x1e, 0x0f], 24);
-    assert!(rt; told == Ok(BlockInfo { afs: 0, room: 0 }));
+    let info = check_block(&[0x00, 0x1e, 0x0f], 24);
+    assert!(rt; info == Ok(BlockInfo { afs: 0, room: 0 }));
 }
 
 const NO_BLOCKS: [(&[u8], u32, SdcFault); 5] = [

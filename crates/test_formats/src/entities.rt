@@ -1,6 +1,6 @@
 //! Data fields of known bytes. The bytes of the bodies were packed by a program in Python.
 
-use crate::said::{Said, bytes_of, numbers_of};
+use crate::said::{EntityNumbers, bytes_of, numbers_of};
 use drm_bits::NoMemory;
 use drm_sdc::{Body, Channel15, Channels, Entities, Entity, Octets, SdcFault, read_entities};
 use std::alloc::Global;
@@ -96,12 +96,12 @@ fn ends_at_the_tail(rt: HostRuntime) {
     }
 }
 
-fn is_said(entity: &Entity, said: &Said) -> bool {
+fn is_said(entity: &Entity, said: &EntityNumbers) -> bool {
     let numbers = numbers_of(&entity.body);
     entity.version == said.0 && numbers.starts_with(said.1) && bytes_of(&entity.body) == said.2
 }
 
-fn are_said(entities: &[Entity], all_said: &[Said]) -> bool {
+fn are_said(entities: &[Entity], all_said: &[EntityNumbers]) -> bool {
     for (entity, said) in entities.iter().zip(all_said) {
         if !is_said(entity, said) {
             return false;
@@ -111,7 +111,7 @@ fn are_said(entities: &[Entity], all_said: &[Said]) -> bool {
 }
 
 // The field has these entities and no tail.
-fn has(alloc: Global, field: &[u8], all_said: &[Said]) -> bool {
+fn has(alloc: Global, field: &[u8], all_said: &[EntityNumbers]) -> bool {
     match read_entities(alloc, field) {
         Ok((entities, tail)) => {
             tail.as_slice().is_empty() && are_said(entities.as_slice(), all_said)
@@ -120,14 +120,14 @@ fn has(alloc: Global, field: &[u8], all_said: &[Said]) -> bool {
     }
 }
 
-const LABEL: [Said; 1] = [(false, &[1, 0, 0], b"Radio")];
+const LABEL: [EntityNumbers; 1] = [(false, &[1, 0, 0], b"Radio")];
 
 // A schedule, the parameters of the next channel, and a time.
 const SEVERAL: [u8; 16] = [
     0x08, 0x49, 0xab, 0x68, 0xeb, 0xcd, 0x05, 0xad, 0x2e, 0xd3, 0x08, 0x87, 0x53, 0x05, 0xfb, 0x81,
 ];
 
-const SEVERAL_SAID: [Said; 3] = [
+const SEVERAL_SAID: [EntityNumbers; 3] = [
     (false, &[4, 9, 0x55, 0x5a3, 0x2bcd], b""),
     (true, &[10, 1, 2, 9, 0, 3, 1, 6, 0x13], b""),
     (false, &[8, 60000, 23, 59, 0x81], b""),
@@ -139,7 +139,7 @@ const LISTS: [u8; 21] = [
     0x34, 0x56, 0x00, 0x0f, 0xff,
 ];
 
-const LISTS_SAID: [Said; 3] = [
+const LISTS_SAID: [EntityNumbers; 3] = [
     (false, &[3, 1, 0, 256, 0x5a, 0x9234, 0x7fff, 0x10000], b""),
     (true, &[5, 2, 1, 0x0100_0377, 1, 5], b"\xab\xcd"),
     (true, &[0, 1, 2, 2, 0x123, 0x456, 0, 0xfff], b""),
@@ -151,7 +151,7 @@ const SERVICES: [u8; 17] = [
     0x99,
 ];
 
-const SERVICES_SAID: [Said; 3] = [
+const SERVICES_SAID: [EntityNumbers; 3] = [
     (true, &[9, 3, 1, 2, 1, 1, 5, 0, 1, 0x15, 1], b"\xde\xad"),
     (false, &[12, 2, 1, 0x123456, 0xbeef], b""),
     (false, &[5, 1, 3, 5, 1, 2], b"\x99"),

@@ -151,9 +151,9 @@ fn put(frame: &mut [u8], at: usize, byte: u8) {
 }
 
 // A byte of the frame, what it becomes, and the fault that it has then.
-type Edit = (usize, u8, MdiFault);
+type FrameEdit = (usize, u8, MdiFault);
 
-fn comes_to(frame: &mut [u8], edit: &Edit) -> bool {
+fn comes_to(frame: &mut [u8], edit: &FrameEdit) -> bool {
     put(frame, edit.0, edit.1);
     has_fault(frame, edit.2)
 }
@@ -163,7 +163,7 @@ const WRONG_CRC: FacFault = FacFault::Crc {
     computed: 0x33,
 };
 
-const WRONG_ITEMS: [Edit; 14] = [
+const WRONG_ITEMS: [FrameEdit; 14] = [
     (0, b'+', MdiFault::Absent { name: *b"*ptr" }),
     (
         7,
@@ -214,7 +214,7 @@ const LONGER: MuxFault = MuxFault::StreamLength {
     described: 5,
 };
 
-const WRONG_STREAMS: [Edit; 3] = [
+const WRONG_STREAMS: [FrameEdit; 3] = [
     (66, b'S', MdiFault::Absent { name: *b"str0" }),
     (
         73,
@@ -299,7 +299,7 @@ const WRONG_BLOCK_CRC: SdcFault = SdcFault::Crc {
     computed: 0x6be6,
 };
 
-const WRONG_BLOCKS: [Edit; 3] = [
+const WRONG_BLOCKS: [FrameEdit; 3] = [
     (66, b'S', MdiFault::Absent { name: *b"sdc_" }),
     (73, 0x5b, MdiFault::Sdc(SdcFault::BlockLength { bits: 91 })),
     (84, 0xbf, MdiFault::Sdc(WRONG_BLOCK_CRC)),

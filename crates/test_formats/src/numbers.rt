@@ -6,10 +6,10 @@ ghost use Rattle.drm_bits.specs.Sink.{lender};
 use drm_bits::{BitSink, Bits, Short};
 
 // How many bits, their number, and how many are left.
-type Taken = (u32, u64, usize);
+type TakenBits = (u32, u64, usize);
 
 // The bits of a5 3c ff are 1 010 01010011 110011111111, cut here by hand.
-const CUT: [Taken; 5] = [
+const CUT: [TakenBits; 5] = [
     (1, 1, 23),
     (3, 2, 20),
     (8, 0x53, 12),
@@ -18,7 +18,7 @@ const CUT: [Taken; 5] = [
 ];
 
 // The next bits are so.
-fn takes(bits: &mut Bits<'_>, taken: &Taken) -> bool {
+fn takes(bits: &mut Bits<'_>, taken: &TakenBits) -> bool {
     taken.0 <= 64 && bits.take(taken.0) == Ok(taken.1) && bits.left() == taken.2
 }
 

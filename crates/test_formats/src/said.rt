@@ -3,7 +3,7 @@
 use drm_sdc::{AppMode, Body, Channels};
 
 /// An entity: whether its version is set, the type and the numbers of its body in their order, and the body's bytes.
-pub(crate) type Said = (bool, &'static [u32], &'static [u8]);
+pub(crate) type EntityNumbers = (bool, &'static [u32], &'static [u8]);
 
 /// The type and the numbers of a body, with zeros behind them.
 pub(crate) fn numbers_of(body: &Body) -> [u32; 12] {

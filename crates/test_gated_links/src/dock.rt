@@ -1,7 +1,7 @@
 //! A dock of links that wait for the last of them.
 
 ghost use Rattle.std.specs.Prelude.{◌≡◌, None, IfOk};
-ghost use Rattle.drm_links.specs.Told.{RisesWhere};
+ghost use Rattle.drm_links.specs.Known.{RisesWhere};
 ghost use Rattle.drm_links.specs.Dock.{IsFresh, IsFailed};
 
 use crate::link::GatedLink;
@@ -73,7 +73,7 @@ impl<'a> GatedDock<'a> {
 impl<'a> Dock for GatedDock<'a> {
     type L = GatedLink<'a>;
 
-    ghost known = { λ dock. record { faults = dock.faults; told = None } };
+    ghost known = { λ dock. record { faults = dock.faults; contents = None } };
 
     fn bind(&mut self, at: Address) -> Opened<GatedLink<'a>> {
         self.open(at)

@@ -41,7 +41,7 @@ impl<'a> GatedLink<'a> {
 }
 
 impl<'a> Link for GatedLink<'a> {
-    ghost known = { λ link. record { faults = link.inner.faults; told = None } };
+    ghost known = { λ link. record { faults = link.inner.faults; contents = None } };
 
     ghost idles = { λ link. link.idles };
 

@@ -1,7 +1,7 @@
 //! The three packets of the small trial schedule, and what is printed of them.
 
 ghost use Rattle.std.specs.Prelude.{OnOk};
-ghost use Rattle.drm_links.specs.MemoryLink.{IsUntouched};
+ghost use Rattle.drm_links.specs.MemoryLink.{IsUntouchedLink};
 
 use drm_bits::NoMemory;
 use drm_links::{LONGEST_DATAGRAM, MemLink};
@@ -57,8 +57,8 @@ pub fn reports(alloc: Global, receivers: usize) -> Result<Vec<u8>, AllocError> {
 
 /// Packets for the link to bring, one after another.
 pub(crate) fn bring(alloc: Global, link: &mut MemLink, packets: &[&[u8]]) -> Result<(), NoMemory>
-    requires { IsUntouched link.old }
-    ensures { OnOk result (IsUntouched link.new) }
+    requires { IsUntouchedLink link.old }
+    ensures { OnOk result (IsUntouchedLink link.new) }
 {
     for packet in packets {
         if packet.len() <= LONGEST_DATAGRAM {

@@ -1,6 +1,6 @@
 //! Docks in memory through their trait. The expected answers follow from the arguments by hand.
 
-ghost use Rattle.drm_links.specs.MemoryLink.{IsUntouched};
+ghost use Rattle.drm_links.specs.MemoryLink.{IsUntouchedLink};
 
 use crate::calls::{bytes_of, recv, was_sent};
 use drm_bits::NoMemory;
@@ -40,7 +40,7 @@ fn close<D: Dock>(dock: &mut D, at: Address, link: D::L) {
 
 // Puts a link there, where none stands.
 fn puts(dock: &mut MemDock, alloc: Global, at: Address, link: MemLink) -> bool
-    requires { IsUntouched link }
+    requires { IsUntouchedLink link }
 {
     !dock.has(at) && dock.put(alloc, at, link).is_ok()
 }

@@ -4,7 +4,7 @@ ghost use Rattle.std.specs.Prelude.{◌≡◌, Some};
 
 use dcp_collect::Taken;
 use drm_paths::{Given, Road, open_paths};
-use report_journal::{Event, Journal, Settings};
+use report_journal::{Event, Journal, JournalOptions};
 use std::alloc::Global;
 use std::marker::Brand;
 use std::sync::Wait;
@@ -14,7 +14,7 @@ use std::sync::ledger::Blank;
 const FRAGMENT: &[u8] =
     b"PF\x00\x00\x00\x00\x00\x00\x00\x0a\x80\x10\x6e\x00\x9e\xb6\x41\x2a\x44\x00\x63\x45\x00\x6d\x00\x49\x00\xc4\xfc\x40\xa9\x26";
 
-const SETTINGS: Settings = Settings {
+const SETTINGS: JournalOptions = JournalOptions {
     window: 8,
     reach: 32767,
     first: Some(0),
@@ -49,7 +49,7 @@ fn a_datagram_of_two_paths_is_kept_and_then_repeated(rt: HostRuntime) {
 // Whether each of two paths has taken the datagram.
 fn both_take_it<G: Road, R: Wait>(rt: &R, alloc: Global, blank: Blank) -> bool
     requires blank { (blank.name ≡ G.name) × (blank.parts ≡ G.parts) × (G.parts ≡ 2) }
-    requires settings { (G.window ≡ 8) × (G.reach ≡ 32767) × (G.first ≡ Some 0) × (G.frames ≡ Some 3) }
+    requires options { (G.window ≡ 8) × (G.reach ≡ 32767) × (G.first ≡ Some 0) × (G.frames ≡ Some 3) }
 {
     let Ok((shared, paths)) = open_paths::<G>(alloc, blank, SETTINGS, 2) else {
         return false;

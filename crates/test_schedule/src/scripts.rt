@@ -7,7 +7,7 @@ use std::alloc::Global;
 use test_support::{Edit, SMALL, schedule};
 
 // The deliveries of one feed.
-type Feed<'a> = &'a [(u32, u32)];
+type FeedDeliveries<'a> = &'a [(u32, u32)];
 
 fn are(deliveries: &[Delivery], expected: &[(u32, u32)]) -> bool {
     for (k, delivery) in deliveries.iter().enumerate() {
@@ -23,8 +23,8 @@ fn is_script(
     alloc: Global,
     plan: &Schedule,
     text: &[u8],
-    first: Feed<'_>,
-    second: Feed<'_>,
+    first: FeedDeliveries<'_>,
+    second: FeedDeliveries<'_>,
 ) -> bool {
     match read_script(alloc, text, plan) {
         Ok(script) => {
@@ -66,8 +66,8 @@ fn delivers(
     alloc: Global,
     edits: &[Edit<'_>],
     text: &[u8],
-    first: Feed<'_>,
-    second: Feed<'_>,
+    first: FeedDeliveries<'_>,
+    second: FeedDeliveries<'_>,
 ) -> bool {
     match schedule(alloc, SMALL, edits) {
         Ok(plan) => is_script(alloc, &plan, text, first, second),

@@ -3,7 +3,7 @@
 ghost use Rattle.std.specs.Prelude.{◌≡◌, ◌<◌, ◌+◌, ◌^◌};
 
 use Before::{Resumed, Switch};
-use Item::{Gap, X, Y};
+use SeenItem::{Gap, X, Y};
 use drm_bits::{MuxDesc, Part};
 use drm_fac::{Channel, Mode};
 use drm_timeline::{Before, Seen, Signature, Tracker};
@@ -11,7 +11,7 @@ use std::process::Abort;
 
 // What a receiver sees at an item: a frame with one of two signatures, its position and its index.
 #[derive(Clone, Copy)]
-enum Item {
+enum SeenItem {
     Gap,
     X(u8, u8),
     Y(u8, u8),
@@ -58,7 +58,7 @@ fn frame(
     }))
 }
 
-fn answer(rt: &impl Abort, tracker: &mut Tracker, item: Item) -> Option<Before>
+fn answer(rt: &impl Abort, tracker: &mut Tracker, item: SeenItem) -> Option<Before>
     requires { tracker.old.calls < 2 ^ 62 }
     ensures { tracker.new.calls ≡ tracker.old.calls + 1 }
 {
@@ -71,13 +71,13 @@ fn answer(rt: &impl Abort, tracker: &mut Tracker, item: Item) -> Option<Before>
 
 // Each item stands with what is answered before it.
 #[derive(Clone, Copy)]
-struct Case<'a> {
+struct SwitchCase<'a> {
     name: &'a str,
-    items: &'a [(Item, Option<Before>)],
+    items: &'a [(SeenItem, Option<Before>)],
 }
 
-const CASES: [Case<'static>; 11] = [
-    Case {
+const CASES: [SwitchCase<'static>; 11] = [
+    SwitchCase {
         name: "a missing frame was named",
         items: &[
             (X(0, 1), None),
@@ -88,7 +88,7 @@ const CASES: [Case<'static>; 11] = [
         ],
     },
     // 6 is named, and then 1 - 1 + 3.
-    Case {
+    SwitchCase {
         name: "a later name replaces a name",
         items: &[
             (X(0, 2), None),
@@ -101,7 +101,7 @@ const CASES: [Case<'static>; 11] = [
         ],
     },
     // 3 is named, and then 1 - 1 + 6.
-    Case {
+    SwitchCase {
         name: "a later name puts the switch off",
         items: &[
             (X(0, 1), None),
@@ -113,7 +113,7 @@ const CASES: [Case<'static>; 11] = [
             (Gap, Some(Switch(6))),
         ],
     },
-    Case {
+    SwitchCase {
         name: "a frame with a new signature was named by each of the last three",
         items: &[
             (X(0, 1), None),
@@ -124,12 +124,12 @@ const CASES: [Case<'static>; 11] = [
         ],
     },
     // The super frame began before the first item: 0 - 2 + 3.
-    Case {
+    SwitchCase {
         name: "the first frame is the last of its super frame",
         items: &[(X(2, 1), None), (Y(0, 0), Some(Switch(1)))],
     },
     // 3 names 3 - 0 + 3.
-    Case {
+    SwitchCase {
         name: "a frame that was named names another",
         items: &[
             (X(0, 1), None),
@@ -142,11 +142,11 @@ const CASES: [Case<'static>; 11] = [
             (X(1, 0), None),
         ],
     },
-    Case {
+    SwitchCase {
         name: "another signature after a gap",
         items: &[(X(0, 0), None), (Gap, None), (Y(2, 0), Some(Resumed(2)))],
     },
-    Case {
+    SwitchCase {
         name: "no frame before the first one",
         items: &[
             (Gap, None),
@@ -155,12 +155,12 @@ const CASES: [Case<'static>; 11] = [
             (X(1, 0), Some(Resumed(3))),
         ],
     },
-    Case {
+    SwitchCase {
         name: "the same signature after a gap",
         items: &[(X(0, 0), None), (Gap, None), (Gap, None), (X(0, 0), None)],
     },
     // The switch stands before the frame that was seen last, and so not between.
-    Case {
+    SwitchCase {
         name: "another signature after a switch and a frame",
         items: &[
             (X(2, 1), None),
@@ -169,7 +169,7 @@ const CASES: [Case<'static>; 11] = [
             (X(2, 0), Some(Resumed(3))),
         ],
     },
-    Case {
+    SwitchCase {
         name: "a switch before a missing frame stands between",
         items: &[
             (X(2, 1), None),
@@ -181,7 +181,7 @@ const CASES: [Case<'static>; 11] = [
     },
 ];
 
-fn follow(rt: &impl Abort, case: &Case<'_>) {
+fn follow(rt: &impl Abort, case: &SwitchCase<'_>) {
     assert!(rt; case.items.len() < 100);
     let mut tracker = Tracker::new();
     for (k, row) in case.items.iter().enumerate() {

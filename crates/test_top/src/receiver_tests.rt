@@ -14,14 +14,14 @@ const EMPTY: [u8; 12] = [
 
 // The calls of link and sink that fail, how the receiver ends, and what it has written.
 #[derive(Clone, Copy)]
-struct Case<'a> {
+struct ReceiverCase<'a> {
     link: &'a [u64],
     sink: &'a [u64],
     ended: Ended,
     text: &'a str,
 }
 
-fn receives(alloc: Global, case: &Case<'_>) -> Result<bool, NoMemory> {
+fn receives(alloc: Global, case: &ReceiverCase<'_>) -> Result<bool, NoMemory> {
     let mut link = MemLink::make(alloc, case.link, &[], 0)?;
     link.bring(alloc, &EMPTY)?;
     let mut out = MemSink::make(alloc, 2000, case.sink, 100)?;
@@ -46,33 +46,33 @@ fn receives(alloc: Global, case: &Case<'_>) -> Result<bool, NoMemory> {
     Ok(ended == case.ended && out.bytes() == case.text.as_bytes())
 }
 
-const CASES: [Case<'static>; 5] = [
-    Case {
+const CASES: [ReceiverCase<'static>; 5] = [
+    ReceiverCase {
         link: &[],
         sink: &[],
         ended: Ended::Done { clean: false },
         text: "feed 1\nbad 0 mdi absent:*ptr\nend idle given 0 missing 0 bad 1 refused 0\n",
     },
-    Case {
+    ReceiverCase {
         link: &[0],
         sink: &[],
         ended: Ended::LinkFailed,
         text: "feed 1\n",
     },
-    Case {
+    ReceiverCase {
         link: &[1],
         sink: &[],
         ended: Ended::LinkFailed,
         text: "feed 1\nbad 0 mdi absent:*ptr\n",
     },
-    Case {
+    ReceiverCase {
         link: &[],
         sink: &[0],
         ended: Ended::WriteFailed,
         text: "",
     },
     // The first line goes out in three calls, and each item in one.
-    Case {
+    ReceiverCase {
         link: &[],
         sink: &[4],
         ended: Ended::WriteFailed,
@@ -80,7 +80,7 @@ const CASES: [Case<'static>; 5] = [
     },
 ];
 
-fn does(alloc: Global, case: &Case<'_>) -> bool {
+fn does(alloc: Global, case: &ReceiverCase<'_>) -> bool {
     match receives(alloc, case) {
         Ok(is_so) => is_so,
         Err(NoMemory) => false,

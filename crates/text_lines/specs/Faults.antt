@@ -40,12 +40,12 @@ abbrev pub FailsAt : {F X : Type 0} → Option F → Result X F → Type 0
 FailsAt None said = Unit {0}
 FailsAt (Some f) said = said ≡ Err f
 
--- a call gives what the text says, or fails at its first fault, unless memory ran out; `told` is a call's fault as one of the text
+-- a call gives what the text says, or fails at its first fault, unless memory ran out; `line_fault` is a call's fault as one of the text
 abbrev pub GivesSaid : {P F X : Type 0} → (P → Option F) → Result X P → Result X F → Type 0
-GivesSaid told (Ok x) said = said ≡ Ok x
-GivesSaid told (Err p) said = FailsAt (told p) said
+GivesSaid line_fault (Ok x) said = said ≡ Ok x
+GivesSaid line_fault (Err p) said = FailsAt (line_fault p) said
 
 -- the same of a call that changes what it was given: what it left is what the text says
 abbrev pub LeavesSaid : {P F X : Type 0} → (P → Option F) → Result (Unit {0}) P → X → Result X F → Type 0
-LeavesSaid told (Ok done) new said = said ≡ Ok new
-LeavesSaid told (Err p) new said = FailsAt (told p) said
+LeavesSaid line_fault (Ok done) new said = said ≡ Ok new
+LeavesSaid line_fault (Err p) new said = FailsAt (line_fault p) said

@@ -5,9 +5,9 @@ use Rattle.std.proofs.lemmas.Bool.{eqb-true}
 use Rattle.std.proofs.lemmas.Grind.{flat_map-append}
 use Rattle.std.proofs.lemmas.List.{append-nil, take-append-drop, drop_more}
 use Rattle.hex.specs.Hex.{encode_with, encode_lower}
-use Rattle.drm_links.specs.Told.{Known}
-use Rattle.drm_links.specs.Sink.{Output, Outputs, WritesWhole}
-use Rattle.drm_links.proofs.ToldLemmas.{Outputs-weaker}
+use Rattle.drm_links.specs.Known.{Known}
+use Rattle.drm_links.specs.Sink.{Output, OutputsText, WritesWhole}
+use Rattle.drm_links.proofs.KnownLemmas.{OutputsText-weaker}
 use Rattle.drm_links.proofs.WritingLemmas.{Writes-broken}
 
 -- the piece at a place, and those before and after it
@@ -18,13 +18,13 @@ flat_map-split f xs i d within =
 
 -- all before a piece, and a front of it
 pub next_broken : {X E F : Type 0} (f : X → List ℕ) (xs : List X) (i : ℕ) (d : X) → i < length xs → (a b c : Known Output) (r : Result (Unit {0}) E) (other : E) (fault : F)
-    → Outputs a b (λ t. t ≡ flat_map f (take i xs)) → b.faults ≡ a.faults → r ≡ Err other → WritesWhole r b c (f (get_or xs i d))
+    → OutputsText a b (λ t. t ≡ flat_map f (take i xs)) → b.faults ≡ a.faults → r ≡ Err other → WritesWhole r b c (f (get_or xs i d))
     → (let broken : Result (Unit {0}) F = Err fault in WritesWhole broken a c (flat_map f xs))
 next_broken f xs i d within a b c r other fault done same is writes =
     let more : List ℕ = flat_map f (drop (i + 1) xs) in
     let first : List ℕ = f (get_or xs i d) in
     Writes-broken (flat_map f xs) first more a b c r other fault
-    (Outputs-weaker (λ t. t ≡ flat_map f (take i xs)) (λ t. t ++ (first ++ more) ≡ flat_map f xs) a b done
+    (OutputsText-weaker (λ t. t ≡ flat_map f (take i xs)) (λ t. t ++ (first ++ more) ≡ flat_map f xs) a b done
     (λ t all. ap (λ l. l ++ (first ++ more)) all ∙ sym (flat_map-split f xs i d within)))
     same is writes
 
@@ -44,7 +44,7 @@ pub digits_parts : (part behind whole : List ℕ) → part ++ behind ≡ whole �
 digits_parts part behind whole parts = ap encode_lower (sym parts) ∙ encode_lower-append part behind
 
 -- where nothing is left all digits were written
-pub digits_all : (whole rest : List ℕ) (a b : Known Output) → (length rest == 0) ≡ true → Outputs a b (λ text. text ++ encode_lower rest ≡ whole) → Outputs a b (λ text. text ≡ whole)
+pub digits_all : (whole rest : List ℕ) (a b : Known Output) → (length rest == 0) ≡ true → OutputsText a b (λ text. text ++ encode_lower rest ≡ whole) → OutputsText a b (λ text. text ≡ whole)
 unfolding encode_with
-digits_all whole [] a b none done = Outputs-weaker (λ text. text ++ [] ≡ whole) (λ text. text ≡ whole) a b done (λ text is. sym (append-nil text) ∙ is)
+digits_all whole [] a b none done = OutputsText-weaker (λ text. text ++ [] ≡ whole) (λ text. text ≡ whole) a b done (λ text is. sym (append-nil text) ∙ is)
 digits_all whole (x ∷ rest) a b none done = let no : length (x ∷ rest) ≡ 0 = eqb-true (length (x ∷ rest)) 0 none in absurd (omega (arith, no))

@@ -1,6 +1,6 @@
 -- Room for lines, as a sink.
 use Rattle.std.specs.Prelude.{ℕ, List}
-use Rattle.drm_links.specs.Told.{Known, told_for}
+use Rattle.drm_links.specs.Known.{Known, contents_for}
 use Rattle.drm_links.specs.Sink.{Output}
 
 -- what lies in it, the calls since it was cleared, and how many calls failed
@@ -11,4 +11,4 @@ pub record LinesState : Type 0 where
 
 abbrev pub lines_known : LinesState → Known Output
 lines_known lines =
-    record { faults = lines.faults; told = told_for lines.calls (record { written = lines.bytes; calls = lines.calls }) }
+    record { faults = lines.faults; contents = contents_for lines.calls (record { written = lines.bytes; calls = lines.calls }) }

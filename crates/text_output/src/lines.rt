@@ -44,7 +44,7 @@ impl Lines {
 
     /// Takes out what lies in it.
     pub fn clear(&mut self)
-        ensures { (lines_known self.new).told ≡ Some (record { written = []; calls = 0 }) }
+        ensures { (lines_known self.new).contents ≡ Some (record { written = []; calls = 0 }) }
     {
         self.bytes.clear();
         self.calls = 0;
@@ -52,7 +52,7 @@ impl Lines {
 
     /// What lies in it, where it still tells that.
     pub fn text(&self) -> Option<&[u8]>
-        ensures told { IsSome result ↔ IsSome (lines_known self.now).told }
+        ensures complete { IsSome result ↔ IsSome (lines_known self.now).contents }
         ensures text { IfSome result (λ text. text.now ≡ self.now.bytes) }
     {
         if self.calls <= MOST_CALLS {

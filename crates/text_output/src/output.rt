@@ -53,8 +53,8 @@ fn write_digits<O: Sink>(out: &mut O, bytes: &[u8]) -> Result<(), WriteFault>
     requires { length bytes.now ≤ 64 }
     ensures { WritesWhole result (O.known out.old) (O.known out.new) (encode_lower bytes.now) }
 {
-    let mut room = [0; 2 * AT_ONCE];
-    let digits = &mut room[..2 * bytes.len()];
+    let mut scratch = [0; 2 * AT_ONCE];
+    let digits = &mut scratch[..2 * bytes.len()];
     put_digits(bytes, digits);
     write_all(out, digits)
 }

@@ -1,5 +1,5 @@
 use Rattle.std.proofs.Common.{sym, subst}
-use Rattle.capture_reader.specs.declared.look.Found.{Found}
+use Rattle.capture_reader.specs.declared.look.BytesFront.{BytesFront}
 use Rattle.capture_reader.specs.Front.{PftFront}
 use Rattle.capture_reader.specs.Looking.{front_of}
 use Rattle.capture_reader.proofs.FrontParts.{fragment_found, fragment_refused}
@@ -11,5 +11,5 @@ returns-in-Ok c = λ bytes part.
 
 pub returns-in-Err : goal.returns-in-Err
 returns-in-Err c = λ bytes part.
-    let P : Found → Type 0 = λ found. PftFront bytes (front_of found) in
+    let P : BytesFront → Type 0 = λ found. PftFront bytes (front_of found) in
     subst P (sym c.found_for.ensures) (fragment_refused c.args.head.now bytes c.args.count c.in-Err.fault part c.requires.sync c.in-Err.ensures.fault)

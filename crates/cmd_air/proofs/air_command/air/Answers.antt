@@ -1,7 +1,7 @@
 use Rattle.std.proofs.Common.{◌∙◌, ap, Err, rules}
 use Rattle.std.proofs.lemmas.Result.{err_from_is_err_and}
 use Rattle.drm_schedule.specs.Valid.{IsSchedule}
-use Rattle.drm_links.proofs.ToldLemmas.{counts_as}
+use Rattle.drm_links.proofs.KnownLemmas.{counts_as}
 use Rattle.cmd_faults.proofs.CauseLemmas.{inner_fault}
 use Rattle.cmd_air.proofs.AirLemmas.{no_schedule, no_script, ran_over, feeds_are}
 use Rattle.cmd_air.proofs.air_command.air.Goals as goal

@@ -1,6 +1,6 @@
 use Rattle.std.proofs.Common.{[], ◌∷◌, ◌++◌, Err, ap, refl, sym, subst, ◌∙◌, arith}
 use Rattle.std.proofs.lemmas.Result.{err_from_is_err_and}
-use Rattle.recv_reading.proofs.Common.{capture_bounds, options_of, KeepsFirst, new_reading, Reached}
+use Rattle.recv_reading.proofs.Common.{capture_bounds, options_of, KeepsFirst, new_reading, ReadingReached}
 use Rattle.recv_reading.proofs.Finishing.{gives_so}
 use Rattle.recv_reading.proofs.Looping.{loop_none, capture_usable, rests_over, rests_waiting, loop_rests}
 use Rattle.recv_reading.proofs.Sources.{read_none}
@@ -15,9 +15,9 @@ packets-init g c =
     let out = g.O.Sink.known c.args.out.now in
     let err = g.E.Sink.known c.args.err.now in
     let used = c.args.cutter.now in (
-      loop_none (options_of c.args.collector.now (capture_bounds c.args.told)) _
+      loop_none (options_of c.args.collector.now (capture_bounds c.args.frame_limit)) _
           (Converting used c.args.progress.now out out err err) c.new-reading.result c.args.collector.now
-          (capture_usable c.args.told c.args.collector.now c.requires.window.0 c.requires.at_least_one c.requires.within_limit)
+          (capture_usable c.args.frame_limit c.args.collector.now c.requires.window.0 c.requires.at_least_one c.requires.within_limit)
           (c.new-reading.ensures ∙ ap new_reading c.of_capture.ensures) c.requires.collector
           (read_none (g.I.Source.known c.args.input.now) c.args.packets.now c.requires.packets)
           (subst (λ q. ConvertedAll used c.args.collector.now [] new_progress q out out err err)
@@ -47,12 +47,12 @@ returns-in_err-convert_next-clause-ends g c =
 pub packets-preserved-then-gives : goal.packets-preserved-then-gives
 packets-preserved-then-gives g c =
     let i = c.packets.invariant in
-    let options = options_of c.args.collector.now (capture_bounds c.args.told) in
+    let options = options_of c.args.collector.now (capture_bounds c.args.frame_limit) in
     let n = c.in_ok-convert_next.ensures.next in (
       one_given _ _ _ _ _ _ _ _ _ _ _ _ i.0 c.packets.cutter c.gives.new.self
           c.convert_next.new.collector c.convert_next.new.progress c.in_ok-convert_next.field-0
           (g.O.Sink.known c.convert_next.new.out) (g.E.Sink.known c.convert_next.new.err) n i.1
-          (subst (λ d. Reached options i.0.answers i.0.taken i.0.during (i.0.more ++ n.item ∷ [])
+          (subst (λ d. ReadingReached options i.0.answers i.0.taken i.0.during (i.0.more ++ n.item ∷ [])
           c.gives.new.self d) (sym c.convert_next.ensures.collector)
           (c.gives.ensures.reached options i.0.answers i.0.taken i.0.during i.0.more n.item
           i.0.reached c.if-gives.true n.is))
@@ -78,7 +78,7 @@ read_packet-requires-clause-waits g c =
 
 pub returns-in_err-read_packet-clause-ends : goal.returns-in_err-read_packet-clause-ends
 returns-in_err-read_packet-clause-ends g c =
-    let options = options_of c.args.collector.now (capture_bounds c.args.told) in
+    let options = options_of c.args.collector.now (capture_bounds c.args.frame_limit) in
     let e = err_from_is_err_and c.from_residual-in_err-read_packet.result
     c.from_residual-in_err-read_packet.ensures.1 in
     let here = loop_rests _ _ _ _ _ c.packets.invariant.0 c.gives.result c.gives.new.self c.gives.ensures.gives c.if-gives.false in
@@ -92,7 +92,7 @@ returns-in_err-read_packet-clause-ends g c =
 pub packets-preserved : goal.packets-preserved
 packets-preserved g c =
     let i = c.packets.invariant in
-    let options = options_of c.args.collector.now (capture_bounds c.args.told) in
+    let options = options_of c.args.collector.now (capture_bounds c.args.frame_limit) in
     let here = loop_rests _ _ _ _ _ i.0 c.gives.result c.gives.new.self c.gives.ensures.gives c.if-gives.false in (
       one_on _ _ _ _ _ _ _ _ _ _ _ _ here c.read_packet.new.packets
           (g.I.Source.known c.read_packet.new.input) c.in_ok-read_packet.field-0 c.read_packet.new.self

@@ -16,24 +16,24 @@ returns-in_err-buffer g c =
     rw (e.1 ∙ ap Err e.2)
     (not_opened c.reports_follow.ensures.headlines c.reports_follow.ensures.completes c.in_time_is_unbroken.ensures c.args.options.now c.requires c.args.at g.D.Dock.known c.args.dock.now)
 
-pub count_all-counted-requires-clause-nothing_came : goal.count_all-counted-requires-clause-nothing_came
-count_all-counted-requires-clause-nothing_came g c = heard_none (g.D.L.Link.known c.in-Link.link)
+pub count_all-counted-requires-clause-nothing_heard : goal.count_all-counted-requires-clause-nothing_heard
+count_all-counted-requires-clause-nothing_heard g c = heard_none (g.D.L.Link.known c.in-Link.link)
 
 pub returns-in-Ok : goal.returns-in-Ok
 returns-in-Ok g c =
     link_counted c.reports_follow.ensures.headlines c.reports_follow.ensures.completes c.in_time_is_unbroken.ensures c.args.options.now c.requires
     c.args.at g.D.Dock.known g.D.L.Link.known c.in-Link.link c.count_all-counted.new.from c.args.dock.now c.bind.new.self c.close.new.self
-    c.in-Link.ensures.opened c.bind.ensures.told (c.in-Link.ensures.cause.same (λ failed. failed)) c.close.ensures.gone c.close.ensures.told c.close.ensures.cause
+    c.in-Link.ensures.opened c.bind.ensures.counts_call (c.in-Link.ensures.cause.same (λ failed. failed)) c.close.ensures.gone c.close.ensures.counts_call c.close.ensures.cause
     c.in-Ok.totals c.in-Ok.ensures.counted
 
 pub returns-in-Link : goal.returns-in-Link
 returns-in-Link g c =
     link_failed c.reports_follow.ensures.headlines c.reports_follow.ensures.completes c.in_time_is_unbroken.ensures c.args.options.now c.requires
     c.args.at g.D.Dock.known g.D.L.Link.known c.in-Link.link c.count_all-counted.new.from c.args.dock.now c.bind.new.self c.close.new.self
-    c.in-Link.ensures.opened c.bind.ensures.told (c.in-Link.ensures.cause.same (λ failed. failed)) c.close.ensures.gone c.close.ensures.told c.close.ensures.cause
+    c.in-Link.ensures.opened c.bind.ensures.counts_call (c.in-Link.ensures.cause.same (λ failed. failed)) c.close.ensures.gone c.close.ensures.counts_call c.close.ensures.cause
     c.in-Err.field-0 c.in-Err.ensures.broken
 
 pub returns : goal.returns
 returns g c =
     none_opened c.reports_follow.ensures.headlines c.reports_follow.ensures.completes c.in_time_is_unbroken.ensures c.args.options.now c.requires
-    c.args.at g.D.Dock.known g.D.L.Link.known c.args.dock.now c.bind.new.self c.in-Failed.ensures.opened c.bind.ensures.told c.in-Failed.ensures.cause
+    c.args.at g.D.Dock.known g.D.L.Link.known c.args.dock.now c.bind.new.self c.in-Failed.ensures.opened c.bind.ensures.counts_call c.in-Failed.ensures.cause

@@ -1,9 +1,9 @@
 use Rattle.std.proofs.Common.{◌∙◌, ap, Err, subst}
 use Rattle.std.proofs.lemmas.Result.{err_from_is_err_and}
-use Rattle.drm_links.specs.Told.{HasCause}
+use Rattle.drm_links.specs.Known.{HasCause}
 use Rattle.recv_reading.specs.Source.{StopsReading}
 use Rattle.recv_reading.proofs.Sources.{read_none}
-use Rattle.recv_report.specs.Received.{Broken}
+use Rattle.recv_report.specs.Received.{ReportBroken}
 use Rattle.cmd_count.specs.Run.{IsReadFailed, unseen}
 use Rattle.cmd_count.proofs.Running.{not_read, packets_counted, packets_stopped}
 use Rattle.cmd_count.proofs.command.count_packets.Goals as goal
@@ -20,13 +20,13 @@ returns-in_err-packets g c =
     rw (e.1 ∙ ap Err e.2)
     (not_read c.reports_follow.ensures.headlines c.reports_follow.ensures.completes c.in_time_is_unbroken.ensures c.args.options.now c.requires c.read_some_way.ensures g.I.Source.known c.args.input.now)
 
-pub count_all-requires-clause-nothing_came : goal.count_all-requires-clause-nothing_came
-count_all-requires-clause-nothing_came g c = read_none (g.I.Source.known c.args.input.now) c.in_ok-packets.packets c.in_ok-packets.ensures
+pub count_all-requires-clause-nothing_heard : goal.count_all-requires-clause-nothing_heard
+count_all-requires-clause-nothing_heard g c = read_none (g.I.Source.known c.args.input.now) c.in_ok-packets.packets c.in_ok-packets.ensures
 
 pub returns-in-Ok : goal.returns-in-Ok
 returns-in-Ok g c =
     packets_counted c.reports_follow.ensures.headlines c.reports_follow.ensures.completes c.in_time_is_unbroken.ensures c.args.options.now c.requires c.read_some_way.ensures
-    g.I.Source.known c.count_all.new.room c.args.input.now c.count_all.new.from c.in-Ok.totals c.in-Ok.ensures.counted c.in-Ok.ensures.cause
+    g.I.Source.known c.count_all.new.reader c.args.input.now c.count_all.new.from c.in-Ok.totals c.in-Ok.ensures.counted c.in-Ok.ensures.cause
 
 pub returns-in-Err-Capture : goal.returns-in-Err-Capture
 returns-in-Err-Capture g c =
@@ -35,5 +35,5 @@ returns-in-Err-Capture g c =
     rw c.into.ensures
     (packets_stopped c.reports_follow.ensures.headlines c.reports_follow.ensures.completes c.in_time_is_unbroken.ensures c.args.options.now c.requires c.read_some_way.ensures
     g.I.Source.known c.args.input.now c.count_all.new.from c.in-Err-Capture.stop
-    (subst (λ f. Broken c.args.options.now 1 (StopsReading f before after) (unseen tt) (unseen tt)) c.in-Err-Capture.field-0-is c.in-Err-Capture.ensures.broken)
+    (subst (λ f. ReportBroken c.args.options.now 1 (StopsReading f before after) (unseen tt) (unseen tt)) c.in-Err-Capture.field-0-is c.in-Err-Capture.ensures.broken)
     (subst (λ f. HasCause before after (IsReadFailed (Err f))) c.in-Err-Capture.field-0-is c.in-Err-Capture.ensures.cause))

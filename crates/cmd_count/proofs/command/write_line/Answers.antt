@@ -1,6 +1,6 @@
 use Rattle.std.proofs.Common.{inl, inr, ◌∙◌, ap, Ok, Err, refl}
 use Rattle.std.proofs.lemmas.Result.{err_from_is_err_and}
-use Rattle.drm_links.proofs.ToldLemmas.{counts_one, counts_none}
+use Rattle.drm_links.proofs.KnownLemmas.{counts_one, counts_none}
 use Rattle.cmd_faults.specs.declared.fault.Fault.TheVariants as faults
 use Rattle.cmd_receive.proofs.ReceiveLemmas.{no_fault}
 use Rattle.cmd_count.proofs.command.write_line.Goals as goal

@@ -1,8 +1,8 @@
 use Rattle.std.proofs.Common.{◌≡◌, ◌++◌, List, take, drop, length, vec_len, ◌∙◌, inl, inr, refl, sym, subst}
 use Rattle.std.proofs.lemmas.List.{take_at}
-use Rattle.drm_links.specs.Told.{KnownThrough}
+use Rattle.drm_links.specs.Known.{KnownThrough}
 use Rattle.recv_reading.specs.declared.options.ReceiveOptions.{ReceiveOptions}
-use Rattle.drm_links.specs.Dock.{Docked, Over}
+use Rattle.drm_links.specs.Dock.{DockKnownThrough, Over}
 use Rattle.link_group.specs.Reaching.{AreUp, HaveGone, HaveLinks, after_closes}
 use Rattle.link_group.specs.declared.member.Member.{Member}
 use Rattle.drm_gate.specs.Run.{GateRun}
@@ -11,8 +11,8 @@ use Rattle.cmd_gate.specs.Between.{passed_of}
 use Rattle.cmd_gate.proofs.PassingLemmas.{rules_same, only_of, goes_out, opened_out}
 use Rattle.cmd_gate.proofs.between.pass_to.Goals as goal
 
-pub returns-in-Ok-clause-told : goal.returns-in-Ok-clause-told
-returns-in-Ok-clause-told g c =
+pub returns-in-Ok-clause-passes_on : goal.returns-in-Ok-clause-passes_on
+returns-in-Ok-clause-passes_on g c =
     let known = g.D.L.Link.known in
     let to = c.args.to.now in
     let members : List (Member g.row.D-L.Denot) = c.in-Ok.members.items in
@@ -28,7 +28,7 @@ returns-in-Ok-clause-told g c =
     let d = g.D.Dock.known c.close_each.new.dock in
     let shut : KnownThrough b d (λ x y. (overs : List Over) → HaveGone known after overs → y ≡ after_closes overs to x) =
     subst (λ ms. KnownThrough b d (λ x y. (overs : List Over) → HaveGone known ms overs → y ≡ after_closes overs to x)) back c.close_each.ensures.closed in
-    let links : Docked a b (λ told. HaveLinks known told to before) = subst (λ ms. Docked a b (λ told. HaveLinks known told to ms)) (sym value) c.in-Ok.ensures.links in
+    let links : DockKnownThrough a b (λ contents. HaveLinks known contents to before) = subst (λ ms. DockKnownThrough a b (λ contents. HaveLinks known contents to ms)) (sym value) c.in-Ok.ensures.links in
     let up : AreUp before = subst (λ (ms : List (Member g.row.D-L.Denot)). AreUp ms) (sym value) c.in-Ok.ensures.up in
     let from = g.L.Link.known c.args.source.now in
     let from' = g.L.Link.known c.gate_one-ended.new.from in

@@ -7,11 +7,11 @@ use Rattle.cmd_input.proofs.reading.read_front.Goals as goal
 pub loop-len-preserved : goal.loop-len-preserved
 loop-len-preserved g c =
     let (filled, size, within, still) = c.loop-len.invariant in
-    let n : length c.loop-len.room ≡ c.loop-len.len + (length c.loop-len.room - c.loop-len.len) = omega (arith, within) in
-    let same : length c.read.new.buf ≡ length (take (length c.loop-len.room - c.loop-len.len) (drop c.loop-len.len c.loop-len.room)) = c.read.auto.buf in
-    let room : length (take (length c.loop-len.room - c.loop-len.len) (drop c.loop-len.len c.loop-len.room)) ≡ length c.loop-len.room - c.loop-len.len = grind (arith, common_steps, within) in
+    let n : length c.loop-len.buffer ≡ c.loop-len.len + (length c.loop-len.buffer - c.loop-len.len) = omega (arith, within) in
+    let same : length c.read.new.buf ≡ length (take (length c.loop-len.buffer - c.loop-len.len) (drop c.loop-len.len c.loop-len.buffer)) = c.read.auto.buf in
+    let room : length (take (length c.loop-len.buffer - c.loop-len.len) (drop c.loop-len.len c.loop-len.buffer)) ≡ length c.loop-len.buffer - c.loop-len.len = grind (arith, common_steps, within) in
     let few : c.in-Got.n ≤ length c.read.new.buf = omega (arith, same, c.in-Got.ensures.moves_bytes.1) in (
-      filled_more (g.I.Source.known c.args.input.now) (g.I.Source.known c.loop-len.input) (g.I.Source.known c.read.new.self) c.loop-len.len c.in-Got.n (length c.loop-len.room - c.loop-len.len) c.loop-len.room c.read.new.buf n c.in-Got.ensures.moves_bytes.0 few (c.in-Got.ensures.cause.same (λ failed. cc)) filled c.in-Got.ensures.bytes c.in-Got.ensures.told,
+      filled_more (g.I.Source.known c.args.input.now) (g.I.Source.known c.loop-len.input) (g.I.Source.known c.read.new.self) c.loop-len.len c.in-Got.n (length c.loop-len.buffer - c.loop-len.len) c.loop-len.buffer c.read.new.buf n c.in-Got.ensures.moves_bytes.0 few (c.in-Got.ensures.cause.same (λ failed. cc)) filled c.in-Got.ensures.bytes c.in-Got.ensures.counts_call,
       grind (arith, common_steps, size, same, room, within),
       grind (arith, common_steps, same, room, few, within),
       c.in-Got.ensures.cause.same (λ failed. cc) ∙ still,
@@ -21,4 +21,4 @@ pub returns-in-Failed-clause-failed : goal.returns-in-Failed-clause-failed
 returns-in-Failed-clause-failed g c =
     let (filled, size, within, still) = c.loop-len.invariant in
     subst (λ n. FailsBehind n (g.I.Source.known c.args.input.now) (g.I.Source.known c.read.new.self)) size
-    (filled_failed (g.I.Source.known c.args.input.now) (g.I.Source.known c.loop-len.input) (g.I.Source.known c.read.new.self) c.loop-len.len c.loop-len.room c.read.new.buf c.loop-len-test.true filled (c.in-Failed.ensures.cause.once refl) c.in-Failed.ensures.bytes c.in-Failed.ensures.told)
+    (filled_failed (g.I.Source.known c.args.input.now) (g.I.Source.known c.loop-len.input) (g.I.Source.known c.read.new.self) c.loop-len.len c.loop-len.buffer c.read.new.buf c.loop-len-test.true filled (c.in-Failed.ensures.cause.once refl) c.in-Failed.ensures.bytes c.in-Failed.ensures.counts_call)

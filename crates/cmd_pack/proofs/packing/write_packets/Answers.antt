@@ -1,6 +1,6 @@
 use Rattle.std.proofs.Common.{subst}
 use Rattle.std.proofs.lemmas.Result.{err_from_is_err_and}
-use Rattle.drm_links.proofs.ToldLemmas.{done_counts}
+use Rattle.drm_links.proofs.KnownLemmas.{done_counts}
 use Rattle.drm_links.proofs.WritingLemmas.{Writes-done}
 use Rattle.cmd_pack.specs.Units.{BeginsWith}
 use Rattle.cmd_pack.proofs.Files.{none_begins, wrong_begin}

@@ -1,10 +1,10 @@
 use Rattle.std.proofs.Common.{◌≡◌, ℕ, ◌+◌, ◌/◌, ◌%◌, min, length, List, take, sym, subst, ◌∙◌, arith}
 use Rattle.std.specs.Prelude.{Ok, Err}
 use Rattle.std.proofs.lemmas.Result.{err_from_is_err_and}
-use Rattle.drm_links.proofs.ToldLemmas.{done_counts}
+use Rattle.drm_links.proofs.KnownLemmas.{done_counts}
 use Rattle.drm_links.proofs.WritingLemmas.{Writes-done}
 use Rattle.drm_data.specs.Units.{unit_packet}
-use Rattle.drm_data.specs.Writing.{IsWritten}
+use Rattle.drm_data.specs.Writing.{IsWrittenPacket}
 use Rattle.cmd_pack.proofs.Written.{wrote_none, wrote_one, wrote_broken, wrote_all, ceil_is, WritesUnit}
 use Rattle.cmd_pack.proofs.packing.write_unit.Goals as goal
 
@@ -24,7 +24,7 @@ returns-in_err-write_all-clause-writes g c =
     let a = g.O.Sink.known c.args.out.now in
     let o = g.O.Sink.known c.write_all.new.out in
     let bytes : List ℕ = take c.unit_packet-len.result c.unit_packet-len.new.into in
-    let one = subst (λ n. IsWritten n (unit_packet q.id q.length q.continuity c.args.unit.now c.loop-k.k) bytes) i.0.size c.unit_packet-len.ensures.packet in
+    let one = subst (λ n. IsWrittenPacket n (unit_packet q.id q.length q.continuity c.args.unit.now c.loop-k.k) bytes) i.0.size c.unit_packet-len.ensures.packet in
     rw p.1
     (subst (λ d. WritesUnit (Err p.0) start.id d start.continuity c.args.unit.now a o) (sym c.requires.length)
     (wrote_broken start q c.args.unit.now c.loop-k.k a (g.O.Sink.known c.loop-k.out) o bytes c.write_all.result c.in_err-write_all.field-0.0 p.0 c.requires.id
@@ -35,7 +35,7 @@ loop-k-preserved g c =
     let i = c.loop-k.invariant in
     let q = c.loop-k.packer in
     let bytes : List ℕ = take c.unit_packet-len.result c.unit_packet-len.new.into in
-    let one = subst (λ n. IsWritten n (unit_packet q.id q.length q.continuity c.args.unit.now c.loop-k.k) bytes) i.0.size c.unit_packet-len.ensures.packet in (
+    let one = subst (λ n. IsWrittenPacket n (unit_packet q.id q.length q.continuity c.args.unit.now c.loop-k.k) bytes) i.0.size c.unit_packet-len.ensures.packet in (
       wrote_one c.args.packer.now q c.unit_packet-len.new.self c.args.unit.now c.loop-k.k (g.O.Sink.known c.args.out.now) (g.O.Sink.known c.loop-k.out) (g.O.Sink.known c.write_all.new.out) bytes
           i.0 (let e = i.1 in let below = c.loop-k-test.true in omega (arith, e, below)) one c.unit_packet-len.ensures.after (Writes-done c.in_ok-write_all.was c.write_all.ensures) (done_counts c.in_ok-write_all.was c.write_all.ensures.cause),
       i.1,

@@ -1,7 +1,7 @@
 use Rattle.std.proofs.Common.{sym, ◌∙◌, ap, Err}
-use Rattle.drm_links.proofs.ToldLemmas.{counts_as}
+use Rattle.drm_links.proofs.KnownLemmas.{counts_as}
 use Rattle.cmd_paths.specs.Faults.{fault_status}
-use Rattle.cmd_paths.specs.declared.fault.Fault.TheVariants as faults
+use Rattle.cmd_paths.specs.declared.fault.PathsFault.TheVariants as faults
 use Rattle.cmd_paths.proofs.StatusLemmas.{words_fault, write_fault}
 use Rattle.cmd_paths.proofs.command.run_paths.Goals as goal
 use Rattle.cmd_faults.proofs.CauseLemmas.{inner_fault}

@@ -1,6 +1,6 @@
 use Rattle.std.proofs.Common.{◌∙◌, ap, refl, Ok, Err}
 use Rattle.std.proofs.lemmas.Result.{err_from_is_err_and}
-use Rattle.drm_links.proofs.ToldLemmas.{counts_one, counts_none}
+use Rattle.drm_links.proofs.KnownLemmas.{counts_one, counts_none}
 use Rattle.cmd_paths.proofs.RunLemmas.{ended_early, ran_over, written, unfinished}
 use Rattle.cmd_paths.proofs.command.run_request.Goals as goal
 

@@ -5,64 +5,64 @@ use Rattle.std.proofs.lemmas.Grind.{common_steps}
 use Rattle.link_group.specs.declared.member.Member.{Member}
 use Rattle.link_group.proofs.CloseLemmas.{next_left, closing_first, close_more}
 use Rattle.link_group.proofs.BindLemmas.{as_members, member_at, members_many}
-use Rattle.cmd_paths.specs.declared.job.PathJob.{PathJob}
+use Rattle.cmd_paths.specs.declared.receiver.PathReceiver.{PathReceiver}
 use Rattle.cmd_paths.specs.Opening.{member_of}
 use Rattle.cmd_paths.proofs.Opening.{itself, closed_over}
 use Rattle.cmd_paths.proofs.open.close_links.Goals as goal
 
-pub loop-job-init : goal.loop-job-init
-loop-job-init g c =
-    let jobs : List (PathJob g.row.G.Denot g.row.D-L.Denot) = c.args.jobs.items in (
-      closing_first g.D.L.Link.known (as_members itself (map (λ job. job.link) jobs)) c.args.addresses.now (g.D.Dock.known c.args.dock.now),
+pub loop-receiver-init : goal.loop-receiver-init
+loop-receiver-init g c =
+    let receivers : List (PathReceiver g.row.G.Denot g.row.D-L.Denot) = c.args.receivers.items in (
+      closing_first g.D.L.Link.known (as_members itself (map (λ receiver. receiver.link) receivers)) c.args.addresses.now (g.D.Dock.known c.args.dock.now),
       search rules,
       omega arith,
       refl,
       λ fits. search rules,
     )
 
-pub loop-job-preserved : goal.loop-job-preserved
-loop-job-preserved g c =
-    let i = c.loop-job.invariant in
-    let k : ℕ = c.loop-job.k in
-    let jobs : List (PathJob g.row.G.Denot g.row.D-L.Denot) = c.args.jobs.items in
-    let links : List g.row.D-L.Denot = map (λ job. job.link) jobs in
-    let job : PathJob g.row.G.Denot g.row.D-L.Denot = c.in-Some.job in
-    let next : into_iter_items c.loop-job.job-iterator ≡ job ∷ into_iter_items c.next.new.self = search rules in
-    let left = next_left jobs (into_iter_items c.next.new.self) k job (sym next ∙ i.1) in
+pub loop-receiver-preserved : goal.loop-receiver-preserved
+loop-receiver-preserved g c =
+    let i = c.loop-receiver.invariant in
+    let k : ℕ = c.loop-receiver.k in
+    let receivers : List (PathReceiver g.row.G.Denot g.row.D-L.Denot) = c.args.receivers.items in
+    let links : List g.row.D-L.Denot = map (λ receiver. receiver.link) receivers in
+    let receiver : PathReceiver g.row.G.Denot g.row.D-L.Denot = c.in-Some.receiver in
+    let next : into_iter_items c.loop-receiver.receiver-iterator ≡ receiver ∷ into_iter_items c.next.new.self = search rules in
+    let left = next_left receivers (into_iter_items c.next.new.self) k receiver (sym next ∙ i.1) in
     let there = left.0 in
     let few = c.requires in
     let within : k < length c.args.addresses.now = omega (arith, there, few) in
-    let size = length-map jobs (λ (j : PathJob g.row.G.Denot g.row.D-L.Denot). j.link) in
+    let size = length-map receivers (λ (j : PathReceiver g.row.G.Denot g.row.D-L.Denot). j.link) in
     let inside : k < length links = omega (arith, there, size) in
     let sized = members_many itself links in
-    let link_is : slice_index_or links k job.link ≡ job.link = get_or-map (λ (j : PathJob g.row.G.Denot g.row.D-L.Denot). j.link) jobs k job job.link there ∙ ap (λ (j : PathJob g.row.G.Denot g.row.D-L.Denot). j.link) (left.1 job) in (
-      close_more g.D.L.Link.known (as_members itself links) c.args.addresses.now k c.get.result.now job.link (omega (arith, inside, sized)) within c.get.ensures
-          (λ d. ap (λ (m : Member g.row.D-L.Denot). m.link) (member_at itself links k job.link d inside) ∙ link_is) (member_of job.link)
-          (g.D.Dock.known c.args.dock.now) (g.D.Dock.known c.loop-job.dock) (g.D.Dock.known c.close.new.self) i.0 c.close.ensures.gone c.close.ensures.told,
+    let link_is : slice_index_or links k receiver.link ≡ receiver.link = get_or-map (λ (j : PathReceiver g.row.G.Denot g.row.D-L.Denot). j.link) receivers k receiver receiver.link there ∙ ap (λ (j : PathReceiver g.row.G.Denot g.row.D-L.Denot). j.link) (left.1 receiver) in (
+      close_more g.D.L.Link.known (as_members itself links) c.args.addresses.now k c.get.result.now receiver.link (omega (arith, inside, sized)) within c.get.ensures
+          (λ d. ap (λ (m : Member g.row.D-L.Denot). m.link) (member_at itself links k receiver.link d inside) ∙ link_is) (member_of receiver.link)
+          (g.D.Dock.known c.args.dock.now) (g.D.Dock.known c.loop-receiver.dock) (g.D.Dock.known c.close.new.self) i.0 c.close.ensures.gone c.close.ensures.counts_call,
       left.2,
       omega (arith, there),
       c.close.ensures.cause ∙ i.3,
       λ fits.
           let kept = c.put-fits.ensures fits in
-          ap (λ ps. ps ++ map (λ (j : PathJob g.row.G.Denot g.row.D-L.Denot). j.path) (into_iter_items c.next.new.self)) kept.1
-          ∙ (append_assoc c.loop-job.paths (job.path ∷ []) (map (λ (j : PathJob g.row.G.Denot g.row.D-L.Denot). j.path) (into_iter_items c.next.new.self))
-          ∙ (ap (λ js. c.loop-job.paths ++ map (λ (j : PathJob g.row.G.Denot g.row.D-L.Denot). j.path) js) (sym next) ∙ i.4 kept.0)),
+          ap (λ ps. ps ++ map (λ (j : PathReceiver g.row.G.Denot g.row.D-L.Denot). j.path) (into_iter_items c.next.new.self)) kept.1
+          ∙ (append_assoc c.loop-receiver.paths (receiver.path ∷ []) (map (λ (j : PathReceiver g.row.G.Denot g.row.D-L.Denot). j.path) (into_iter_items c.next.new.self))
+          ∙ (ap (λ js. c.loop-receiver.paths ++ map (λ (j : PathReceiver g.row.G.Denot g.row.D-L.Denot). j.path) js) (sym next) ∙ i.4 kept.0)),
     )
 
 pub returns-then-fits-clause-paths : goal.returns-then-fits-clause-paths
 returns-then-fits-clause-paths g c =
-    let none : into_iter_items c.loop-job.job-iterator ≡ [] = grind (arith, common_steps) in
-    sym (append-nil c.loop-job.paths)
-    ∙ (ap (λ js. c.loop-job.paths ++ map (λ (j : PathJob g.row.G.Denot g.row.D-L.Denot). j.path) js) (sym none) ∙ c.loop-job.invariant.4 c.if-fits.true)
+    let none : into_iter_items c.loop-receiver.receiver-iterator ≡ [] = grind (arith, common_steps) in
+    sym (append-nil c.loop-receiver.paths)
+    ∙ (ap (λ js. c.loop-receiver.paths ++ map (λ (j : PathReceiver g.row.G.Denot g.row.D-L.Denot). j.path) js) (sym none) ∙ c.loop-receiver.invariant.4 c.if-fits.true)
 
 pub returns-then-fits-clause-closed : goal.returns-then-fits-clause-closed
 returns-then-fits-clause-closed g c =
-    let none : into_iter_items c.loop-job.job-iterator ≡ [] = grind (arith, common_steps) in
-    closed_over (λ (j : PathJob g.row.G.Denot g.row.D-L.Denot). j.link) g.D.L.Link.known c.args.addresses.now c.args.jobs.items c.loop-job.k (g.D.Dock.known c.args.dock.now) (g.D.Dock.known c.loop-job.dock)
-    (sym none ∙ c.loop-job.invariant.1) c.loop-job.invariant.0
+    let none : into_iter_items c.loop-receiver.receiver-iterator ≡ [] = grind (arith, common_steps) in
+    closed_over (λ (j : PathReceiver g.row.G.Denot g.row.D-L.Denot). j.link) g.D.L.Link.known c.args.addresses.now c.args.receivers.items c.loop-receiver.k (g.D.Dock.known c.args.dock.now) (g.D.Dock.known c.loop-receiver.dock)
+    (sym none ∙ c.loop-receiver.invariant.1) c.loop-receiver.invariant.0
 
 pub returns-clause-closed : goal.returns-clause-closed
 returns-clause-closed g c =
-    let none : into_iter_items c.loop-job.job-iterator ≡ [] = grind (arith, common_steps) in
-    closed_over (λ (j : PathJob g.row.G.Denot g.row.D-L.Denot). j.link) g.D.L.Link.known c.args.addresses.now c.args.jobs.items c.loop-job.k (g.D.Dock.known c.args.dock.now) (g.D.Dock.known c.loop-job.dock)
-    (sym none ∙ c.loop-job.invariant.1) c.loop-job.invariant.0
+    let none : into_iter_items c.loop-receiver.receiver-iterator ≡ [] = grind (arith, common_steps) in
+    closed_over (λ (j : PathReceiver g.row.G.Denot g.row.D-L.Denot). j.link) g.D.L.Link.known c.args.addresses.now c.args.receivers.items c.loop-receiver.k (g.D.Dock.known c.args.dock.now) (g.D.Dock.known c.loop-receiver.dock)
+    (sym none ∙ c.loop-receiver.invariant.1) c.loop-receiver.invariant.0

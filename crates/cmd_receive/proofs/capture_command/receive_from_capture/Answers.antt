@@ -1,5 +1,5 @@
 use Rattle.std.proofs.Common.{ap}
-use Rattle.drm_links.proofs.ToldLemmas.{counts_as}
+use Rattle.drm_links.proofs.KnownLemmas.{counts_as}
 use Rattle.cmd_receive.specs.Stopping.{ending_captured}
 use Rattle.cmd_receive.proofs.CaptureLemmas.{written, ended_as, ended_early, ended_memory, ended_read, ended_write}
 use Rattle.cmd_receive.proofs.CaptureStatus.{capture_run}
@@ -7,16 +7,16 @@ use Rattle.cmd_receive.proofs.capture_command.receive_from_capture.Goals as goal
 
 pub returns : goal.returns
 returns g c =
-    let came = c.receive_capture.result in
+    let outcome = c.receive_capture.result in
     let run = c.receive_capture.ensures in
     record {
       run = rw c.captured_ending.ensures
-          (capture_run c.in_time_is_unbroken.ensures c.args.rules.now (ending_captured came) g.I.Source.known c.args.input.now c.receive_capture.new.input g.O.Sink.known c.args.out.now c.receive_capture.new.out
-          (ended_early came)
-          (ended_as c.args.rules.now (g.I.Source.known c.args.input.now) (g.I.Source.known c.receive_capture.new.input) (g.O.Sink.known c.args.out.now) (g.O.Sink.known c.receive_capture.new.out) came run.ended)
+          (capture_run c.in_time_is_unbroken.ensures c.args.rules.now (ending_captured outcome) g.I.Source.known c.args.input.now c.receive_capture.new.input g.O.Sink.known c.args.out.now c.receive_capture.new.out
+          (ended_early outcome)
+          (ended_as c.args.rules.now (g.I.Source.known c.args.input.now) (g.I.Source.known c.receive_capture.new.input) (g.O.Sink.known c.args.out.now) (g.O.Sink.known c.receive_capture.new.out) outcome run.ended)
           (written c.args.rules.now c.requires c.reports_follow.ensures.headlines c.reports_follow.ensures.completes c.read_some_way.ensures (g.I.Source.known c.args.input.now) (g.I.Source.known c.receive_capture.new.input)
-          g.O.Sink.known c.args.out.now c.receive_capture.new.out came run.ended)
-          (λ is. run.memory (ended_memory came is))
-          (counts_as (ended_read came) (λ is. ap ending_captured is) run.read)
-          (counts_as (ended_write came) (λ is. ap ending_captured is) run.write));
+          g.O.Sink.known c.args.out.now c.receive_capture.new.out outcome run.ended)
+          (λ is. run.memory (ended_memory outcome is))
+          (counts_as (ended_read outcome) (λ is. ap ending_captured is) run.read)
+          (counts_as (ended_write outcome) (λ is. ap ending_captured is) run.write));
     }

@@ -1,8 +1,8 @@
 use Rattle.std.proofs.Common.{◌≡◌, ◌∙◌, ap, refl, Err}
 use Rattle.std.proofs.lemmas.Result.{err_from_is_err_and}
 use Rattle.plan_writer.specs.Canonical.{canonical}
-use Rattle.drm_links.specs.Sink.{Outputs, IsFront}
-use Rattle.drm_links.proofs.ToldLemmas.{counts_as, counts_none}
+use Rattle.drm_links.specs.Sink.{OutputsText, IsPrefix}
+use Rattle.drm_links.proofs.KnownLemmas.{counts_as, counts_none}
 use Rattle.cmd_load.specs.Schedule.{checked}
 use Rattle.cmd_load.specs.declared.loading.ScheduleFault.TheVariants as schedule
 use Rattle.cmd_serve.specs.Check.{IsCanonical}
@@ -14,30 +14,30 @@ pub returns-in_err-schedule-clause-run : goal.returns-in_err-schedule-clause-run
 returns-in_err-schedule-clause-run g c =
     let p = err_from_is_err_and c.from_residual.result c.from_residual.ensures.1 in
     rw (p.1 ∙ ap Err p.2)
-    (refused_run (checked c.args.name.now) IsCanonical (λ text written. written ≡ text) IsFront g.S.Shelf.known c.args.shelf.now c.read_schedule.new.shelf g.O.Sink.known c.in_err-schedule.field-0.0 c.args.out.now
+    (refused_run (checked c.args.name.now) IsCanonical (λ text written. written ≡ text) IsPrefix g.S.Shelf.known c.args.shelf.now c.read_schedule.new.shelf g.O.Sink.known c.in_err-schedule.field-0.0 c.args.out.now
     (checked_fails c.args.name.now c.in_err-schedule.field-0.0 (g.S.Shelf.known c.args.shelf.now) (g.S.Shelf.known c.read_schedule.new.shelf) c.in_err-schedule.ensures.reads) (counts_as (λ is. ap Err is) (λ is. cc) c.in_err-schedule.ensures.cause))
 
 pub returns-in_err-text-clause-run : goal.returns-in_err-text-clause-run
 returns-in_err-text-clause-run g c =
     let p = err_from_is_err_and c.from_residual-in_err-text.result c.from_residual-in_err-text.ensures.1 in
     rw (p.1 ∙ ap Err p.2)
-    (refused_run (checked c.args.name.now) IsCanonical (λ text written. written ≡ text) IsFront g.S.Shelf.known c.args.shelf.now c.read_schedule.new.shelf g.O.Sink.known schedule.NoMemory c.args.out.now
+    (refused_run (checked c.args.name.now) IsCanonical (λ text written. written ≡ text) IsPrefix g.S.Shelf.known c.args.shelf.now c.read_schedule.new.shelf g.O.Sink.known schedule.NoMemory c.args.out.now
     (checked_unwritten c.args.name.now c.in_ok-schedule.schedule (g.S.Shelf.known c.args.shelf.now) (g.S.Shelf.known c.read_schedule.new.shelf) c.in_ok-schedule.ensures.reads) (counts_none (λ is. cc) (c.in_ok-schedule.ensures.cause.same (λ is. cc))))
 
 pub returns-in_err-write_all-clause-run : goal.returns-in_err-write_all-clause-run
 returns-in_err-write_all-clause-run g c =
     let p = err_from_is_err_and c.from_residual-in_err-write_all.result c.from_residual-in_err-write_all.ensures.1 in
     let text_is : c.in_ok-text.text ≡ canonical c.in_ok-schedule.schedule = c.in_ok-text.ensures in
-    let front : Outputs (g.O.Sink.known c.args.out.now) (g.O.Sink.known c.write_all.new.out) (IsFront (canonical c.in_ok-schedule.schedule)) = rw (← text_is, ← c.as_slice.ensures) c.in_err-write_all.ensures.front in
+    let front : OutputsText (g.O.Sink.known c.args.out.now) (g.O.Sink.known c.write_all.new.out) (IsPrefix (canonical c.in_ok-schedule.schedule)) = rw (← text_is, ← c.as_slice.ensures) c.in_err-write_all.ensures.front in
     rw (p.1 ∙ ap Err p.2)
-    (cut_run (checked c.args.name.now) IsCanonical (λ text written. written ≡ text) IsFront g.S.Shelf.known c.args.shelf.now c.read_schedule.new.shelf g.O.Sink.known (canonical c.in_ok-schedule.schedule)
+    (cut_run (checked c.args.name.now) IsCanonical (λ text written. written ≡ text) IsPrefix g.S.Shelf.known c.args.shelf.now c.read_schedule.new.shelf g.O.Sink.known (canonical c.in_ok-schedule.schedule)
     (c.in_ok-schedule.schedule, rw (← c.schedule.view_is) c.schedule.invariant, refl) (checked_comes c.args.name.now c.in_ok-schedule.schedule (g.S.Shelf.known c.args.shelf.now) (g.S.Shelf.known c.read_schedule.new.shelf) c.in_ok-schedule.ensures.reads) (c.in_ok-schedule.ensures.cause.same (λ is. cc))
     c.args.out.now c.write_all.new.out front (c.in_err-write_all.ensures.cause.once refl))
 
 pub returns-clause-run : goal.returns-clause-run
 returns-clause-run g c =
     let text_is : c.in_ok-text.text ≡ canonical c.in_ok-schedule.schedule = c.in_ok-text.ensures in
-    let whole : Outputs (g.O.Sink.known c.args.out.now) (g.O.Sink.known c.write_all.new.out) (λ written. written ≡ canonical c.in_ok-schedule.schedule) = rw (← text_is, ← c.as_slice.ensures) c.in_ok-write_all.ensures.whole in
-    whole_run (checked c.args.name.now) IsCanonical (λ text written. written ≡ text) IsFront g.S.Shelf.known c.args.shelf.now c.read_schedule.new.shelf g.O.Sink.known (canonical c.in_ok-schedule.schedule)
+    let whole : OutputsText (g.O.Sink.known c.args.out.now) (g.O.Sink.known c.write_all.new.out) (λ written. written ≡ canonical c.in_ok-schedule.schedule) = rw (← text_is, ← c.as_slice.ensures) c.in_ok-write_all.ensures.whole in
+    whole_run (checked c.args.name.now) IsCanonical (λ text written. written ≡ text) IsPrefix g.S.Shelf.known c.args.shelf.now c.read_schedule.new.shelf g.O.Sink.known (canonical c.in_ok-schedule.schedule)
     (c.in_ok-schedule.schedule, rw (← c.schedule.view_is) c.schedule.invariant, refl) (checked_comes c.args.name.now c.in_ok-schedule.schedule (g.S.Shelf.known c.args.shelf.now) (g.S.Shelf.known c.read_schedule.new.shelf) c.in_ok-schedule.ensures.reads) (c.in_ok-schedule.ensures.cause.same (λ is. cc))
     c.args.out.now c.write_all.new.out whole (c.in_ok-write_all.ensures.cause.same (λ failed. cc))

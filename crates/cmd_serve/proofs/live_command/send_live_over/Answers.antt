@@ -1,9 +1,9 @@
 use Rattle.std.proofs.Common.{◌≡◌, ◌*◌, ◌∙◌, ap, subst, Err}
 use Rattle.std.proofs.lemmas.Result.{err_from_is_err_and}
-use Rattle.drm_links.proofs.ToldLemmas.{counts_as, counts_none}
+use Rattle.drm_links.proofs.KnownLemmas.{counts_as, counts_none}
 use Rattle.drm_schedule.specs.declared.plan.Plan.{Plan}
 use Rattle.drm_schedule.specs.Valid.{IsSchedule}
-use Rattle.drm_server.specs.Serving.{Serving}
+use Rattle.drm_server.specs.ServerState.{ServerState}
 use Rattle.cmd_load.specs.declared.loading.ScheduleFault.TheVariants as schedule
 use Rattle.cmd_load.proofs.ScheduleLemmas.{schedule_ran_out}
 use Rattle.live_server.specs.Links.{ServedLive}
@@ -34,7 +34,7 @@ returns-in_err-room-clause-run g c =
 pub returns-then-all_up-clause-run : goal.returns-then-all_up-clause-run
 returns-then-all_up-clause-run g c =
     let plan : Plan = c.in_ok-schedule.schedule in
-    let same : c.in_ok-server.server.base ≡ plan = ap (λ (s : Serving). s.base) c.in_ok-server.ensures in
+    let same : c.in_ok-server.server.base ≡ plan = ap (λ (s : ServerState). s.base) c.in_ok-server.ensures in
     let valid : IsSchedule plan = rw (← c.schedule.view_is) c.schedule.invariant in
     let members = c.args.members.now in
     let after = c.serve_live_links-sent.new.members in
@@ -48,7 +48,7 @@ returns-then-all_up-clause-run g c =
 pub returns-clause-run : goal.returns-clause-run
 returns-clause-run g c =
     let plan : Plan = c.in_ok-schedule.schedule in
-    let same : c.in_ok-server.server.base ≡ plan = ap (λ (s : Serving). s.base) c.in_ok-server.ensures in
+    let same : c.in_ok-server.server.base ≡ plan = ap (λ (s : ServerState). s.base) c.in_ok-server.ensures in
     let valid : IsSchedule plan = rw (← c.schedule.view_is) c.schedule.invariant in
     let members = c.args.members.now in
     let after = c.serve_live_links-sent.new.members in

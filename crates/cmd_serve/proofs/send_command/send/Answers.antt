@@ -1,6 +1,6 @@
 use Rattle.std.proofs.Common.{◌≡◌, ◌++◌, List, take, drop, length, vec_len, refl, ap, sym, ◌∙◌, subst, Err}
 use Rattle.std.proofs.lemmas.List.{take_at}
-use Rattle.drm_links.specs.Told.{KnownThrough}
+use Rattle.drm_links.specs.Known.{KnownThrough}
 use Rattle.cmd_faults.specs.declared.fault.Fault.TheVariants as faults
 use Rattle.drm_links.specs.Dock.{Over}
 use Rattle.link_group.specs.Reaching.{HaveGone, after_closes}
@@ -30,29 +30,29 @@ returns-in-Ok g c =
     subst (λ ms. KnownThrough b d (λ x y. (overs : List Over) → HaveGone known ms overs → y ≡ after_closes overs to x)) back c.close_each.ensures.closed in
     let same : d.faults ≡ a.faults = c.close_each.ensures.cause ∙ c.in-Ok.ensures.cause.same (λ is. cc) in
     let sent : SendRun (schedule_named c.args.name.now) to c.args.pace c.args.from c.send_over-sent.result g.S.Shelf.known c.args.shelf.now c.send_over-sent.new.shelf g.D.Dock.known c.args.dock.now c.close_each.new.dock =
-    over_links c.one_delivery.ensures c.first_ones_are_front.ensures (schedule_named c.args.name.now) to c.args.pace c.args.from c.send_over-sent.result g.S.Shelf.known c.args.shelf.now c.send_over-sent.new.shelf g.D.Dock.known c.args.dock.now c.close_each.new.dock
+    over_links c.one_delivery.ensures c.first_ones_are_prefix.ensures (schedule_named c.args.name.now) to c.args.pace c.args.from c.send_over-sent.result g.S.Shelf.known c.args.shelf.now c.send_over-sent.new.shelf g.D.Dock.known c.args.dock.now c.close_each.new.dock
     c.requires.different
     (links_run (schedule_named c.args.name.now) to c.args.pace c.args.from c.send_over-sent.result g.S.Shelf.known c.args.shelf.now c.send_over-sent.new.shelf g.D.Dock.known c.args.dock.now c.close_each.new.dock b known before after many run c.in-Ok.ensures.opened
-    (subst (λ ms. Rattle.drm_links.specs.Dock.Docked a b (λ told. Rattle.link_group.specs.Reaching.HaveLinks known told to ms)) (sym value) c.in-Ok.ensures.links) shut same) in
+    (subst (λ ms. Rattle.drm_links.specs.Dock.DockKnownThrough a b (λ contents. Rattle.link_group.specs.Reaching.HaveLinks known contents to ms)) (sym value) c.in-Ok.ensures.links) shut same) in
     record {
       run = sent;
-      unsent = λ e. nothing_sent c.one_delivery.ensures c.first_ones_are_front.ensures (schedule_named c.args.name.now) to c.args.pace c.args.from c.send_over-sent.result g.S.Shelf.known c.args.shelf.now c.send_over-sent.new.shelf g.D.Dock.known c.args.dock.now c.close_each.new.dock c.requires.different sent e;
+      unsent = λ e. nothing_sent c.one_delivery.ensures c.first_ones_are_prefix.ensures (schedule_named c.args.name.now) to c.args.pace c.args.from c.send_over-sent.result g.S.Shelf.known c.args.shelf.now c.send_over-sent.new.shelf g.D.Dock.known c.args.dock.now c.close_each.new.dock c.requires.different sent e;
       words = λ e. c.send_over-sent.ensures.words e;
       write = λ e. c.send_over-sent.ensures.write e;
     }
 
 pub returns-in-Err-NoMemory-clause-run : goal.returns-in-Err-NoMemory-clause-run
 returns-in-Err-NoMemory-clause-run g c =
-    unopened c.one_delivery.ensures c.first_ones_are_front.ensures (schedule_named c.args.name.now) c.args.to.now c.args.pace c.args.from (Err faults.NoMemory) g.S.Shelf.known c.args.shelf.now c.args.shelf.now g.D.Dock.known c.args.dock.now c.reach_each.new.dock
+    unopened c.one_delivery.ensures c.first_ones_are_prefix.ensures (schedule_named c.args.name.now) c.args.to.now c.args.pace c.args.from (Err faults.NoMemory) g.S.Shelf.known c.args.shelf.now c.args.shelf.now g.D.Dock.known c.args.dock.now c.reach_each.new.dock
     (record { fault = refl; unread = refl; unopened = c.reach_each.ensures.untouched (c.in-Err-NoMemory.is ∙ ap Err c.in-Err-NoMemory.field-0-is) })
 
 pub returns-in-Err-NoMemory-clause-unsent : goal.returns-in-Err-NoMemory-clause-unsent
 returns-in-Err-NoMemory-clause-unsent g c = λ e.
-    nothing_sent c.one_delivery.ensures c.first_ones_are_front.ensures (schedule_named c.args.name.now) c.args.to.now c.args.pace c.args.from (Err faults.NoMemory) g.S.Shelf.known c.args.shelf.now c.args.shelf.now g.D.Dock.known c.args.dock.now c.reach_each.new.dock c.requires.different
-    (unopened c.one_delivery.ensures c.first_ones_are_front.ensures (schedule_named c.args.name.now) c.args.to.now c.args.pace c.args.from (Err faults.NoMemory) g.S.Shelf.known c.args.shelf.now c.args.shelf.now g.D.Dock.known c.args.dock.now c.reach_each.new.dock
+    nothing_sent c.one_delivery.ensures c.first_ones_are_prefix.ensures (schedule_named c.args.name.now) c.args.to.now c.args.pace c.args.from (Err faults.NoMemory) g.S.Shelf.known c.args.shelf.now c.args.shelf.now g.D.Dock.known c.args.dock.now c.reach_each.new.dock c.requires.different
+    (unopened c.one_delivery.ensures c.first_ones_are_prefix.ensures (schedule_named c.args.name.now) c.args.to.now c.args.pace c.args.from (Err faults.NoMemory) g.S.Shelf.known c.args.shelf.now c.args.shelf.now g.D.Dock.known c.args.dock.now c.reach_each.new.dock
     (record { fault = refl; unread = refl; unopened = c.reach_each.ensures.untouched (c.in-Err-NoMemory.is ∙ ap Err c.in-Err-NoMemory.field-0-is) })) refl
 
 pub returns-in-Err-Link-clause-run : goal.returns-in-Err-Link-clause-run
 returns-in-Err-Link-clause-run g c =
-    closed c.one_delivery.ensures c.first_ones_are_front.ensures (schedule_named c.args.name.now) c.args.to.now c.args.pace c.args.from (Err faults.Link) g.S.Shelf.known c.args.shelf.now c.args.shelf.now g.D.Dock.known c.args.dock.now c.reach_each.new.dock
-    (record { fault = refl; unread = refl; told = c.reach_each.ensures.failed (c.in-Err-Link.is ∙ ap Err c.in-Err-Link.field-0-is); once = c.reach_each.ensures.cause.once (c.in-Err-Link.is ∙ ap Err c.in-Err-Link.field-0-is) })
+    closed c.one_delivery.ensures c.first_ones_are_prefix.ensures (schedule_named c.args.name.now) c.args.to.now c.args.pace c.args.from (Err faults.Link) g.S.Shelf.known c.args.shelf.now c.args.shelf.now g.D.Dock.known c.args.dock.now c.reach_each.new.dock
+    (record { fault = refl; unread = refl; contents = c.reach_each.ensures.failed (c.in-Err-Link.is ∙ ap Err c.in-Err-Link.field-0-is); once = c.reach_each.ensures.cause.once (c.in-Err-Link.is ∙ ap Err c.in-Err-Link.field-0-is) })

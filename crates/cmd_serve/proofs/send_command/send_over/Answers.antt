@@ -1,12 +1,12 @@
 use Rattle.std.proofs.Common.{◌≡◌, ◌-◌, ◌*◌, ◌∙◌, ap, refl, subst, inl, inr, slice_index_or, Ok, Err}
 use Rattle.std.proofs.lemmas.Result.{err_from_is_err_and}
-use Rattle.drm_links.proofs.ToldLemmas.{counts_as, counts_none}
+use Rattle.drm_links.proofs.KnownLemmas.{counts_as, counts_none}
 use Rattle.drm_schedule.specs.declared.plan.Plan.{Plan}
 use Rattle.drm_schedule.specs.Valid.{IsSchedule}
 use Rattle.link_group.specs.Reaching.{AreUp}
 use Rattle.drm_timeline.specs.Numbers.{frame_count}
-use Rattle.drm_server.specs.Serving.{Serving}
-use Rattle.drm_server.specs.Several.{Served}
+use Rattle.drm_server.specs.ServerState.{ServerState}
+use Rattle.drm_server.specs.Several.{MemberServed}
 use Rattle.cmd_faults.specs.declared.fault.Fault.TheVariants as faults
 use Rattle.cmd_load.specs.declared.loading.ScheduleFault.TheVariants as schedule
 use Rattle.cmd_load.proofs.ScheduleLemmas.{schedule_ran_out}
@@ -31,23 +31,23 @@ returns-in_err-server-clause-run g c =
 pub returns-then-all_up-clause-run : goal.returns-then-all_up-clause-run
 returns-then-all_up-clause-run g c =
     let plan : Plan = c.in_ok-schedule.schedule in
-    let same : c.in_ok-server.server.base ≡ plan = ap (λ (s : Serving). s.base) c.in_ok-server.ensures in
+    let same : c.in_ok-server.server.base ≡ plan = ap (λ (s : ServerState). s.base) c.in_ok-server.ensures in
     let valid : IsSchedule plan = rw (← c.schedule.view_is) c.schedule.invariant in
     let members = c.args.members.now in
     let after = c.serve_links.new.members in
     let up : AreUp after = c.all_up.ensures.0 c.if-all_up.true in
     sent_over (schedule_named c.args.name.now) c.args.pace c.args.from g.S.Shelf.known c.args.shelf.now c.read_schedule.new.shelf g.L.Link.known plan valid (Ok tt) members after c.serve_links.auto.members
     c.in_ok-schedule.ensures.reads (c.in_ok-schedule.ensures.cause.same (λ is. cc)) (inl refl) (λ is. cc) ((λ e. absurd cc), λ none. absurd (none up))
-    (λ k d within. subst (λ (p : Plan). Served p (3 * c.args.from) c.args.pace (frame_count p - 3 * c.args.from) g.L.Link.known (g.L.Link.known (slice_index_or members k d).link) (slice_index_or after k d)) same (c.serve_links.ensures.served k d within))
+    (λ k d within. subst (λ (p : Plan). MemberServed p (3 * c.args.from) c.args.pace (frame_count p - 3 * c.args.from) g.L.Link.known (g.L.Link.known (slice_index_or members k d).link) (slice_index_or after k d)) same (c.serve_links.ensures.served k d within))
 
 pub returns-clause-run : goal.returns-clause-run
 returns-clause-run g c =
     let plan : Plan = c.in_ok-schedule.schedule in
-    let same : c.in_ok-server.server.base ≡ plan = ap (λ (s : Serving). s.base) c.in_ok-server.ensures in
+    let same : c.in_ok-server.server.base ≡ plan = ap (λ (s : ServerState). s.base) c.in_ok-server.ensures in
     let valid : IsSchedule plan = rw (← c.schedule.view_is) c.schedule.invariant in
     let members = c.args.members.now in
     let after = c.serve_links.new.members in
     let down : AreUp after → ⊥ = λ up. let yes = c.all_up.ensures.1 up in let no = c.if-all_up.false in absurd cc in
     sent_over (schedule_named c.args.name.now) c.args.pace c.args.from g.S.Shelf.known c.args.shelf.now c.read_schedule.new.shelf g.L.Link.known plan valid (Err faults.Link) members after c.serve_links.auto.members
     c.in_ok-schedule.ensures.reads (c.in_ok-schedule.ensures.cause.same (λ is. cc)) (inr refl) (λ is. cc) ((λ e. down), λ none. refl)
-    (λ k d within. subst (λ (p : Plan). Served p (3 * c.args.from) c.args.pace (frame_count p - 3 * c.args.from) g.L.Link.known (g.L.Link.known (slice_index_or members k d).link) (slice_index_or after k d)) same (c.serve_links.ensures.served k d within))
+    (λ k d within. subst (λ (p : Plan). MemberServed p (3 * c.args.from) c.args.pace (frame_count p - 3 * c.args.from) g.L.Link.known (g.L.Link.known (slice_index_or members k d).link) (slice_index_or after k d)) same (c.serve_links.ensures.served k d within))

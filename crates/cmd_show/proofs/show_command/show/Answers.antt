@@ -1,7 +1,7 @@
 use Rattle.std.proofs.Common.{ℕ, ◌+◌, List, length, Ok, Err, refl, sym, ◌∙◌, ap, subst, arith}
 use Rattle.std.specs.Prelude.{not, ◌&&◌}
 use Rattle.std.proofs.lemmas.Result.{err_from_is_err_and}
-use Rattle.drm_links.proofs.ToldLemmas.{counts_one, counts_none, counts_then, once_then, done_counts, failed_counts}
+use Rattle.drm_links.proofs.KnownLemmas.{counts_one, counts_none, counts_then, once_then, done_counts, failed_counts}
 use Rattle.drm_links.proofs.WritingLemmas.{Writes-done, Writes-front}
 use Rattle.capture_reader.proofs.FrontLaws.{packet_size}
 use Rattle.cmd_faults.specs.declared.fault.Fault.TheVariants as faults

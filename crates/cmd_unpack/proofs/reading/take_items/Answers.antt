@@ -1,10 +1,10 @@
 use Rattle.std.proofs.Common.{◌+◌, [], ◌∷◌, ◌++◌, Err, ap, refl, sym, subst, ◌∙◌, arith}
 use Rattle.std.proofs.lemmas.Result.{err_from_is_err_and}
-use Rattle.drm_links.proofs.ToldLemmas.{done_counts}
+use Rattle.drm_links.proofs.KnownLemmas.{done_counts}
 use Rattle.drm_reconfiguration.specs.Tracker.{TrackerState}
 use Rattle.dcp_collect.specs.View.{item_of as given_of}
 use Rattle.mod_feed.specs.Items.{item_of}
-use Rattle.recv_reading.proofs.Common.{capture_bounds, options_of, State, new_reading, Reached}
+use Rattle.recv_reading.proofs.Common.{capture_bounds, options_of, CollectorState, new_reading, ReadingReached}
 use Rattle.recv_reading.proofs.Finishing.{gives_so}
 use Rattle.recv_reading.proofs.Looping.{loop_none, capture_usable, rests_over, rests_waiting, loop_rests}
 use Rattle.recv_reading.proofs.Sources.{read_none}
@@ -13,10 +13,10 @@ use Rattle.cmd_unpack.proofs.reading.take_items.Goals as goal
 
 pub items-init : goal.items-init
 items-init g c = (
-  loop_none (options_of c.args.collector.now (capture_bounds c.args.told)) _ (Taking c.args.taker.now c.args.taker.now c.new-feed.result.calls (g.O.Sink.known c.args.out.now) (g.O.Sink.known c.args.out.now))
-      c.new-reading.result c.args.collector.now (capture_usable c.args.told c.args.collector.now c.requires.window.0 c.requires.at_least_one c.requires.within_limit)
+  loop_none (options_of c.args.collector.now (capture_bounds c.args.frame_limit)) _ (Taking c.args.taker.now c.args.taker.now c.new-feed.result.calls (g.O.Sink.known c.args.out.now) (g.O.Sink.known c.args.out.now))
+      c.new-reading.result c.args.collector.now (capture_usable c.args.frame_limit c.args.collector.now c.requires.window.0 c.requires.at_least_one c.requires.within_limit)
       (c.new-reading.ensures ∙ ap new_reading c.of_capture.ensures) c.requires.collector (read_none (g.I.Source.known c.args.input.now) c.args.packets.now c.requires.packets)
-      (none_taken c.args.taker.now c.new-feed.result.calls c.args.collector.now (g.O.Sink.known c.args.out.now) (ap (λ (s : State). s.next) c.requires.collector)
+      (none_taken c.args.taker.now c.new-feed.result.calls c.args.collector.now (g.O.Sink.known c.args.out.now) (ap (λ (s : CollectorState). s.next) c.requires.collector)
       (ap (λ (f : TrackerState). f.calls) c.new-feed.ensures) c.requires.ready c.requires.none),
   refl,
   refl,
@@ -36,7 +36,7 @@ read_packet-requires-clause-waits g c =
 
 pub returns-in_err-read_packet-clause-takes : goal.returns-in_err-read_packet-clause-takes
 returns-in_err-read_packet-clause-takes g c = λ what new.
-    let options = options_of c.args.collector.now (capture_bounds c.args.told) in
+    let options = options_of c.args.collector.now (capture_bounds c.args.frame_limit) in
     let e = err_from_is_err_and c.from_residual-in_err-read_packet.result c.from_residual-in_err-read_packet.ensures.1 in
     let here = loop_rests _ _ _ _ _ c.items.invariant.0 c.gives.result c.gives.new.self c.gives.ensures.gives c.if-gives.false in
     rw (e.1 ∙ ap Err e.2)
@@ -46,7 +46,7 @@ returns-in_err-read_packet-clause-takes g c = λ what new.
 pub items-preserved : goal.items-preserved
 items-preserved g c =
     let i = c.items.invariant in
-    let options = options_of c.args.collector.now (capture_bounds c.args.told) in
+    let options = options_of c.args.collector.now (capture_bounds c.args.frame_limit) in
     let here = loop_rests _ _ _ _ _ i.0 c.gives.result c.gives.new.self c.gives.ensures.gives c.if-gives.false in (
       one_on _ _ _ _ _ _ _ _ _ _ _ here c.read_packet.new.packets (g.I.Source.known c.read_packet.new.input) c.in_ok-read_packet.field-0 c.read_packet.new.self c.read_packet.new.collector
           (c.in_ok-read_packet.ensures.reads c.args.input.now options here.answers here.taken here.during here.more here.heard here.reached),
@@ -65,15 +65,15 @@ returns-in_err-take-clause-takes g c = λ what new.
 pub items-preserved-then-gives : goal.items-preserved-then-gives
 items-preserved-then-gives g c =
     let i = c.items.invariant in
-    let options = options_of c.args.collector.now (capture_bounds c.args.told) in
+    let options = options_of c.args.collector.now (capture_bounds c.args.frame_limit) in
     let next = given_of c.in-Some.next in
     let (enough, now, small, given) = gives_so c.gives.result c.items.reading c.items.collector c.gives.new.self c.gives.ensures.gives c.if-gives.true in
     let after = after_given c.items.collector c.next.follows.lender-at-none now c.next.follows.holds-at-none in (
       one_taken _ _ _ _ _ _ _ _ _ _ _ i.0 c.take.new.self (g.O.Sink.known c.take.new.out) next (item_of c.step.result.item) c.take.result c.step.ensures.item c.take.ensures.takes
           c.gives.new.self c.next.follows.lender-at-none c.step.new.self.calls c.in_ok-take.field-0
-          (subst (λ d. Reached options i.0.answers i.0.taken i.0.during (i.0.more ++ next ∷ []) c.gives.new.self d) (sym after)
+          (subst (λ d. ReadingReached options i.0.answers i.0.taken i.0.during (i.0.more ++ next ∷ []) c.gives.new.self d) (sym after)
           (c.gives.ensures.reached options i.0.answers i.0.taken i.0.during i.0.more next i.0.reached c.if-gives.true c.in-Some.ensures.out.1))
-          (ap (λ (s : State). s.next) after) small c.step.ensures.counted c.in_ok-take.was c.take.ensures.ready c.take.ensures.grows,
+          (ap (λ (s : CollectorState). s.next) after) small c.step.ensures.counted c.in_ok-take.was c.take.ensures.ready c.take.ensures.grows,
       i.1,
       done_counts c.in_ok-take.was c.take.ensures.cause ∙ i.2,
     )

@@ -9,7 +9,7 @@ use Rattle.cmd_unpack.proofs.reading.take_items.Given as goal
 -- these items were taken, what is printed of them was written, and no call has failed
 abbrev pub invariant-items : goal.invariant-items
 invariant-items g l =
-    Loop (options_of l.fn.collector (capture_bounds l.fn.told)) (ReadSoFar l.packets (g.I.Source.known l.fn.input) (g.I.Source.known l.input))
+    Loop (options_of l.fn.collector (capture_bounds l.fn.frame_limit)) (ReadSoFar l.packets (g.I.Source.known l.fn.input) (g.I.Source.known l.input))
     (Taking l.fn.taker l.taker l.feed.calls (g.O.Sink.known l.fn.out) (g.O.Sink.known l.out)) l.reading l.collector
     × ((g.I.Source.known l.input).faults ≡ (g.I.Source.known l.fn.input).faults)
     × ((g.O.Sink.known l.out).faults ≡ (g.O.Sink.known l.fn.out).faults)

@@ -7,4 +7,4 @@ pub returns-clause-fragment : goal.returns-clause-fragment
 returns-clause-fragment c =
     let w = c.write_in in
     subst (IsFragmentOf c.args.shape.now c.args.seq c.args.packet.now c.args.i)
-    (sym (take-append-le w.result w.new.room _ (omega (arith, w.ensures.in_range, w.ensures.length)))) w.ensures.fragment
+    (sym (take-append-le w.result w.new.scratch _ (omega (arith, w.ensures.in_range, w.ensures.length)))) w.ensures.fragment

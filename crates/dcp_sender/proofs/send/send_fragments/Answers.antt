@@ -3,7 +3,7 @@ use Rattle.std.proofs.lemmas.Result.{err_from_is_err_and}
 use Rattle.dcp_pft.specs.Limits.{most_fragments}
 use Rattle.drm_links.specs.Link.{Traffic}
 use Rattle.drm_links.specs.Transmission.{LinkTransmits, WaitsBetween}
-use Rattle.drm_links.proofs.ToldLemmas.{counts_one, done_counts, failed_counts, once_then}
+use Rattle.drm_links.proofs.KnownLemmas.{counts_one, done_counts, failed_counts, once_then}
 use Rattle.drm_links.proofs.ManyCallsLemmas.{no_calls, more_calls, at_most}
 use Rattle.drm_links.proofs.TransmissionLemmas.{Transmits-nothing}
 use Rattle.dcp_sender.proofs.Taken.{taken}

@@ -15,4 +15,4 @@ invariant-loop-i g l =
     × MakesCalls (λ (t : Traffic). t.calls) l.i (g.L.Link.known l.fn.link) (g.L.Link.known l.link)
     × LinkTransmits (g.L.Link.known l.fn.link) (g.L.Link.known l.link) (MadeCalls l.i)
     × LinkTransmits (g.L.Link.known l.fn.link) (g.L.Link.known l.link) (WaitsBetween (replicate l.i 0) 0)
-    × (length l.room ≡ length l.fn.room)
+    × (length l.scratch ≡ length l.fn.scratch)

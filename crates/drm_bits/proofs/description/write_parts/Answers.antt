@@ -2,7 +2,7 @@ use Rattle.std.proofs.Common.{◌≡◌, List, Bool, take, ◌∙◌, ap, arith,
 use Rattle.std.proofs.lemmas.List.{take_all}
 use Rattle.drm_bits.specs.Fields.{spelled}
 use Rattle.drm_bits.specs.Description.{part_fields}
-use Rattle.drm_bits.specs.Sink.{Wrote}
+use Rattle.drm_bits.specs.Sink.{WroteBits}
 use Rattle.drm_bits.proofs.WroteLemmas.{each, then, wrote_none, wrote_more}
 use Rattle.drm_bits.proofs.PartLemmas.{part_bits, parts_each, part_fits}
 use Rattle.drm_bits.proofs.description.write_parts.Goals as goal
@@ -33,4 +33,4 @@ pub returns-clause-wrote : goal.returns-clause-wrote
 returns-clause-wrote c =
     let all : each part_bits (take c.loop-part.part-index c.args.parts.now) ≡ spelled (part_fields c.args.parts.now) =
     ap (each part_bits) (take_all c.loop-part.part-index c.args.parts.now c.loop-part-test.false) ∙ parts_each c.args.parts.now in
-    subst (λ (l : List Bool). Wrote l c.args.sink.now c.loop-part.sink) all c.loop-part.invariant.wrote
+    subst (λ (l : List Bool). WroteBits l c.args.sink.now c.loop-part.sink) all c.loop-part.invariant.wrote

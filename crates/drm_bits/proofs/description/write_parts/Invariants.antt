@@ -1,6 +1,6 @@
 use Rattle.std.proofs.Common.{◌≡◌, ◌+◌, ◌*◌, length, take}
 use Rattle.drm_bits.specs.Sink.{unwritten}
-use Rattle.drm_bits.specs.Sink.{Wrote}
+use Rattle.drm_bits.specs.Sink.{WroteBits}
 use Rattle.drm_bits.proofs.WroteLemmas.{each}
 use Rattle.drm_bits.proofs.PartLemmas.{part_bits}
 use Rattle.drm_bits.proofs.description.write_parts.Given as goal
@@ -9,6 +9,6 @@ use Rattle.drm_bits.proofs.description.write_parts.Given as goal
 abbrev pub invariant-loop-part : goal.invariant-loop-part
 invariant-loop-part l =
     record {
-      wrote : Wrote (each part_bits (take l.part-index l.parts)) l.fn.sink l.sink;
+      wrote : WroteBits (each part_bits (take l.part-index l.parts)) l.fn.sink l.sink;
       left : length (unwritten l.sink) + 24 * l.part-index ≡ length (unwritten l.fn.sink);
     }

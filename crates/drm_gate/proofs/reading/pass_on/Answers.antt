@@ -1,8 +1,8 @@
 use Rattle.std.proofs.Common.{ℕ, ◌++◌, ◌∷◌, [], Err, refl, sym, ◌∙◌, ap, subst, arith}
 use Rattle.std.proofs.lemmas.Result.{err_from_is_err_and}
-use Rattle.drm_links.specs.Hearing.{Heard}
+use Rattle.drm_links.specs.Hearing.{LinkHeard}
 use Rattle.drm_links.proofs.Hearing.{heard_none}
-use Rattle.recv_reading.proofs.Common.{new_reading, has_ended, KeepsFirst, Reached}
+use Rattle.recv_reading.proofs.Common.{new_reading, has_ended, KeepsFirst, ReadingReached}
 use Rattle.recv_reading.specs.Source.{BreaksLink}
 use Rattle.recv_reading.proofs.Finishing.{gives_so}
 use Rattle.recv_reading.proofs.Looping.{loop_none, rests_over, rests_waiting, loop_rests}
@@ -15,7 +15,7 @@ pub answers-init : goal.answers-init
 answers-init g c =
     let o = c.requires.options in
     let to = targets g.K.Link.known c.args.to.now in (
-      loop_none (rules_of c.args.collector.now c.args.options.now) (Heard (g.L.Link.known c.args.from.now) (g.L.Link.known c.args.from.now))
+      loop_none (rules_of c.args.collector.now c.args.options.now) (LinkHeard (g.L.Link.known c.args.from.now) (g.L.Link.known c.args.from.now))
           (HasPassed c.args.sender.now to to c.new-tally.result) c.new-reading.result c.args.collector.now
           (record { window = c.requires.window; frames = o.some_frames; most_frames = o.few_frames; idle = o.idle; limit = o.limit; most_datagrams = omega arith })
           (c.new-reading.ensures ∙ ap (λ (limit : ℕ). new_reading (record { frames = c.args.options.now.frames; idle = c.args.options.now.idle; limit = limit })) c.from.ensures)
@@ -55,7 +55,7 @@ answers-preserved-then-gives g c =
     let w = c.in_ok-pass_next.ensures.next in
     let to_next = sym c.pass_next.ensures.collector in (
       one_passed _ _ _ _ _ _ _ _ p c.answers.sender c.gives.new.self c.pass_next.new.collector c.pass_next.new.tally (targets g.K.Link.known c.pass_next.new.to) w.item w.one i.2 w.is
-          (subst (λ d. Reached rules p.answers p.taken p.during (p.more ++ w.item ∷ []) c.gives.new.self d) to_next
+          (subst (λ d. ReadingReached rules p.answers p.taken p.during (p.more ++ w.item ∷ []) c.gives.new.self d) to_next
           (c.gives.ensures.reached rules p.answers p.taken p.during p.more w.item p.reached c.if-gives.true w.is))
           (subst (λ d. KeepsFirst c.answers.collector d) to_next (λ first may. may)),
       i.1,
@@ -85,7 +85,7 @@ returns-in_err-read_on-clause-ends g c =
     let e = err_from_is_err_and c.from_residual-in_err-read_on.result c.from_residual-in_err-read_on.ensures.1 in
     rw (e.1 ∙ ap Err e.2)
     (link_broke rules c.args.sender.now from heard (targets g.K.Link.known c.args.to.now) (targets g.K.Link.known c.answers.to) c.in_err-read_on.field-0.0 c.in_err-read_on.ensures.kind
-    (loop_broken _ _ _ _ _ _ _ _ p (Heard from heard) (λ why. BreaksLink why from heard) c.in_err-read_on.field-0.0 c.read_on.new.self c.read_on.new.collector c.read_on.ensures.first waits
+    (loop_broken _ _ _ _ _ _ _ _ p (LinkHeard from heard) (λ why. BreaksLink why from heard) c.in_err-read_on.field-0.0 c.read_on.new.self c.read_on.new.collector c.read_on.ensures.first waits
     (c.in_err-read_on.ensures.reads c.args.from.now rules p.answers p.taken p.during p.more p.heard p.reached)))
 
 pub answers-preserved : goal.answers-preserved
@@ -95,9 +95,9 @@ answers-preserved g c =
     let heard = g.L.Link.known c.read_on.new.from in
     let i = c.answers.invariant in
     let p = loop_rests _ _ _ _ _ i.0 c.gives.result c.gives.new.self c.gives.ensures.gives c.if-gives.false in (
-      one_on _ _ _ _ _ _ _ _ p (Heard from heard) (λ why. BreaksLink why from heard) c.in_ok-read_on.field-0 c.read_on.new.self c.read_on.new.collector c.read_on.ensures.first
+      one_on _ _ _ _ _ _ _ _ p (LinkHeard from heard) (λ why. BreaksLink why from heard) c.in_ok-read_on.field-0 c.read_on.new.self c.read_on.new.collector c.read_on.ensures.first
           (c.in_ok-read_on.ensures.reads c.args.from.now rules p.answers p.taken p.during p.more p.heard p.reached),
       c.in_ok-read_on.ensures.cause.same (λ failed. failed) ∙ i.1,
       i.2,
-      c.read_on.ensures.room,
+      c.read_on.ensures.reader,
     )

@@ -1,7 +1,7 @@
 use Rattle.std.proofs.Common.{◌≡◌, ◌*◌, ◌+◌, ◌/◌, ◌++◌, ℕ, length, take, drop, arith, sym, ◌∙◌, ap, subst}
 use Rattle.drm_bits.specs.Bits.{bits_of}
 use Rattle.drm_bits.specs.Fields.{AreFields, spelled}
-use Rattle.drm_bits.specs.Sink.{Wrote, written, unwritten}
+use Rattle.drm_bits.specs.Sink.{WroteBits, written, unwritten}
 use Rattle.drm_bits.specs.declared.description.MuxDesc.{MuxDesc}
 use Rattle.drm_bits.proofs.BitsLemmas.{length-bits_of}
 use Rattle.drm_bits.proofs.FieldLemmas.{fields_spelled}
@@ -22,7 +22,7 @@ pub write-requires-clause-room : goal.write-requires-clause-room
 write-requires-clause-room c = omega (arith, ap length c.new-sink.ensures.unwritten, length-bits_of c.args.into.now, c.told-into, c.put_u8.ensures.remaining, c.requires.description.count)
 
 -- what is written in the end
-all : (c : goal.After-len) → Wrote (spelled (sdci_fields c.args.desc.now)) c.new-sink.result c.write.new.sink
+all : (c : goal.After-len) → WroteBits (spelled (sdci_fields c.args.desc.now)) c.new-sink.result c.write.new.sink
 all c = then c.put_u8.ensures.wrote c.write.ensures.wrote
 
 whole : (c : goal.After-len) → written c.write.new.sink ≡ spelled (sdci_fields c.args.desc.now)

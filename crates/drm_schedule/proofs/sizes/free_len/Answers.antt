@@ -9,8 +9,8 @@ of_lines c =
     subst P (sym c.entities_in_force.ensures)
     (of_those_in_force P c.args.config.now c.args.frame c.requires.some_block (each_of_lines c.args.config.now.blocks c.requires.each_block))
 
-pub told_len-requires-clause-within_limit : goal.told_len-requires-clause-within_limit
-told_len-requires-clause-within_limit c = (of_lines c).0
+pub len_with-requires-clause-within_limit : goal.len_with-requires-clause-within_limit
+len_with-requires-clause-within_limit c = (of_lines c).0
 
-pub told_len-requires-clause-each : goal.told_len-requires-clause-each
-told_len-requires-clause-each c = (of_lines c).1
+pub len_with-requires-clause-each : goal.len_with-requires-clause-each
+len_with-requires-clause-each c = (of_lines c).1

@@ -1,7 +1,7 @@
 use Rattle.std.proofs.Common.{◌≡◌, ℕ, inl, inr, List, Bool, length, take, arith, ap}
 use Rattle.std.proofs.lemmas.Result.{err_from_is_err_and}
 use Rattle.drm_bits.specs.Bits.{bits_of}
-use Rattle.drm_sdc.specs.Block.{IsOpen, IsFramed}
+use Rattle.drm_sdc.specs.Block.{IsBlockOpen, IsFramed}
 use Rattle.drm_sdc.proofs.BlockLaws.{field_fault, framed_length}
 use Rattle.drm_sdc.proofs.block.check_whole.Goals as goal
 
@@ -12,7 +12,7 @@ returns-in_err-check_entities-clause-fault c =
     rw (p.1, p.2) (field_fault c.in_err-check_entities.field-0.0 c.in_ok-afs.afs c.unpack_block.new.field parts.0 (take c.args.bits (bits_of c.args.value.now)) parts.1 parts.2 c.in_err-check_entities.ensures.fault)
 
 -- the field has as many bytes as were told
-same_room : (all : List Bool) (d afs : ℕ) (field : List ℕ) (check : List Bool) → IsOpen d all → IsFramed afs field check all → d ≡ length field
+same_room : (all : List Bool) (d afs : ℕ) (field : List ℕ) (check : List Bool) → IsBlockOpen d all → IsFramed afs field check all → d ≡ length field
 same_room all d afs field check is_open framed =
     elim (framed_length afs field check all framed) [
       | inl same ↦ elim is_open.form [ inl len ↦ omega (arith, len, same) | inr two ↦ absurd (omega (arith, two.0, same)) ]

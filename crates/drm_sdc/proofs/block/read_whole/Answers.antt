@@ -4,12 +4,12 @@ use Rattle.drm_bits.specs.Bits.{bits_of}
 use Rattle.drm_sdc.specs.declared.fault.SdcFault.{SdcFault}
 use Rattle.drm_sdc.specs.declared.fault.SdcFault.TheVariants.{NoMemory}
 use Rattle.drm_sdc.specs.Field.{IsFirstFault}
-use Rattle.drm_sdc.specs.Block.{IsFramed, IsChecked, IsBlockFault}
+use Rattle.drm_sdc.specs.Block.{IsFramed, IsBlockChecked, IsBlockFault}
 use Rattle.drm_sdc.proofs.BlockLaws.{field_fault}
 use Rattle.drm_sdc.proofs.block.read_whole.Goals as goal
 use Rattle.std.proofs.Common.{ℕ}
 
-in_field : (f : SdcFault) (afs : ℕ) (field : List ℕ) (check bits : List Bool) → IsFramed afs field check bits → IsChecked afs field check → (f ≡ NoMemory) ⊎ IsFirstFault field f → (f ≡ NoMemory) ⊎ IsBlockFault bits f
+in_field : (f : SdcFault) (afs : ℕ) (field : List ℕ) (check bits : List Bool) → IsFramed afs field check bits → IsBlockChecked afs field check → (f ≡ NoMemory) ⊎ IsFirstFault field f → (f ≡ NoMemory) ⊎ IsBlockFault bits f
 in_field f afs field check bits framed checked (inl none) = inl none
 in_field f afs field check bits framed checked (inr first) = inr (field_fault f afs field check bits framed checked first)
 

@@ -1,6 +1,6 @@
 use Rattle.std.proofs.Common.{ℕ, List, drop, arith, length-drop}
 use Rattle.std.proofs.lemmas.Result.{err_from_is_err_and}
-use Rattle.drm_sdc.specs.Field.{IsTail, IsNext}
+use Rattle.drm_sdc.specs.Field.{IsTail, IsNextEntity}
 use Rattle.drm_sdc.proofs.FieldLaws.{AreBytes}
 use Rattle.drm_sdc.proofs.EntityLaws.{small_rest}
 use Rattle.drm_sdc.proofs.Walk.{one_more, next_is, at_tail, at_fault, some_here, none_here}
@@ -17,7 +17,7 @@ loop-size-preserved c =
     let at : ℕ = c.loop-size.at in
     let n : ℕ = c.in-Some.size in
     let small : AreBytes field = λ i. omega (arith, c.type_inv.field i) in
-    let next : IsNext n (drop at field) = some_here c.in_ok-size.field-0 (λ m. IsNext m (drop at field)) n c.in-Some.is c.in_ok-size.ensures.entity in
+    let next : IsNextEntity n (drop at field) = some_here c.in_ok-size.field-0 (λ m. IsNextEntity m (drop at field)) n c.in-Some.is c.in_ok-size.ensures.entity in
     record {
       within = omega (arith, next.within, length-drop at field, c.loop-size.invariant.within);
       entities = _;

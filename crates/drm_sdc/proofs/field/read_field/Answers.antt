@@ -2,7 +2,7 @@ use Rattle.std.proofs.Common.{ℕ, ◌+◌, List, drop, sym, ◌∙◌, subst, a
 use Rattle.std.proofs.lemmas.List.{take_rest}
 use Rattle.std.proofs.lemmas.Result.{err_from_is_err_and}
 use Rattle.drm_sdc.specs.declared.entity.Entity.{Entity}
-use Rattle.drm_sdc.specs.Field.{IsTail, IsField, IsNext}
+use Rattle.drm_sdc.specs.Field.{IsTail, IsField, IsNextEntity}
 use Rattle.drm_sdc.proofs.FieldLaws.{AreBytes}
 use Rattle.drm_sdc.proofs.Walk.{IsBefore, one_more, at_tail, at_fault, some_here, none_here, entity_here}
 use Rattle.drm_sdc.proofs.field.read_field.Goals as goal
@@ -18,7 +18,7 @@ loop-entities-preserved c =
     let at : ℕ = c.loop-entities.at in
     let n : ℕ = c.in-Some.size in
     let small : AreBytes field = λ i. omega (arith, c.type_inv.field i) in
-    let next : IsNext n (drop at field) = some_here c.in_ok-size.field-0 (λ m. IsNext m (drop at field)) n c.in-Some.is c.in_ok-size.ensures.entity in
+    let next : IsNextEntity n (drop at field) = some_here c.in_ok-size.field-0 (λ m. IsNextEntity m (drop at field)) n c.in-Some.is c.in_ok-size.ensures.entity in
     let e : Entity = c.in_ok-entity.entity in
     record {
       within = omega (arith, next.within, length-drop at field, c.loop-entities.invariant.within);

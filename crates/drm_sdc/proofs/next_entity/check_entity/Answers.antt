@@ -3,7 +3,7 @@ use Rattle.std.proofs.lemmas.List.{length-take-le}
 use Rattle.std.specs.Str.{IsUtf8}
 use Rattle.drm_bits.specs.Bits.{bits_of}
 use Rattle.drm_bits.specs.Bits.{front}
-use Rattle.drm_sdc.specs.Reading.{described_length, described_kind, body_bits, has_body_length, IsSound}
+use Rattle.drm_sdc.specs.Reading.{described_length, described_kind, body_bits, has_body_length, IsWellFormedEntity}
 use Rattle.drm_sdc.specs.Field.{first_entity}
 use Rattle.drm_sdc.proofs.EntityLaws.{described-take}
 use Rattle.drm_sdc.proofs.next_entity.check_entity.Goals as goal
@@ -13,7 +13,7 @@ first : (bytes : List ℕ) (len : ℕ) → len ≡ described_length bytes → ta
 first bytes len is = ap (λ n. take (2 + n) bytes) is
 
 sound_when : (bytes : List ℕ) (len kind : ℕ) (bits : List Bool) → len ≡ described_length bytes → 2 + len ≤ length bytes → kind ≡ described_kind (first_entity bytes) → bits ≡ body_bits (first_entity bytes) → has_body_length kind bits len ≡ true
-    → (kind ≡ 1 → IsUtf8 (drop 2 (first_entity bytes))) → IsSound (first_entity bytes)
+    → (kind ≡ 1 → IsUtf8 (drop 2 (first_entity bytes))) → IsWellFormedEntity (first_entity bytes)
 sound_when bytes len kind bits is_len whole is_kind is_bits right text =
     let header : described_length (first_entity bytes) ≡ described_length bytes = described-take (2 + described_length bytes) bytes (omega arith) in
     record {

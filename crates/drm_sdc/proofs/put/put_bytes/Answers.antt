@@ -1,7 +1,7 @@
 use Rattle.std.proofs.Common.{◌≡◌, List, Bool, take, ◌∙◌, ap, arith, subst}
 use Rattle.std.proofs.lemmas.List.{take_all}
 use Rattle.drm_bits.specs.Bits.{digits, bits_of}
-use Rattle.drm_bits.specs.Sink.{Wrote}
+use Rattle.drm_bits.specs.Sink.{WroteBits}
 use Rattle.drm_bits.proofs.WroteLemmas.{each, wrote_none, wrote_more}
 use Rattle.drm_sdc.proofs.Written.{bytes_each}
 use Rattle.drm_sdc.proofs.put.put_bytes.Goals as goal
@@ -20,4 +20,4 @@ pub returns-clause-wrote : goal.returns-clause-wrote
 returns-clause-wrote c =
     let all : each (digits 8) (take c.loop-byte.byte-index c.args.bytes.now) ≡ bits_of c.args.bytes.now =
     ap (each (digits 8)) (take_all c.loop-byte.byte-index c.args.bytes.now c.loop-byte-test.false) ∙ bytes_each c.args.bytes.now in
-    subst (λ (l : List Bool). Wrote l c.args.sink.now c.loop-byte.sink) all c.loop-byte.invariant.wrote
+    subst (λ (l : List Bool). WroteBits l c.args.sink.now c.loop-byte.sink) all c.loop-byte.invariant.wrote

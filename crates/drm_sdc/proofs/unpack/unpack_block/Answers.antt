@@ -1,7 +1,7 @@
 use Rattle.std.proofs.Common.{◌≡◌, ◌+◌, ◌*◌, List, Bool, length, take, sym, arith, ap, subst, length-append}
 use Rattle.drm_bits.specs.Bits.{digits, bits_of}
 use Rattle.drm_bits.proofs.BitsLemmas.{length-bits_of}
-use Rattle.drm_sdc.specs.Block.{IsFramed, IsChecked}
+use Rattle.drm_sdc.specs.Block.{IsFramed, IsBlockChecked}
 use Rattle.drm_sdc.proofs.Frames.{framed, open_length, length-value}
 use Rattle.drm_sdc.proofs.unpack.unpack_block.Goals as goal
 
@@ -35,4 +35,4 @@ returns-clause-parts c =
     framed all c.behind_front-rest.result c.take_u8-afs.new.self c.unpack.new.bits c.args.bits (length c.args.field.now) c.take_u8-afs.result c.take_u16-stands.result c.unpack.new.bytes
     (sym (length-value c.args.value.now c.args.bits c.requires.length)) c.requires.open c.behind_front-rest.ensures.second c.behind_front-rest.ensures.first c.unpack.auto.bytes c.unpack.ensures.octets
     c.take_u8-afs.ensures.number c.take_u8-afs.ensures.rest c.unpack.ensures.bytes c.take_u16-stands.ensures.number in
-    (digits 16 c.take_u16-stands.result, frame, subst (λ n. IsChecked c.take_u8-afs.result c.unpack.new.bytes (digits 16 n)) (sym c.if-stands-computed.false) c.check_value-computed.ensures.check)
+    (digits 16 c.take_u16-stands.result, frame, subst (λ n. IsBlockChecked c.take_u8-afs.result c.unpack.new.bytes (digits 16 n)) (sym c.if-stands-computed.false) c.check_value-computed.ensures.check)

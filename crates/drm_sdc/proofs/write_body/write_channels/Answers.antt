@@ -2,7 +2,7 @@ use Rattle.std.proofs.Common.{◌≡◌, List, Bool, take, ◌∙◌, ap, arith,
 use Rattle.std.proofs.lemmas.List.{take_all}
 use Rattle.drm_bits.specs.Fields.{spelled}
 use Rattle.drm_sdc.specs.Bodies.{channel_fields}
-use Rattle.drm_bits.specs.Sink.{Wrote}
+use Rattle.drm_bits.specs.Sink.{WroteBits}
 use Rattle.drm_sdc.proofs.Fitting.{channel_fits}
 use Rattle.drm_bits.proofs.WroteLemmas.{each, then, wrote_none, wrote_more}
 use Rattle.drm_sdc.proofs.Written.{channel_bits, channels_each}
@@ -31,4 +31,4 @@ pub returns-clause-wrote : goal.returns-clause-wrote
 returns-clause-wrote c =
     let all : each channel_bits (take c.loop-channel.channel-index c.args.channels.now) ≡ spelled (channel_fields c.args.channels.now) =
     ap (each channel_bits) (take_all c.loop-channel.channel-index c.args.channels.now c.loop-channel-test.false) ∙ channels_each c.args.channels.now in
-    subst (λ (l : List Bool). Wrote l c.args.sink.now c.loop-channel.sink) all c.loop-channel.invariant.wrote
+    subst (λ (l : List Bool). WroteBits l c.args.sink.now c.loop-channel.sink) all c.loop-channel.invariant.wrote

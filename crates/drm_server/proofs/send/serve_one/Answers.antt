@@ -2,14 +2,14 @@ use Rattle.std.proofs.Common.{◌+◌, ℕ, Bool, refl, sym, subst}
 use Rattle.drm_links.specs.Transmission.{LinkTransmits}
 use Rattle.drm_server.specs.OneFrame.{SentFrame, SendsPartOfFrame}
 use Rattle.drm_server.specs.Several.{ServedBy, SentFrames}
-use Rattle.drm_server.specs.Serving.{Serving}
+use Rattle.drm_server.specs.ServerState.{ServerState}
 use Rattle.drm_server.proofs.SameFrame.{same_sent, same_part}
 use Rattle.drm_server.proofs.SeveralLemmas.{one_more_frame, cut_off}
 use Rattle.drm_server.proofs.send.serve_one.Goals as goal
 
 pub returns-in-Ok-clause-step : goal.returns-in-Ok-clause-step
 returns-in-Ok-clause-step g c = λ plan first start has within at before.
-    let server : Serving = c.args.server.now in
+    let server : ServerState = c.args.server.now in
     let pace = c.args.pace in
     let n = c.args.n in
     let sent = c.in-Ok.field-0 in
@@ -28,7 +28,7 @@ returns-in-Ok-clause-step g c = λ plan first start has within at before.
 
 pub returns-in-Err-clause-step : goal.returns-in-Err-clause-step
 returns-in-Err-clause-step g c = λ plan first start has within at before.
-    let server : Serving = c.args.server.now in
+    let server : ServerState = c.args.server.now in
     let pace = c.args.pace in
     let n = c.args.n in
     let b = g.L.Link.known c.args.member.now.link in

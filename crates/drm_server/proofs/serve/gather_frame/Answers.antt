@@ -1,7 +1,7 @@
 use Rattle.std.proofs.Common.{[], ◌∷◌, ◌≡◌, ◌++◌, take, refl, subst, ◌∙◌, arith}
 use Rattle.std.proofs.lemmas.List.{append-nil}
 use Rattle.std.proofs.lemmas.Result.{err_from_is_err_and}
-use Rattle.drm_links.proofs.ToldLemmas.{Outputs-nothing}
+use Rattle.drm_links.proofs.KnownLemmas.{OutputsText-nothing}
 use Rattle.drm_server.specs.Datagrams.{AreFirst}
 use Rattle.drm_server.proofs.DatagramLemmas.{next_datagram}
 use Rattle.drm_server.proofs.CaptureLemmas.{gathers_datagram, front_of_frame}
@@ -11,7 +11,7 @@ pub loop-i-init : goal.loop-i-init
 loop-i-init g c = (
   [],
   refl,
-  Outputs-nothing (g.O.Sink.known c.args.out.now) (λ text. take c.args.waiting c.args.room.now ++ [] ≡ text ++ take c.args.waiting c.args.room.now) (append-nil (take c.args.waiting c.args.room.now)),
+  OutputsText-nothing (g.O.Sink.known c.args.out.now) (λ text. take c.args.waiting c.args.scratch.now ++ [] ≡ text ++ take c.args.waiting c.args.scratch.now) (append-nil (take c.args.waiting c.args.scratch.now)),
   c.requires.room,
   refl,
   refl,
@@ -21,7 +21,7 @@ pub returns-in_err-waiting-clause-front : goal.returns-in_err-waiting-clause-fro
 returns-in_err-waiting-clause-front g c =
     let i = c.loop-i.invariant in
     let p = err_from_is_err_and c.from_residual.result c.from_residual.ensures.1 in
-    rw p.1 (front_of_frame c.args.loaded.now.plan c.args.loaded.now.frame c.loop-i.i i.0 (take c.args.waiting c.args.room.now) (take c.loop-i.waiting c.loop-i.room)
+    rw p.1 (front_of_frame c.args.loaded.now.plan c.args.loaded.now.frame c.loop-i.i i.0 (take c.args.waiting c.args.scratch.now) (take c.loop-i.waiting c.loop-i.scratch)
     (g.O.Sink.known c.args.out.now) (g.O.Sink.known c.loop-i.out) (g.O.Sink.known c.gather.new.out) i.1 i.2 c.in_err-waiting.ensures.front)
 
 pub loop-i-preserved : goal.loop-i-preserved
@@ -30,7 +30,7 @@ loop-i-preserved g c =
     let d = c.in_ok-waiting.ensures.gathered in (
       i.0 ++ d.0 ∷ [],
       next_datagram c.args.loaded.now.plan c.args.loaded.now.frame c.loop-i.i i.0 d.0 i.1 d.1,
-      gathers_datagram (take c.args.waiting c.args.room.now) i.0 d.0 (take c.loop-i.waiting c.loop-i.room) (take c.in_ok-waiting.waiting c.gather.new.room)
+      gathers_datagram (take c.args.waiting c.args.scratch.now) i.0 d.0 (take c.loop-i.waiting c.loop-i.scratch) (take c.in_ok-waiting.waiting c.gather.new.scratch)
           (g.O.Sink.known c.args.out.now) (g.O.Sink.known c.loop-i.out) (g.O.Sink.known c.gather.new.out) i.2 d.2,
       c.in_ok-waiting.ensures.remaining,
       c.gather.ensures.same_length ∙ i.4,

@@ -9,7 +9,7 @@ use Rattle.drm_server.proofs.serve.gather_frame.Given as goal
 abbrev pub invariant-loop-i : goal.invariant-loop-i
 invariant-loop-i g l =
     (datagrams : List (List ℕ)) × AreFirst l.fn.loaded.plan l.fn.loaded.frame l.i datagrams
-    × GathersDatagrams (take l.fn.waiting l.fn.room) (concat datagrams) (take l.waiting l.room) (g.O.Sink.known l.fn.out) (g.O.Sink.known l.out)
-    × (l.waiting + most_packet l.fn.loaded.plan.carry ≤ length l.room)
-    × (length l.room ≡ length l.fn.room)
+    × GathersDatagrams (take l.fn.waiting l.fn.scratch) (concat datagrams) (take l.waiting l.scratch) (g.O.Sink.known l.fn.out) (g.O.Sink.known l.out)
+    × (l.waiting + most_packet l.fn.loaded.plan.carry ≤ length l.scratch)
+    × (length l.scratch ≡ length l.fn.scratch)
     × ((g.O.Sink.known l.out).faults ≡ (g.O.Sink.known l.fn.out).faults)

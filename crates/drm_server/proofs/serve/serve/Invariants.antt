@@ -2,7 +2,7 @@ use Rattle.std.proofs.Common.{◌≡◌, ◌+◌, ◌*◌, ◌<◌, ◌≤◌, �
 use Rattle.std.specs.List.{concat}
 use Rattle.dcp_pft.specs.Limits.{most_packet, most_fragments}
 use Rattle.drm_server.specs.Datagrams.{AreOfFrames}
-use Rattle.drm_server.specs.Capture.{IsFrontOfCapture}
+use Rattle.drm_server.specs.Capture.{IsPrefixOfCapture}
 use Rattle.drm_server.specs.Gathering.{GathersDatagrams}
 use Rattle.drm_server.proofs.serve.serve.Given as goal
 
@@ -10,10 +10,10 @@ use Rattle.drm_server.proofs.serve.serve.Given as goal
 abbrev pub invariant-loop-n : goal.invariant-loop-n
 invariant-loop-n g l =
     (datagrams : List (List ℕ)) × AreOfFrames l.fn.loaded.base l.fn.first l.n datagrams
-    × GathersDatagrams [] (concat datagrams) (take l.waiting l.room) (g.O.Sink.known l.fn.out) (g.O.Sink.known l.out)
-    × (0 < l.waiting → IsFrontOfCapture l.fn.loaded.base l.fn.first (concat datagrams))
-    × (l.waiting + most_packet l.fn.loaded.base.carry ≤ length l.room)
-    × (length l.room ≡ length l.fn.room)
+    × GathersDatagrams [] (concat datagrams) (take l.waiting l.scratch) (g.O.Sink.known l.fn.out) (g.O.Sink.known l.out)
+    × (0 < l.waiting → IsPrefixOfCapture l.fn.loaded.base l.fn.first (concat datagrams))
+    × (l.waiting + most_packet l.fn.loaded.base.carry ≤ length l.scratch)
+    × (length l.scratch ≡ length l.fn.scratch)
     × ((g.O.Sink.known l.out).faults ≡ (g.O.Sink.known l.fn.out).faults)
     × (l.loaded.base ≡ l.fn.loaded.base)
     × (l.written ≡ length datagrams)

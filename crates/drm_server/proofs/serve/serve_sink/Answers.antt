@@ -7,7 +7,7 @@ pub invariant_of-server : goal.invariant_of-server
 invariant_of-server g c =
     let v = c.server.invariant in
     let waiting = c.server.inside.waiting in
-    let room = c.serve.new.room in
+    let room = c.serve.new.scratch in
     let rest = drop (length room) waiting.items in
     let same : most_packet c.serve.new.loaded.plan.carry ≡ most_packet c.server.inside.loaded.plan.carry =
     ap most_packet (c.serve.ensures.carry ∙ ap (λ (p : Plan). p.carry) c.serve.ensures.schedule ∙ sym v.0) in (

@@ -1,6 +1,6 @@
 use Rattle.std.proofs.Common.{ℕ, ◌≡◌, ◌+◌, length, subst, arith}
 use Rattle.std.proofs.lemmas.Bool.{both_ways}
-use Rattle.drm_text.specs.Reading.{EndsWell}
+use Rattle.drm_text.specs.Reading.{EndsWithCheck}
 use Rattle.drm_text.proofs.Spellings.{placed, found_by}
 use Rattle.drm_text.proofs.read.read_segment.Goals as goal
 
@@ -8,7 +8,7 @@ pub returns-then-not-ends_well-clause-only : goal.returns-then-not-ends_well-cla
 returns-then-not-ends_well-clause-only c = λ s is.
     let p = placed s c.args.bytes.now is in
     let place : length s.body + 2 ≡ c.from-len.result + 1 + 2 = omega (arith, p.long, c.from-len.ensures) in
-    let P : ℕ → Type 0 = λ n. EndsWell c.args.bytes.now n in
+    let P : ℕ → Type 0 = λ n. EndsWithCheck c.args.bytes.now n in
     both_ways c.ends_well.result c.if-not-ends_well.true (c.ends_well.ensures.1 (subst P place p.ends))
 
 pub returns-clause-found : goal.returns-clause-found

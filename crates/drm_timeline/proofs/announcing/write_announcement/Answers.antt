@@ -16,7 +16,7 @@ write_packed-requires-clause-room c =
 
 pub returns : goal.returns
 returns c = record {
-  told =
+  announces =
       tells_whole c.args.before.now c.args.config.now c.args.sf c.args.sink.now c.write_packed.new.sink
       (record { count = c.from-countdown.ensures; first = c.saturating_sub.ensures; is = c.free_in_countdown-free.ensures; counting = c.requires.counting; can = c.requires.can })
       c.write_packed.ensures.wrote;

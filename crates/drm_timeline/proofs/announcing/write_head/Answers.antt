@@ -7,7 +7,7 @@ use Rattle.drm_timeline.specs.Announcing.{next}
 use Rattle.drm_timeline.specs.Description.{description_of}
 use Rattle.drm_timeline.proofs.PackedLemmas.{wrote_two, room_one}
 use Rattle.drm_timeline.proofs.AnnouncingLemmas.{head_here, head_wrote}
-use Rattle.drm_timeline.proofs.ToldLemmas.{description_fits}
+use Rattle.drm_timeline.proofs.OwnLemmas.{description_fits}
 use Rattle.drm_timeline.proofs.announcing.write_head.Goals as goal
 
 pub write_next-spot-requires-clause-fits : goal.write_next-spot-requires-clause-fits

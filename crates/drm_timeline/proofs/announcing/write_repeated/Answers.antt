@@ -2,7 +2,7 @@ use Rattle.std.proofs.Common.{subst, [], ◌∷◌, map, cond}
 use Rattle.drm_timeline.specs.Announcing.{as_next, packed_in}
 use Rattle.drm_timeline.specs.Telling.{WroteEntities}
 use Rattle.drm_timeline.proofs.PackedLemmas.{wrote_none_of}
-use Rattle.drm_timeline.proofs.ToldLemmas.{next_fits}
+use Rattle.drm_timeline.proofs.OwnLemmas.{next_fits}
 use Rattle.drm_timeline.proofs.announcing.write_repeated.Goals as goal
 
 pub write_next-requires-clause-fits : goal.write_next-requires-clause-fits

@@ -2,12 +2,12 @@ use Rattle.std.proofs.Common.{◌∙◌, sym, ap, subst, Ok, Err}
 use Rattle.cmd_faults.specs.declared.fault.Fault.{Fault}
 use Rattle.cmd_faults.specs.declared.fault.Fault.TheVariants as faults
 use Rattle.cmd_faults.specs.Fault.{clean_status, WritesLine}
-use Rattle.drm_links.proofs.ToldLemmas.{counts_as}
+use Rattle.drm_links.proofs.KnownLemmas.{counts_as}
 use Rattle.cmd_faults.proofs.CauseLemmas.{one_failed_as, opening_as}
 use Rattle.cmd_faults.proofs.StatusLemmas.{one_is_memory, two_is_words, four_is_read, five_is_write, six_is_link}
 use Rattle.cmd_faults.specs.Lines.{fault_line}
 use Rattle.drm_top.specs.Outside.{outside}
-use Rattle.drm_top.proofs.CommandLemmas.{done_told, fault_told, by_status, to_status}
+use Rattle.drm_top.proofs.CommandLemmas.{done_reports, fault_reports, by_status, to_status}
 use Rattle.drm_top.proofs.HeadlineLemmas.{headline_of, not_a_fault}
 use Rattle.drm_top.proofs.command.run.Goals as goal
 
@@ -16,27 +16,27 @@ use Rattle.drm_top.proofs.command.run.Goals as goal
 pub returns-in-Ok-true-clause-runs : goal.returns-in-Ok-true-clause-runs
 returns-in-Ok-true-clause-runs g c = λ request asked. (
   Ok c.in-Ok-true.field-0,
-  c.execute.new.told,
+  c.execute.new.err_ok,
   c.execute.new.err,
-  (sym (ap clean_status c.in-Ok-true.field-0-test), done_told c.execute.new.told c.in-Ok-true.field-0 g.E.Sink.known c.execute.new.err),
+  (sym (ap clean_status c.in-Ok-true.field-0-test), done_reports c.execute.new.err_ok c.in-Ok-true.field-0 g.E.Sink.known c.execute.new.err),
   c.in-Ok-true.ensures.runs request asked,
 )
 
 pub returns-in-Ok-false-clause-runs : goal.returns-in-Ok-false-clause-runs
 returns-in-Ok-false-clause-runs g c = λ request asked. (
   Ok c.in-Ok-false.field-0,
-  c.execute.new.told,
+  c.execute.new.err_ok,
   c.execute.new.err,
-  (sym (ap clean_status c.in-Ok-false.field-0-test), done_told c.execute.new.told c.in-Ok-false.field-0 g.E.Sink.known c.execute.new.err),
+  (sym (ap clean_status c.in-Ok-false.field-0-test), done_reports c.execute.new.err_ok c.in-Ok-false.field-0 g.E.Sink.known c.execute.new.err),
   c.in-Ok-false.ensures.runs request asked,
 )
 
 pub returns-in-Err-clause-runs : goal.returns-in-Err-clause-runs
 returns-in-Err-clause-runs g c = λ request asked. (
   Err c.in-Err.fault,
-  c.execute.new.told,
+  c.execute.new.err_ok,
   c.execute.new.err,
-  (c.report_if.ensures.status, fault_told c.execute.new.told c.in-Err.fault g.E.Sink.known c.execute.new.err c.report_if.new.err c.report_if.ensures.line c.report_if.ensures.still),
+  (c.report_if.ensures.status, fault_reports c.execute.new.err_ok c.in-Err.fault g.E.Sink.known c.execute.new.err c.report_if.new.err c.report_if.ensures.line c.report_if.ensures.still),
   c.in-Err.ensures.runs request asked,
 )
 
@@ -53,14 +53,14 @@ returns-in-Err-clause-nothing g c = λ none.
 
 pub returns-in-Ok-true-clause-headline : goal.returns-in-Ok-true-clause-headline
 returns-in-Ok-true-clause-headline g c = λ request asked clean is.
-    headline_of c.in-Ok-true.field-0 c.execute.new.told
+    headline_of c.in-Ok-true.field-0 c.execute.new.err_ok
     (outside g.S.Shelf.known c.args.shelf.now c.execute.new.shelf g.I.Source.known c.args.input.now c.execute.new.input g.O.Sink.known c.args.out.now c.execute.new.out
     g.E.Sink.known c.args.err.now c.execute.new.err g.D.Dock.known c.args.dock.now c.execute.new.dock)
     request clean (ap clean_status c.in-Ok-true.field-0-test ∙ is) (c.in-Ok-true.ensures.runs request asked)
 
 pub returns-in-Ok-false-clause-headline : goal.returns-in-Ok-false-clause-headline
 returns-in-Ok-false-clause-headline g c = λ request asked clean is.
-    headline_of c.in-Ok-false.field-0 c.execute.new.told
+    headline_of c.in-Ok-false.field-0 c.execute.new.err_ok
     (outside g.S.Shelf.known c.args.shelf.now c.execute.new.shelf g.I.Source.known c.args.input.now c.execute.new.input g.O.Sink.known c.args.out.now c.execute.new.out
     g.E.Sink.known c.args.err.now c.execute.new.err g.D.Dock.known c.args.dock.now c.execute.new.dock)
     request clean (ap clean_status c.in-Ok-false.field-0-test ∙ is) (c.in-Ok-false.ensures.runs request asked)

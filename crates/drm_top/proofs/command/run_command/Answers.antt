@@ -1,8 +1,8 @@
 use Rattle.std.proofs.Common.{◌≡◌, ◌∙◌, inl, true, false, [], ◌∷◌, Err, refl, sym, ap, subst}
 use Rattle.drm_schedule.specs.Live.{is_any}
-use Rattle.drm_links.specs.Told.{IfBothKnown}
+use Rattle.drm_links.specs.Known.{IfBothKnown}
 use Rattle.link_group.specs.Reaching.{NothingSent}
-use Rattle.drm_links.proofs.ToldLemmas.{counts_none}
+use Rattle.drm_links.proofs.KnownLemmas.{counts_none}
 use Rattle.cmd_faults.specs.Fault.{whole_of}
 use Rattle.cmd_faults.proofs.CauseLemmas.{one_alone, other_alone, none_failed, opening_as}
 use Rattle.cmd_faults.specs.declared.fault.Fault.{Fault}
@@ -18,7 +18,7 @@ pub returns-in-Fac : goal.returns-in-Fac
 returns-in-Fac g c = record {
   words = λ e. c.fac.ensures.words (fault_of_whole c.whole.result c.fac.result faults.Words c.whole.ensures e);
   memory = λ e. absurd (c.fac.ensures.memory (fault_of_whole c.whole.result c.fac.result faults.NoMemory c.whole.ensures e));
-  run = rw c.in-Fac.is ((c.fac.result, c.whole.ensures, c.fac.ensures.run), refl, refl, (c.requires.told, refl));
+  run = rw c.in-Fac.is ((c.fac.result, c.whole.ensures, c.fac.ensures.run), refl, refl, (c.requires.err_ok, refl));
   read = λ _. one_alone (whole_cause c.whole.result c.fac.result faults.Read c.whole.ensures c.fac.ensures.run.read_cause) refl;
   write = whole_cause c.whole.result c.fac.result faults.Write c.whole.ensures c.fac.ensures.run.write_cause;
   opening = inl refl;
@@ -32,7 +32,7 @@ pub returns-in-Check : goal.returns-in-Check
 returns-in-Check g c = record {
   words = λ e. c.check.ensures.words (fault_of_whole c.whole-in-Check.result c.check.result faults.Words c.whole-in-Check.ensures e);
   memory = λ e. (refl, c.check.ensures.memory (fault_of_whole c.whole-in-Check.result c.check.result faults.NoMemory c.whole-in-Check.ensures e));
-  run = rw c.in-Check.is ((c.check.result, c.whole-in-Check.ensures, rw (← c.text.ensures) c.check.ensures.run), refl, refl, (c.requires.told, refl));
+  run = rw c.in-Check.is ((c.check.result, c.whole-in-Check.ensures, rw (← c.text.ensures) c.check.ensures.run), refl, refl, (c.requires.err_ok, refl));
   read = λ _. other_alone refl (whole_cause c.whole-in-Check.result c.check.result faults.Read c.whole-in-Check.ensures c.check.ensures.run.read_cause);
   write = whole_cause c.whole-in-Check.result c.check.result faults.Write c.whole-in-Check.ensures c.check.ensures.run.write_cause;
   opening = inl refl;
@@ -50,7 +50,7 @@ returns-then-is_empty g c =
     record {
       words = λ e. c.serve_live.ensures.words e;
       memory = λ e. c.serve_live.ensures.memory e;
-      run = rw (c.in-Serve.is, none, live) (rw (← c.text-name.ensures) c.serve_live.ensures.run, refl, (c.requires.told, refl));
+      run = rw (c.in-Serve.is, none, live) (rw (← c.text-name.ensures) c.serve_live.ensures.run, refl, (c.requires.err_ok, refl));
       read = λ _. c.serve_live.ensures.read;
       write = c.serve_live.ensures.write;
       opening = inl refl;
@@ -68,10 +68,10 @@ returns-else-is_empty g c =
     record {
       words = λ e. c.send_live.ensures.words e;
       memory = λ e. (c.send_live.ensures.memory e, refl);
-      run = rw c.in-Serve.is (sends c.in-Serve.name c.in-Serve.to c.in-Serve.pace c.in-Serve.from c.in-Serve.live c.send_live.result c.args.told.now (outside
+      run = rw c.in-Serve.is (sends c.in-Serve.name c.in-Serve.to c.in-Serve.pace c.in-Serve.from c.in-Serve.live c.send_live.result c.args.err_ok.now (outside
           g.S.Shelf.known c.args.shelf.now c.send_live.new.shelf g.I.Source.known c.args.input.now c.send_live.new.input g.O.Sink.known c.args.out.now c.args.out.now
           g.E.Sink.known c.args.err.now c.args.err.now g.D.Dock.known c.args.dock.now c.send_live.new.dock) some
-          (rw live (rw (← c.text-name.ensures) c.send_live.ensures.run), refl, (c.requires.told, refl)));
+          (rw live (rw (← c.text-name.ensures) c.send_live.ensures.run), refl, (c.requires.err_ok, refl)));
       read = c.send_live.ensures.read;
       write = counts_none c.send_live.ensures.write refl;
       opening = c.send_live.ensures.opening;
@@ -89,7 +89,7 @@ returns-then-is_empty-2 g c =
     record {
       words = λ e. c.serve.ensures.words (fault_of_whole c.whole-then-is_empty-2.result c.serve.result faults.Words c.whole-then-is_empty-2.ensures e);
       memory = λ e. (refl, c.serve.ensures.memory (fault_of_whole c.whole-then-is_empty-2.result c.serve.result faults.NoMemory c.whole-then-is_empty-2.ensures e));
-      run = rw (c.in-Serve.is, none, plain) (((c.serve.result, c.whole-then-is_empty-2.ensures, rw (← c.text-name.ensures) c.serve.ensures.run), refl), refl, (c.requires.told, refl));
+      run = rw (c.in-Serve.is, none, plain) (((c.serve.result, c.whole-then-is_empty-2.ensures, rw (← c.text-name.ensures) c.serve.ensures.run), refl), refl, (c.requires.err_ok, refl));
       read = λ _. other_alone refl (whole_cause c.whole-then-is_empty-2.result c.serve.result faults.Read c.whole-then-is_empty-2.ensures c.serve.ensures.run.read_cause);
       write = whole_cause c.whole-then-is_empty-2.result c.serve.result faults.Write c.whole-then-is_empty-2.ensures c.serve.ensures.run.write_cause;
       opening = inl refl;
@@ -106,10 +106,10 @@ returns-else-is_empty-2 g c =
     record {
       words = λ e. c.send.ensures.words (fault_of_whole c.whole-else-is_empty-2.result c.send.result faults.Words c.whole-else-is_empty-2.ensures e);
       memory = λ e. (refl, refl);
-      run = rw c.in-Serve.is (sends c.in-Serve.name c.in-Serve.to c.in-Serve.pace c.in-Serve.from c.in-Serve.live c.whole-else-is_empty-2.result c.args.told.now (outside
+      run = rw c.in-Serve.is (sends c.in-Serve.name c.in-Serve.to c.in-Serve.pace c.in-Serve.from c.in-Serve.live c.whole-else-is_empty-2.result c.args.err_ok.now (outside
           g.S.Shelf.known c.args.shelf.now c.send.new.shelf g.I.Source.known c.args.input.now c.args.input.now g.O.Sink.known c.args.out.now c.args.out.now
           g.E.Sink.known c.args.err.now c.args.err.now g.D.Dock.known c.args.dock.now c.send.new.dock) some
-          (rw plain ((c.send.result, c.whole-else-is_empty-2.ensures, rw (← c.text-name.ensures) c.send.ensures.run), refl), refl, (c.requires.told, refl)));
+          (rw plain ((c.send.result, c.whole-else-is_empty-2.ensures, rw (← c.text-name.ensures) c.send.ensures.run), refl), refl, (c.requires.err_ok, refl)));
       read = λ _. other_alone refl (whole_cause c.whole-else-is_empty-2.result c.send.result faults.Read c.whole-else-is_empty-2.ensures c.send.ensures.run.read_cause);
       write = counts_none (λ e. c.send.ensures.write (fault_of_whole c.whole-else-is_empty-2.result c.send.result faults.Write c.whole-else-is_empty-2.ensures e)) refl;
       opening = opening_as (g.D.Dock.known c.args.dock.now) (g.D.Dock.known c.send.new.dock) (λ is. c.whole-else-is_empty-2.ensures ∙ ap whole_of is) c.send.ensures.run.dock_cause;
@@ -131,7 +131,7 @@ pub receive_from_capture-requires : goal.receive_from_capture-requires
 receive_from_capture-requires g c = rw c.options_of-options.ensures (rw (c.in-Receive.is, c.in-None.is) at c.requires.range)
 
 pub returns-in-Some-clause-run : goal.returns-in-Some-clause-run
-returns-in-Some-clause-run g c = rw (c.in-Receive.is, c.in-Some.is) (rw c.options_of-options.ensures at c.receive.ensures.run, refl, refl, (c.requires.told, refl))
+returns-in-Some-clause-run g c = rw (c.in-Receive.is, c.in-Some.is) (rw c.options_of-options.ensures at c.receive.ensures.run, refl, refl, (c.requires.err_ok, refl))
 
 pub returns-in-Some-clause-read : goal.returns-in-Some-clause-read
 returns-in-Some-clause-read g c = λ _. none_failed (λ e. not_gate faults.Read (λ is. cc) (λ is. cc) (λ is. cc) (c.receive.ensures.run.kind faults.Read e)) refl refl
@@ -157,7 +157,7 @@ returns-in-None g c =
     record {
       words = λ e. run.kind faults.Words e;
       memory = λ e. run.untouched e;
-      run = rw (c.in-Receive.is, c.in-None.is) (rw c.options_of-options.ensures at run, refl, refl, (c.requires.told, refl));
+      run = rw (c.in-Receive.is, c.in-None.is) (rw c.options_of-options.ensures at run, refl, refl, (c.requires.err_ok, refl));
       read = λ _. one_alone run.read_cause refl;
       write = run.write_cause;
       opening = inl refl;
@@ -190,7 +190,7 @@ returns-in-Show g c =
     record {
       words = λ e. run.kind faults.Words e;
       memory = λ e. run.untouched e;
-      run = rw c.in-Show.is (run, refl, refl, (c.requires.told, refl));
+      run = rw c.in-Show.is (run, refl, refl, (c.requires.err_ok, refl));
       read = λ _. one_alone run.read_cause refl;
       write = run.write_cause;
       opening = inl refl;
@@ -206,7 +206,7 @@ returns-in-Exercise g c =
     record {
       words = λ e. not_else faults.Words (λ is. cc) (λ is. cc) (run.kind faults.Words e);
       memory = λ e. (refl, run.untouched e);
-      run = rw c.in-Exercise.is (run, refl, refl, refl, (c.requires.told, refl));
+      run = rw c.in-Exercise.is (run, refl, refl, refl, (c.requires.err_ok, refl));
       read = λ _. none_failed (λ e. not_else faults.Read (λ is. cc) (λ is. cc) (run.kind faults.Read e)) refl refl;
       write = run.write_cause;
       opening = inl refl;
@@ -220,13 +220,13 @@ pub returns-in-Convert : goal.returns-in-Convert
 returns-in-Convert g c =
     let run = c.convert.ensures.run in
     record {
-      words = λ e. not_convert (record { window = c.in-Convert.window; reach = c.in-Convert.reach; first = c.in-Convert.first; told = c.in-Convert.frames }) c.in-Convert.carry _ _ _ _ _ _ _ _ run.ends e;
+      words = λ e. not_convert (record { window = c.in-Convert.window; reach = c.in-Convert.reach; first = c.in-Convert.first; frame_limit = c.in-Convert.frames }) c.in-Convert.carry _ _ _ _ _ _ _ _ run.ends e;
       memory = λ e. (let none = run.untouched e in (none.0, none.1));
       run = rw c.in-Convert.is (run, refl, refl);
       read = λ _. one_alone run.read_cause refl;
       write = run.write_cause;
       opening = inl refl;
-      link = λ e. absurd (not_a_link (record { window = c.in-Convert.window; reach = c.in-Convert.reach; first = c.in-Convert.first; told = c.in-Convert.frames }) c.in-Convert.carry _ _ _ _ _ _ _ _ run.ends e);
+      link = λ e. absurd (not_a_link (record { window = c.in-Convert.window; reach = c.in-Convert.reach; first = c.in-Convert.first; frame_limit = c.in-Convert.frames }) c.in-Convert.carry _ _ _ _ _ _ _ _ run.ends e);
       lacking = λ e. rw c.in-Convert.is tt;
       unsent = λ e. dock_still (g.D.Dock.known c.args.dock.now);
       dock = λ none. refl;
@@ -241,7 +241,7 @@ returns-in-Gate g c =
     record {
       words = λ e. not_gate faults.Words (λ is. cc) (λ is. cc) (λ is. cc) (run.kind faults.Words e);
       memory = λ e. (refl, (no_gate c.options_of-options-in-Gate.result c.in-Gate.carry c.in-Gate.from c.in-Gate.to _ _ _ _ _ _ _ e run.run).1);
-      run = rw c.in-Gate.is (rw c.options_of-options-in-Gate.ensures at run, refl, refl, (c.requires.told, refl));
+      run = rw c.in-Gate.is (rw c.options_of-options-in-Gate.ensures at run, refl, refl, (c.requires.err_ok, refl));
       read = λ _. none_failed (λ e. not_gate faults.Read (λ is. cc) (λ is. cc) (λ is. cc) (run.kind faults.Read e)) refl refl;
       write = run.write_cause;
       opening = run.dock_cause;
@@ -261,7 +261,7 @@ returns-in-Pack g c =
     record {
       words = λ e. run.kind faults.Words (fault faults.Words e);
       memory = λ e. run.untouched (fault faults.NoMemory e);
-      run = rw c.in-Pack.is ((c.pack.result, c.whole-in-Pack.ensures, run), refl, refl, (c.requires.told, refl));
+      run = rw c.in-Pack.is ((c.pack.result, c.whole-in-Pack.ensures, run), refl, refl, (c.requires.err_ok, refl));
       read = λ _. one_alone (whole_cause c.whole-in-Pack.result c.pack.result faults.Read c.whole-in-Pack.ensures run.read_cause) refl;
       write = whole_cause c.whole-in-Pack.result c.pack.result faults.Write c.whole-in-Pack.ensures run.write_cause;
       opening = inl refl;
@@ -277,7 +277,7 @@ returns-in-Unpack g c =
     record {
       words = λ e. run.kind faults.Words e;
       memory = λ e. run.untouched e;
-      run = rw c.in-Unpack.is (run, refl, refl, (c.requires.told, refl));
+      run = rw c.in-Unpack.is (run, refl, refl, (c.requires.err_ok, refl));
       read = λ _. one_alone run.read_cause refl;
       write = run.write_cause;
       opening = inl refl;
@@ -293,7 +293,7 @@ returns-in-Texts g c =
     record {
       words = λ e. run.kind faults.Words e;
       memory = λ e. run.untouched e;
-      run = rw c.in-Texts.is (run, refl, refl, (c.requires.told, refl));
+      run = rw c.in-Texts.is (run, refl, refl, (c.requires.err_ok, refl));
       read = λ _. one_alone run.read_cause refl;
       write = run.write_cause;
       opening = inl refl;

@@ -9,7 +9,7 @@ returns c =
     record {
       whole = converting collects c.one_run.ensures;
       early = converting_early collects c.giving_ends.ensures c.one_run.ensures c.steps_part.ensures;
-      terms =
+      range =
           conversions collects c.giving_ends.ensures c.one_reading.ensures c.refusing.ensures c.one_run.ensures c.steps_part.ensures
           c.all_frames_are_given_at_once.ensures;
       broken = broken_conversions collects c.giving_ends.ensures c.one_reading.ensures c.refusing.ensures c.one_run.ensures c.steps_part.ensures;

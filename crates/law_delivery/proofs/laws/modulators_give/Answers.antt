@@ -1,5 +1,5 @@
 use Rattle.law_delivery.proofs.Delivered.{delivering as delivering_pairs}
-use Rattle.law_delivery.proofs.Strays.{delivering}
+use Rattle.law_delivery.proofs.ForeignDatagrams.{delivering}
 use Rattle.law_delivery.proofs.laws.modulators_give.Goals as goal
 
 pub returns : goal.returns

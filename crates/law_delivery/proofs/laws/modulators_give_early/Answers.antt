@@ -1,6 +1,6 @@
 use Rattle.law_delivery.proofs.Delivered.{delivering}
 use Rattle.law_delivery.proofs.Early.{pairs_early}
-use Rattle.law_delivery.proofs.Strays.{delivering_early}
+use Rattle.law_delivery.proofs.ForeignDatagrams.{delivering_early}
 use Rattle.law_delivery.proofs.laws.modulators_give_early.Goals as goal
 
 pub returns : goal.returns

@@ -18,7 +18,7 @@ loop-member-preserved g c =
     let within : k < length c.args.addresses.now = omega (arith, there, few) in (
       close_more g.D.L.Link.known members c.args.addresses.now k c.get.result.now c.in-Some.member.link there within c.get.ensures
           (λ d. ap (λ (m : Member g.row.D-L.Denot). m.link) (left.1 d)) c.in-Some.member
-          (g.D.Dock.known c.args.dock.now) (g.D.Dock.known c.loop-member.dock) (g.D.Dock.known c.close.new.self) i.0 c.close.ensures.gone c.close.ensures.told,
+          (g.D.Dock.known c.args.dock.now) (g.D.Dock.known c.loop-member.dock) (g.D.Dock.known c.close.new.self) i.0 c.close.ensures.gone c.close.ensures.counts_call,
       left.2,
       omega (arith, there),
       c.close.ensures.cause ∙ i.3,

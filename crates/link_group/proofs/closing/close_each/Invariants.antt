@@ -1,6 +1,6 @@
 use Rattle.std.proofs.Common.{◌≡◌, ◌≤◌, List, length, drop}
 use Rattle.std.specs.Vec.Iter.{into_iter_items}
-use Rattle.drm_links.specs.Told.{KnownThrough}
+use Rattle.drm_links.specs.Known.{KnownThrough}
 use Rattle.drm_links.specs.Dock.{Over}
 use Rattle.link_group.specs.Reaching.{HaveGone, after_closes}
 use Rattle.link_group.proofs.closing.close_each.Given as goal

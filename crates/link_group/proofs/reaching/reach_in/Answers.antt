@@ -1,9 +1,9 @@
 use Rattle.std.proofs.Common.{◌≡◌, ℕ, ◌+◌, ◌<◌, ◌≤◌, refl, slice_index_or, ◌∙◌, ap, arith, length, length-append, [], ◌∷◌, ◌++◌, true, subst, sym, All}
 use Rattle.std.proofs.lemmas.List.Elements.{All-push}
 use Rattle.drm_links.specs.declared.dock.Address.{Address}
-use Rattle.drm_links.proofs.ToldLemmas.{Tells-weaker, counts_one, once_then}
+use Rattle.drm_links.proofs.KnownLemmas.{Tells-weaker, counts_one, once_then}
 use Rattle.drm_links.proofs.Places.{each_more}
-use Rattle.drm_links.specs.Dock.{Docked, HasLink}
+use Rattle.drm_links.specs.Dock.{DockKnownThrough, HasLink}
 use Rattle.link_group.specs.declared.member.Member.{Member}
 use Rattle.link_group.proofs.OpeningLemmas.{docked_still}
 use Rattle.link_group.proofs.ReachLemmas.{Reached, HaveFirst, found_reach, reached_now, missed_now, first_links, few_reached}
@@ -20,9 +20,9 @@ returns-in-Failed-clause-failed g c =
     let d = g.D.Dock.known c.reach.new.self in
     let known = g.D.L.Link.known in
     few_reached known ats c.loop-k.members.items k a d (g.D.Dock.known c.close_each.new.dock) within i.1
-    (docked_still (λ told. HaveFirst known told ats c.loop-k.members.items k) a b d
-    (first_links known ats c.loop-k.members.items k (Reached ats k) a b i.5 i.6) c.in-Failed.ensures.told)
-    (missed_now ats k c.get.result.now within c.get.ensures known a b d c.requires.different i.5 c.in-Failed.ensures.opened c.in-Failed.ensures.told)
+    (docked_still (λ contents. HaveFirst known contents ats c.loop-k.members.items k) a b d
+    (first_links known ats c.loop-k.members.items k (Reached ats k) a b i.5 i.6) c.in-Failed.ensures.counts_call)
+    (missed_now ats k c.get.result.now within c.get.ensures known a b d c.requires.different i.5 c.in-Failed.ensures.opened c.in-Failed.ensures.counts_call)
     c.close_each.ensures.closed
 
 pub returns-in-Failed-clause-cause : goal.returns-in-Failed-clause-cause
@@ -43,9 +43,9 @@ loop-k-preserved g c =
     let known = g.D.L.Link.known in
     let member : Member g.row.D-L.Denot = record { link = c.in-Link.link; up = true } in
     let size : length c.loop-k.members.items ≡ k = i.1 in
-    let Q : ℕ → Member g.row.D-L.Denot → Type 0 = λ n m. (e : Address) → Docked a d (λ told. HasLink known told n (slice_index_or ats n e) m.link) in
+    let Q : ℕ → Member g.row.D-L.Denot → Type 0 = λ n m. (e : Address) → DockKnownThrough a d (λ contents. HasLink known contents n (slice_index_or ats n e) m.link) in
     let old : (n : ℕ) (j : Member g.row.D-L.Denot) → n < k → Q n (slice_index_or c.loop-k.members.items n j)
-    = λ n j less e. docked_still (λ told. HasLink known told n (slice_index_or ats n e) (slice_index_or c.loop-k.members.items n j).link) a b d (i.6 n j less e) c.in-Link.ensures.told in
+    = λ n j less e. docked_still (λ contents. HasLink known contents n (slice_index_or ats n e) (slice_index_or c.loop-k.members.items n j).link) a b d (i.6 n j less e) c.in-Link.ensures.counts_call in
     let more : c.push.new.self.items ≡ c.loop-k.members.items ++ member ∷ [] = c.in-Ok.ensures.items in
     let many : length c.push.new.self.items ≡ k + 1 = ap length more ∙ length-append c.loop-k.members.items (member ∷ []) ∙ omega (arith, size) in (
       (let len = c.in-Ok.ensures.len in let before = i.0 in omega (arith, len, before)),
@@ -53,9 +53,9 @@ loop-k-preserved g c =
       (let room = c.in-Ok.ensures.capacity in let before = i.2 in omega (arith, room, before)),
       subst (λ ms. All (λ (m : Member g.row.D-L.Denot). m.up ≡ true) ms) (sym more) (All-push (λ (m : Member g.row.D-L.Denot). m.up ≡ true) c.loop-k.members.items member i.3 refl),
       c.in-Link.ensures.cause.same (λ failed. failed) ∙ i.4,
-      reached_now ats k at within c.get.ensures known c.in-Link.link a b d i.5 c.in-Link.ensures.opened c.in-Link.ensures.told,
+      reached_now ats k at within c.get.ensures known c.in-Link.link a b d i.5 c.in-Link.ensures.opened c.in-Link.ensures.counts_call,
       each_more Q c.loop-k.members.items c.push.new.self.items member k size more old
-          (λ e. found_reach ats k at within c.get.ensures known c.in-Link.link a b d c.requires.different i.5 c.in-Link.ensures.opened c.in-Link.ensures.told e),
+          (λ e. found_reach ats k at within c.get.ensures known c.in-Link.link a b d c.requires.different i.5 c.in-Link.ensures.opened c.in-Link.ensures.counts_call e),
     )
 
 pub returns-clause-links : goal.returns-clause-links

@@ -1,7 +1,7 @@
 use Rattle.std.proofs.Common.{◌≡◌, ℕ, ◌<◌, ◌≤◌, vec_len, vec_capacity, slice_index_or, length}
-use Rattle.drm_links.specs.Told.{KnownThrough}
+use Rattle.drm_links.specs.Known.{KnownThrough}
 use Rattle.drm_links.specs.declared.dock.Address.{Address}
-use Rattle.drm_links.specs.Dock.{Docked, HasLink}
+use Rattle.drm_links.specs.Dock.{DockKnownThrough, HasLink}
 use Rattle.link_group.specs.Reaching.{AreUp}
 use Rattle.link_group.specs.declared.member.Member.{Member}
 use Rattle.link_group.proofs.ReachLemmas.{Reached}
@@ -16,4 +16,4 @@ invariant-loop-k g l =
     × ((g.D.Dock.known l.dock).faults ≡ (g.D.Dock.known l.fn.dock).faults)
     × KnownThrough (g.D.Dock.known l.fn.dock) (g.D.Dock.known l.dock) (Reached l.addresses l.k)
     × ((k : ℕ) (d : Member g.row.D-L.Denot) → k < l.k → (at : Address)
-    → Docked (g.D.Dock.known l.fn.dock) (g.D.Dock.known l.dock) (λ told. HasLink g.D.L.Link.known told k (slice_index_or l.addresses k at) (slice_index_or l.members.items k d).link))
+    → DockKnownThrough (g.D.Dock.known l.fn.dock) (g.D.Dock.known l.dock) (λ contents. HasLink g.D.L.Link.known contents k (slice_index_or l.addresses k at) (slice_index_or l.members.items k d).link))

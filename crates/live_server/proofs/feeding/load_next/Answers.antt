@@ -1,8 +1,8 @@
 use Rattle.std.proofs.Common.{◌≡◌, ℕ, true, List, [], ◌++◌, length, take, refl, sym, ap, subst, ◌∙◌, arith}
 use Rattle.std.proofs.lemmas.List.{length-take-le, take_all}
 use Rattle.std.proofs.lemmas.Result.{err_from_is_err_and}
-use Rattle.drm_links.specs.Source.{Inputs}
-use Rattle.drm_links.proofs.ToldLemmas.{Inputs-nothing}
+use Rattle.drm_links.specs.Source.{InputsBytes}
+use Rattle.drm_links.proofs.KnownLemmas.{InputsBytes-nothing}
 use Rattle.drm_schedule.specs.declared.plan.Plan.{Plan}
 use Rattle.drm_schedule.specs.Valid.{IsSchedule}
 use Rattle.cmd_input.specs.Input.{FailsBehind}
@@ -21,7 +21,7 @@ returns-then-ended-clause-loaded g c = λ first bytes behind.
     record {
       got = [];
       still = λ end. (refl, is, refl);
-      read = Inputs-nothing (λ left rest. left ≡ [] ++ rest) (g.I.Source.known c.args.input.now) (λ left. refl);
+      read = InputsBytes-nothing (λ left rest. left ≡ [] ++ rest) (g.I.Source.known c.args.input.now) (λ left. refl);
       all = λ no end. absurd (let yes = is in cc);
       behind = λ taken.
           subst (λ e. LoadsBehind c.args.live.now first c.args.t e e c.args.server.now c.load.new.self bytes []) (sym is)
@@ -40,7 +40,7 @@ returns-then-len-eq0-clause-loaded g c = λ first bytes behind.
     record {
       got = [];
       still = λ end. absurd (let no = going in cc);
-      read = Inputs-nothing (λ left rest. left ≡ [] ++ rest) (g.I.Source.known c.args.input.now) (λ left. refl);
+      read = InputsBytes-nothing (λ left rest. left ≡ [] ++ rest) (g.I.Source.known c.args.input.now) (λ left. refl);
       all = λ no end. absurd cc;
       behind = λ taken.
           subst (λ e. LoadsBehind c.args.live.now first c.args.t e e c.args.server.now c.load-then-len-eq0.new.self bytes []) (sym going)
@@ -48,59 +48,59 @@ returns-then-len-eq0-clause-loaded g c = λ first bytes behind.
           (subst (λ e. AreTaken e c.args.live.now plan first c.args.t bytes) going taken));
     }
 
-pub returns-in_err-came-clause-failed : goal.returns-in_err-came-clause-failed
-returns-in_err-came-clause-failed g c =
+pub returns-in_err-len_read-clause-failed : goal.returns-in_err-len_read-clause-failed
+returns-in_err-len_read-clause-failed g c =
     let len = c.piece_len-len.result in
-    let (size, asked) = asks_for c.args.live.now c.args.server.now.base _ c.args.t len c.args.room.now c.requires.room c.piece_len-len.ensures.most c.piece_len-len.ensures.len c.schedule-2.ensures in
+    let (size, asked) = asks_for c.args.live.now c.args.server.now.base _ c.args.t len c.args.scratch.now c.requires.room c.piece_len-len.ensures.most c.piece_len-len.ensures.len c.schedule-2.ensures in
     let p = err_from_is_err_and c.from_residual.result c.from_residual.ensures.1 in
-    rw p.1 (subst (λ n. FailsBehind n (g.I.Source.known c.args.input.now) (g.I.Source.known c.read_front.new.input)) (size ∙ asked) c.in_err-came.ensures.failed)
+    rw p.1 (subst (λ n. FailsBehind n (g.I.Source.known c.args.input.now) (g.I.Source.known c.read_front.new.input)) (size ∙ asked) c.in_err-len_read.ensures.failed)
 
 -- its piece is cut
-pub returns-then-came-len-clause-loaded : goal.returns-then-came-len-clause-loaded
-returns-then-came-len-clause-loaded g c = λ first bytes behind.
+pub returns-then-len_read-len-clause-loaded : goal.returns-then-len_read-len-clause-loaded
+returns-then-len_read-len-clause-loaded g c = λ first bytes behind.
     let plan : Plan = c.args.server.now.base in
     let valid : IsSchedule plan = subst IsSchedule c.schedule.ensures c.always_valid.ensures.schedule in
     let going = c.if-ended.false in
     let len = c.piece_len-len.result in
-    let came = c.in_ok-came.came in
-    let (size, asked) = asks_for c.args.live.now plan _ c.args.t len c.args.room.now c.requires.room c.piece_len-len.ensures.most c.piece_len-len.ensures.len c.schedule-2.ensures in
-    let got : List ℕ = take came c.read_front.new.room in
-    let within = c.in_ok-came.ensures.read.0 in
-    let same = c.read_front.auto.room in
-    let less = c.if-came-len.true in
-    let long : length got ≡ came = length-take-le came c.read_front.new.room (omega (arith, within, same)) in
-    let front = c.in_ok-came.ensures.read.1 in
+    let len_read = c.in_ok-len_read.len_read in
+    let (size, asked) = asks_for c.args.live.now plan _ c.args.t len c.args.scratch.now c.requires.room c.piece_len-len.ensures.most c.piece_len-len.ensures.len c.schedule-2.ensures in
+    let got : List ℕ = take len_read c.read_front.new.buffer in
+    let within = c.in_ok-len_read.ensures.read.0 in
+    let same = c.read_front.auto.buffer in
+    let less = c.if-len_read-len.true in
+    let long : length got ≡ len_read = length-take-le len_read c.read_front.new.buffer (omega (arith, within, same)) in
+    let front = c.in_ok-len_read.ensures.read.1 in
     record {
       got = got;
       still = λ end. absurd (let no = going in cc);
       read = front.front;
       all = λ no end. front.all (omega (arith, size, long, less));
       behind = λ taken.
-          subst (λ e. LoadsBehind c.args.live.now first c.args.t e true c.args.server.now c.load-then-came-len.new.self bytes got) (sym going)
-          (loads_cut c.args.live.now plan first c.args.t valid c.requires.frame behind c.args.server.now c.load-then-came-len.new.self bytes got refl c.load-then-came-len.ensures
+          subst (λ e. LoadsBehind c.args.live.now first c.args.t e true c.args.server.now c.load-then-len_read-len.new.self bytes got) (sym going)
+          (loads_cut c.args.live.now plan first c.args.t valid c.requires.frame behind c.args.server.now c.load-then-len_read-len.new.self bytes got refl c.load-then-len_read-len.ensures
           (omega (arith, asked, long, less))
           (subst (λ e. AreTaken e c.args.live.now plan first c.args.t bytes) going taken));
     }
 
 -- it came whole
-pub returns-else-came-len-clause-loaded : goal.returns-else-came-len-clause-loaded
-returns-else-came-len-clause-loaded g c = λ first bytes behind.
+pub returns-else-len_read-len-clause-loaded : goal.returns-else-len_read-len-clause-loaded
+returns-else-len_read-len-clause-loaded g c = λ first bytes behind.
     let plan : Plan = c.args.server.now.base in
     let valid : IsSchedule plan = subst IsSchedule c.schedule.ensures c.always_valid.ensures.schedule in
     let going = c.if-ended.false in
     let len = c.piece_len-len.result in
-    let came = c.in_ok-came.came in
-    let (size, asked) = asks_for c.args.live.now plan _ c.args.t len c.args.room.now c.requires.room c.piece_len-len.ensures.most c.piece_len-len.ensures.len c.schedule-2.ensures in
-    let piece : List ℕ = c.read_front.new.room in
-    let within = c.in_ok-came.ensures.read.0 in
-    let same = c.read_front.auto.room in
-    let all = c.if-came-len.false in
-    let whole : take came piece ≡ piece = take_all came piece (omega (arith, within, same, size, all)) in
-    let front = c.in_ok-came.ensures.read.1 in
+    let len_read = c.in_ok-len_read.len_read in
+    let (size, asked) = asks_for c.args.live.now plan _ c.args.t len c.args.scratch.now c.requires.room c.piece_len-len.ensures.most c.piece_len-len.ensures.len c.schedule-2.ensures in
+    let piece : List ℕ = c.read_front.new.buffer in
+    let within = c.in_ok-len_read.ensures.read.0 in
+    let same = c.read_front.auto.buffer in
+    let all = c.if-len_read-len.false in
+    let whole : take len_read piece ≡ piece = take_all len_read piece (omega (arith, within, same, size, all)) in
+    let front = c.in_ok-len_read.ensures.read.1 in
     record {
       got = piece;
       still = λ end. absurd (let no = going in cc);
-      read = subst (λ (l : List ℕ). Inputs (g.I.Source.known c.args.input.now) (g.I.Source.known c.read_front.new.input) (λ left rest. left ≡ l ++ rest)) whole front.front;
+      read = subst (λ (l : List ℕ). InputsBytes (g.I.Source.known c.args.input.now) (g.I.Source.known c.read_front.new.input) (λ left rest. left ≡ l ++ rest)) whole front.front;
       all = λ no end. absurd cc;
       behind = λ taken.
           subst (λ e. LoadsBehind c.args.live.now first c.args.t e e c.args.server.now c.load_live.new.self bytes piece) (sym going)

@@ -2,10 +2,10 @@ use Rattle.std.proofs.Common.{◌≡◌, ◌<◌, ◌+◌, ◌-◌, ◌∙◌, f
 use Rattle.std.proofs.lemmas.Result.{err_from_is_err_and}
 use Rattle.drm_schedule.specs.declared.plan.Plan.{Plan}
 use Rattle.drm_timeline.specs.Numbers.{frame_count}
-use Rattle.drm_links.specs.Sink.{Outputs}
-use Rattle.drm_server.specs.Capture.{IsFrontOfCapture}
-use Rattle.drm_server.specs.Serving.{Serving}
-use Rattle.drm_server.specs.Gathering.{WroteFrame, IsFrontOfFrame}
+use Rattle.drm_links.specs.Sink.{OutputsText}
+use Rattle.drm_server.specs.Capture.{IsPrefixOfCapture}
+use Rattle.drm_server.specs.ServerState.{ServerState}
+use Rattle.drm_server.specs.Gathering.{WroteFrame, IsPrefixOfFrame}
 use Rattle.drm_server.proofs.SameFrame.{same_written, same_front}
 use Rattle.live_streams.specs.Input.{pieces_of}
 use Rattle.live_streams.specs.Live.{piece_at}
@@ -87,7 +87,7 @@ loop-n-preserved g c =
       ),
       e.cause.same (λ failed. cc) ∙ i.1,
       c.in_ok-write_frame.ensures.cause.same (λ failed. cc) ∙ i.2,
-      ap (λ (s : Serving). s.base) c.in_ok-write_frame.ensures.server ∙ (e.base ∙ i.3),
+      ap (λ (s : ServerState). s.base) c.in_ok-write_frame.ensures.server ∙ (e.base ∙ i.3),
       e.room ∙ i.4,
       refl,
       refl,
@@ -114,10 +114,10 @@ returns-in_err-write_frame-clause-wrote g c =
     let e = c.in_ok-load_next.ensures in
     let next : LoadsNext c.args.live.now first (first + n) c.loop-n.ended c.load_next.new.ended c.loop-n.server c.load_next.new.server i.0.0 b d = e.loaded first i.0.0 (omega arith) in
     let ended = c.load_next.new.ended in
-    let more = made_more c.args.live.now plan first n c.loop-n.ended ended c.loop-n.server c.load_next.new.server i.0.0 a b d (WroteEach first n x y) (λ other. Outputs x z (IsFrontOfCapture other first)) i.3 i.0.1 next
+    let more = made_more c.args.live.now plan first n c.loop-n.ended ended c.loop-n.server c.load_next.new.server i.0.0 a b d (WroteEach first n x y) (λ other. OutputsText x z (IsPrefixOfCapture other first)) i.3 i.0.1 next
     (λ other count has at made.
     front_written other first n x y z (omega (arith, within, count)) made
-    (subst (λ t. Outputs y z (IsFrontOfFrame other t [])) at (same_front c.load_next.new.server other has [] y z c.in_err-write_frame.ensures.front))) in
+    (subst (λ t. OutputsText y z (IsPrefixOfFrame other t [])) at (same_front c.load_next.new.server other has [] y z c.in_err-write_frame.ensures.front))) in
     let next_is : first + (n + 1) ≡ first + n + 1 = omega arith in
     rw (p.1 ∙ ap Err p.2)
     (record {

@@ -10,6 +10,6 @@ invariant-loop-n g l =
     × ((g.I.Source.known l.input).faults ≡ (g.I.Source.known l.fn.input).faults)
     × ((g.O.Sink.known l.out).faults ≡ (g.O.Sink.known l.fn.out).faults)
     × (l.server.base ≡ l.fn.server.base)
-    × (length l.room ≡ length l.fn.room)
+    × (length l.scratch ≡ length l.fn.scratch)
     × (l.live ≡ l.fn.live)
     × (l.first ≡ l.fn.first)

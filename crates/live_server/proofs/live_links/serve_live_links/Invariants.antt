@@ -11,7 +11,7 @@ invariant-loop-n g l =
     × ((g.I.Source.known l.input).faults ≡ (g.I.Source.known l.fn.input).faults)
     × (l.server.base ≡ l.fn.server.base)
     × (length l.members ≡ length l.fn.members)
-    × (length l.room ≡ length l.fn.room)
+    × (length l.scratch ≡ length l.fn.scratch)
     × (l.live ≡ l.fn.live)
     × (l.first ≡ l.fn.first)
     × (l.pace ≡ l.fn.pace)

@@ -1,5 +1,5 @@
 use Rattle.std.proofs.Common.{length}
-use Rattle.dcp_tag.specs.Place.{left}
+use Rattle.dcp_tag.specs.PayloadPlace.{left}
 use Rattle.mdi_items.proofs.WalkLemmas.{Walked}
 use Rattle.mdi_items.proofs.known.gather.Given as goal
 

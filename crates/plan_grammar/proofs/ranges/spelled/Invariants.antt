@@ -1,7 +1,7 @@
 use Rattle.std.proofs.Common.{◌≡◌, true, length, take, map}
 use Rattle.std.specs.List.{list_all}
 use Rattle.text_lines.specs.Numbers.{is_number}
-use Rattle.plan_grammar.specs.Shape.{value}
+use Rattle.plan_grammar.specs.LineShape.{value}
 use Rattle.plan_grammar.proofs.ranges.spelled.Given as goal
 
 abbrev pub invariant-loop-i : goal.invariant-loop-i

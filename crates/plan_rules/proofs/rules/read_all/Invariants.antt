@@ -1,6 +1,6 @@
 use Rattle.std.proofs.Common.{◌≡◌, ◌+◌, map, drop}
 use Rattle.std.specs.Prelude.{All}
-use Rattle.plan_rules.specs.Said.{nothing}
+use Rattle.plan_rules.specs.ParsedLine.{nothing}
 use Rattle.plan_rules.specs.Rules.{said_from}
 use Rattle.plan_rules.specs.InLines.{IsSingle, ReadInLines}
 use Rattle.plan_rules.proofs.rules.read_all.Given as goal

@@ -1,7 +1,7 @@
 use Rattle.std.proofs.Common.{◌≡◌, ◌+◌, ◌-◌, ◌*◌, ◌++◌, ℕ, List, sym, ap, subst, ◌∙◌, refl, length, take, drop, arith, length-drop}
 use Rattle.std.proofs.lemmas.Result.{err_from_is_err_and}
-use Rattle.drm_links.specs.Sink.{Outputs}
-use Rattle.drm_links.proofs.ToldLemmas.{done_counts, Outputs-nothing}
+use Rattle.drm_links.specs.Sink.{OutputsText}
+use Rattle.drm_links.proofs.KnownLemmas.{done_counts, OutputsText-nothing}
 use Rattle.drm_links.proofs.WritingLemmas.{Writes-broken, Writes-more}
 use Rattle.report_dump.specs.Block.{HoldsBlock, head_text}
 use Rattle.report_dump.specs.Lines.{tail_text}
@@ -16,7 +16,7 @@ loop-head-init g c =
       so_far = λ entities tail holds. (
         entities,
         holds,
-        Outputs-nothing (g.O.Sink.known c.args.out.now) (λ text. text ++ field_text entities tail ≡ field_text entities tail) refl,
+        OutputsText-nothing (g.O.Sink.known c.args.out.now) (λ text. text ++ field_text entities tail ≡ field_text entities tail) refl,
       );
       same = refl;
     }
@@ -52,7 +52,7 @@ returns-in_err-write_entity g c = λ entities tail holds.
     let line : List ℕ = head_text h (take (8 * h.len) (drop 16 c.loop-head.bits)) in
     rw p.1
     (Writes-broken (field_text entities tail) line (field_text next.rest tail) a b (g.O.Sink.known c.write_entity.new.out) c.write_entity.result c.in_err-write_entity.field-0.0 p.0
-    (subst (λ l. Outputs a b (λ text. text ++ l ≡ field_text entities tail)) (text_next so.0 next.rest tail next.e line next.are next.line) so.2)
+    (subst (λ l. OutputsText a b (λ text. text ++ l ≡ field_text entities tail)) (text_next so.0 next.rest tail next.e line next.are next.line) so.2)
     c.loop-head.invariant.same c.in_err-write_entity.was (rw c.in-Some.ensures.rest at c.write_entity.ensures.written))
 
 pub loop-head-preserved : goal.loop-head-preserved
@@ -70,7 +70,7 @@ loop-head-preserved g c =
             subst (λ n. HoldsBlock next.rest tail (c.loop-head.left - (2 + n)) c.write_entity.new.bits) (sym c.from.ensures)
                 (subst (HoldsBlock next.rest tail (c.loop-head.left - (2 + h.len))) (sym after) next.others),
             Writes-more (field_text entities tail) line (field_text next.rest tail) a b (g.O.Sink.known c.write_entity.new.out) c.write_entity.result _
-                (subst (λ l. Outputs a b (λ text. text ++ l ≡ field_text entities tail)) (text_next so.0 next.rest tail next.e line next.are next.line) so.2)
+                (subst (λ l. OutputsText a b (λ text. text ++ l ≡ field_text entities tail)) (text_next so.0 next.rest tail next.e line next.are next.line) so.2)
                 c.in_ok-write_entity.was (rw c.in-Some.ensures.rest at c.write_entity.ensures.written),
           );
       same = done_counts c.in_ok-write_entity.was c.write_entity.ensures.written.cause ∙ c.loop-head.invariant.same;
@@ -83,5 +83,5 @@ returns g c = λ entities tail holds.
     let so = c.loop-head.invariant.so_far entities tail holds in
     let end = at_tail so.0 tail c.loop-head.left c.loop-head.bits so.1 c.in_default.ensures.tail in
     last_written (field_text entities tail) (tail_text c.loop-head.left) a b (g.O.Sink.known c.write_tail.new.out) c.write_tail.result
-    (subst (λ l. Outputs a b (λ text. text ++ l ≡ field_text entities tail)) (text_last so.0 tail c.loop-head.left end.0 end.1) so.2)
+    (subst (λ l. OutputsText a b (λ text. text ++ l ≡ field_text entities tail)) (text_last so.0 tail c.loop-head.left end.0 end.1) so.2)
     c.loop-head.invariant.same c.write_tail.ensures

@@ -1,5 +1,5 @@
 use Rattle.std.proofs.Common.{◌≡◌, ◌++◌, ℕ, List}
-use Rattle.drm_links.specs.Sink.{Outputs}
+use Rattle.drm_links.specs.Sink.{OutputsText}
 use Rattle.drm_sdc.specs.declared.entity.Entity.{Entity}
 use Rattle.report_dump.specs.Block.{HoldsBlock}
 use Rattle.report_dump.specs.Text.{field_text}
@@ -10,7 +10,7 @@ abbrev pub invariant-loop-head : goal.invariant-loop-head
 invariant-loop-head g l =
     record {
       so_far : (entities : List Entity) (tail : List ℕ) → HoldsBlock entities tail l.fn.room l.fn.bits → (rest : List Entity) × HoldsBlock rest tail l.left l.bits
-          × Outputs (g.O.Sink.known l.fn.out) (g.O.Sink.known l.out) (λ text. text ++ field_text rest tail ≡ field_text entities tail);
+          × OutputsText (g.O.Sink.known l.fn.out) (g.O.Sink.known l.out) (λ text. text ++ field_text rest tail ≡ field_text entities tail);
       same : (g.O.Sink.known l.out).faults ≡ (g.O.Sink.known l.fn.out).faults;
     }
 

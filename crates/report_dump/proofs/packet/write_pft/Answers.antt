@@ -1,6 +1,6 @@
 use Rattle.std.proofs.Common.{true, false, refl, ◌∙◌}
 use Rattle.dcp_pft.specs.Reading.{pft_of}
-use Rattle.report_dump.specs.Content.{Fragment, NoFragment}
+use Rattle.report_dump.specs.PacketContent.{Fragment, NoFragment}
 use Rattle.report_dump.proofs.WritingLemmas.{shows}
 use Rattle.report_dump.proofs.packet.write_pft.Goals as goal
 

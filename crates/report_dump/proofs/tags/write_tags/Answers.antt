@@ -1,10 +1,10 @@
 use Rattle.std.proofs.Common.{◌≡◌, ◌++◌, sym, ap, subst, refl, ◌∙◌}
 use Rattle.std.proofs.lemmas.Result.{err_from_is_err_and}
-use Rattle.drm_links.specs.Sink.{Outputs}
-use Rattle.drm_links.proofs.ToldLemmas.{done_counts, Outputs-nothing}
+use Rattle.drm_links.specs.Sink.{OutputsText}
+use Rattle.drm_links.proofs.KnownLemmas.{done_counts, OutputsText-nothing}
 use Rattle.drm_links.proofs.WritingLemmas.{Writes-whole, Writes-broken, Writes-more}
-use Rattle.dcp_tag.specs.Place.{left}
-use Rattle.report_dump.specs.Content.{AreItems}
+use Rattle.dcp_tag.specs.PayloadPlace.{left}
+use Rattle.report_dump.specs.PacketContent.{AreItems}
 use Rattle.report_dump.specs.Lines.{tag_text}
 use Rattle.report_dump.specs.Text.{items_text}
 use Rattle.report_dump.proofs.ItemLemmas.{item_given, text_then, all_items}
@@ -16,7 +16,7 @@ loop-item-init g c =
       so_far = λ items are. (
         items,
         subst (AreItems items) (sym (ap left c.new-items.ensures)) are,
-        Outputs-nothing (g.O.Sink.known c.args.out.now) (λ text. text ++ items_text items ≡ items_text items) refl,
+        OutputsText-nothing (g.O.Sink.known c.args.out.now) (λ text. text ++ items_text items ≡ items_text items) refl,
       );
       same = refl;
     }
@@ -32,7 +32,7 @@ returns-in_err-write_tag g c = λ items are.
     let next = item_given so.0 c.loop-item.items c.next.new.items item so.1 gives in
     rw p.1
     (Writes-broken (items_text items) (tag_text item.name item.bits) (items_text next.0) a b (g.O.Sink.known c.write_tag.new.out) c.write_tag.result c.in_err-write_tag.field-0.0 p.0
-    (subst (λ l. Outputs a b (λ text. text ++ l ≡ items_text items)) (text_then so.0 next.0 item c.loop-item.items c.next.new.items next.1 gives) so.2)
+    (subst (λ l. OutputsText a b (λ text. text ++ l ≡ items_text items)) (text_then so.0 next.0 item c.loop-item.items c.next.new.items next.1 gives) so.2)
     c.loop-item.invariant.same c.in_err-write_tag.was c.write_tag.ensures)
 
 pub loop-item-preserved : goal.loop-item-preserved
@@ -48,7 +48,7 @@ loop-item-preserved g c =
             next.0,
             next.2,
             Writes-more (items_text items) (tag_text item.name item.bits) (items_text next.0) a b (g.O.Sink.known c.write_tag.new.out) c.write_tag.result _
-                (subst (λ l. Outputs a b (λ text. text ++ l ≡ items_text items)) (text_then so.0 next.0 item c.loop-item.items c.next.new.items next.1 gives) so.2)
+                (subst (λ l. OutputsText a b (λ text. text ++ l ≡ items_text items)) (text_then so.0 next.0 item c.loop-item.items c.next.new.items next.1 gives) so.2)
                 c.in_ok-write_tag.was c.write_tag.ensures,
           );
       same = done_counts c.in_ok-write_tag.was c.write_tag.ensures.cause ∙ c.loop-item.invariant.same;

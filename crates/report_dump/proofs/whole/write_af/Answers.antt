@@ -1,5 +1,5 @@
 use Rattle.std.proofs.Common.{true, refl, ◌∙◌}
-use Rattle.report_dump.specs.Content.{NoPacket}
+use Rattle.report_dump.specs.PacketContent.{NoPacket}
 use Rattle.report_dump.proofs.WritingLemmas.{shows}
 use Rattle.report_dump.proofs.whole.write_af.Goals as goal
 

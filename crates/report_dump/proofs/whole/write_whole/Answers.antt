@@ -1,7 +1,7 @@
 use Rattle.std.proofs.Common.{true, false, refl, sym, subst, arith}
 use Rattle.dcp_af.specs.Reading.{packet_of}
 use Rattle.mdi_items.specs.Frame.{frame_of}
-use Rattle.report_dump.specs.Content.{FrameOf, NoFrame, Whole, IsBlockOf}
+use Rattle.report_dump.specs.PacketContent.{FrameOf, NoFrame, Whole, IsBlockOf}
 use Rattle.report_dump.proofs.ItemLemmas.{items_there, payload_bytes}
 use Rattle.report_dump.proofs.SpanLemmas.{block_there}
 use Rattle.report_dump.proofs.WritingLemmas.{shows}

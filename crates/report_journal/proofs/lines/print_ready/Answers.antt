@@ -9,7 +9,7 @@ pub items-init : goal.items-init
 items-init g c = (none_printed c.args.collector.now c.args.feed.now c.args.counts.now (g.O.Sink.known c.args.out.now), c.requires.fed)
 
 pub is_full-requires : goal.is_full-requires
-is_full-requires g c = full_fits c.args.told c.items.collector.next c.items.feed c.items.counts c.requires.within_limit c.items.invariant.1
+is_full-requires g c = full_fits c.args.frame_limit c.items.collector.next c.items.feed c.items.counts c.requires.within_limit c.items.invariant.1
 
 pub items-preserved : goal.items-preserved
 items-preserved g c =
@@ -18,7 +18,7 @@ items-preserved g c =
     let now = sym c.ready.ensures.ready ∙ c.if-not-ready.false in (
       one_printed c.args.collector.now c.items.collector c.print_next.new.collector c.args.feed.now c.items.feed c.print_next.new.feed c.args.counts.now c.items.counts c.print_next.new.counts
           (g.O.Sink.known c.args.out.now) (g.O.Sink.known c.items.out) (g.O.Sink.known c.print_next.new.out) (g.O.Sink.known c.print_next.new.out) i.0 now c.print_next.ensures.collector n (Writes-done c.in_ok-print_next.was n.writes),
-      one_fed c.args.told c.items.collector c.print_next.new.collector c.items.feed c.print_next.new.feed c.items.counts c.print_next.new.counts n.step.item i.1 c.print_next.ensures.collector (sym c.is_full.ensures ∙ c.if-is_full.false) n.calls n.counts,
+      one_fed c.args.frame_limit c.items.collector c.print_next.new.collector c.items.feed c.print_next.new.feed c.items.counts c.print_next.new.counts n.step.item i.1 c.print_next.ensures.collector (sym c.is_full.ensures ∙ c.if-is_full.false) n.calls n.counts,
     )
 
 pub returns-in_err-print_next-clause-first : goal.returns-in_err-print_next-clause-first
@@ -26,10 +26,10 @@ returns-in_err-print_next-clause-first g c =
     let i = c.items.invariant in
     let n = c.print_next.ensures.next in
     let now = sym c.ready.ensures.ready ∙ c.if-not-ready.false in
-    let untold : Known Output = record { faults = 0; told = None } in
+    let unknown : Known Output = record { faults = 0; contents = None } in
     let p = err_from_is_err_and c.from_residual.result c.from_residual.ensures.1 in
     rw p.1
-    (counts_first c.args.told c.args.collector.now c.print_next.new.collector c.args.feed.now c.print_next.new.feed c.args.counts.now c.print_next.new.counts (g.O.Sink.known c.args.out.now) untold
+    (counts_first c.args.frame_limit c.args.collector.now c.print_next.new.collector c.args.feed.now c.print_next.new.feed c.args.counts.now c.print_next.new.counts (g.O.Sink.known c.args.out.now) unknown
     (one_printed c.args.collector.now c.items.collector c.print_next.new.collector c.args.feed.now c.items.feed c.print_next.new.feed c.args.counts.now c.items.counts c.print_next.new.counts
-    (g.O.Sink.known c.args.out.now) (g.O.Sink.known c.items.out) (g.O.Sink.known c.print_next.new.out) untold i.0 now c.print_next.ensures.collector n tt)
-    (one_fed c.args.told c.items.collector c.print_next.new.collector c.items.feed c.print_next.new.feed c.items.counts c.print_next.new.counts n.step.item i.1 c.print_next.ensures.collector (sym c.is_full.ensures ∙ c.if-is_full.false) n.calls n.counts))
+    (g.O.Sink.known c.args.out.now) (g.O.Sink.known c.items.out) (g.O.Sink.known c.print_next.new.out) unknown i.0 now c.print_next.ensures.collector n tt)
+    (one_fed c.args.frame_limit c.items.collector c.print_next.new.collector c.items.feed c.print_next.new.feed c.items.counts c.print_next.new.counts n.step.item i.1 c.print_next.ensures.collector (sym c.is_full.ensures ∙ c.if-is_full.false) n.calls n.counts))

@@ -6,7 +6,7 @@ use Rattle.report_journal.proofs.lines.print_ready.Given as goal
 abbrev pub invariant-items : goal.invariant-items
 invariant-items g l =
     JournalPrints l.fn.collector l.collector l.fn.feed l.feed l.fn.counts l.counts (g.O.Sink.known l.fn.out) (g.O.Sink.known l.out)
-    × HasFed l.told l.collector.next l.feed l.counts
+    × HasFed l.frame_limit l.collector.next l.feed l.counts
 
 abbrev pub decreases-items : goal.decreases-items
 decreases-items g l = 2 ^ 62 - l.collector.next

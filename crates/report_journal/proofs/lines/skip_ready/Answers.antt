@@ -1,7 +1,7 @@
 use Rattle.std.proofs.Common.{◌∙◌, [], ◌∷◌, ◌++◌, refl, sym, subst}
 use Rattle.dcp_collect.specs.Runs.{CollectorGives}
 use Rattle.dcp_collect.specs.View.{item_of}
-use Rattle.law_collect.specs.Laws.{Given}
+use Rattle.law_collect.specs.Laws.{GivesSoFar}
 use Rattle.law_collect.proofs.Runs.{given_more, given_all}
 use Rattle.report_journal.proofs.lines.skip_ready.Goals as goal
 
@@ -13,7 +13,7 @@ past-preserved c =
     let (items, given) = c.past.invariant in
     let now = c.in-Some.ensures.out.0 in
     let item = item_of c.in-Some._given in
-    (items ++ item ∷ [], subst (λ d. Given c.args.collector.now (items ++ item ∷ []) d) (sym (c.next.follows.holds-at-none ∙ rw now refl)) (given_more items c.args.collector.now c.past.collector item given now c.in-Some.ensures.out.1))
+    (items ++ item ∷ [], subst (λ d. GivesSoFar c.args.collector.now (items ++ item ∷ []) d) (sym (c.next.follows.holds-at-none ∙ rw now refl)) (given_more items c.args.collector.now c.past.collector item given now c.in-Some.ensures.out.1))
 
 pub returns : goal.returns
 returns c =

@@ -1,8 +1,8 @@
 use Rattle.std.proofs.Common.{◌≡◌, ◌+◌, ◌-◌, ◌*◌, ◌++◌, ℕ, List, [], ◌∷◌, take, drop, ◌∙◌, ap, subst, arith}
 use Rattle.std.proofs.lemmas.List.{drop-drop}
 use Rattle.std.proofs.lemmas.Result.{err_from_is_err_and}
-use Rattle.drm_links.specs.Sink.{Outputs}
-use Rattle.drm_links.proofs.ToldLemmas.{done_counts}
+use Rattle.drm_links.specs.Sink.{OutputsText}
+use Rattle.drm_links.proofs.KnownLemmas.{done_counts}
 use Rattle.drm_links.proofs.WritingLemmas.{Writes-whole, Writes-broken, Writes-more}
 use Rattle.report_text.specs.HexBits.{hex_of_bits}
 use Rattle.report_text.proofs.HexLemmas.{one_of, no_digits}
@@ -18,7 +18,7 @@ returns-in_err-write_all-clause-written g c =
     let next = one_of c.loop.bits c.take_u8-n.new.self c.args.count c.loop.counter c.from.result c.digit.result c.loop-test.true (omega (arith, c.requires, c.loop.invariant.left, c.loop-test.true)) (c.from.ensures ∙ c.take_u8-n.ensures.number) c.digit.ensures c.take_u8-n.ensures.rest in
     rw p.1
     (Writes-broken all (c.digit.result ∷ []) rest a b (g.O.Sink.known c.write_all.new.out) c.write_all.result c.in_err-write_all.field-0.0 p.0
-    (subst (λ l. Outputs a b (λ text. text ++ l ≡ all)) next c.loop.invariant.written) c.loop.invariant.same c.in_err-write_all.was c.write_all.ensures)
+    (subst (λ l. OutputsText a b (λ text. text ++ l ≡ all)) next c.loop.invariant.written) c.loop.invariant.same c.in_err-write_all.was c.write_all.ensures)
 
 pub loop-preserved : goal.loop-preserved
 loop-preserved g c =
@@ -35,7 +35,7 @@ loop-preserved g c =
       left = omega (arith, c.loop.invariant.left, c.take_u8-n.ensures.remaining);
       written =
           Writes-more all (c.digit.result ∷ []) rest a b (g.O.Sink.known c.write_all.new.out) c.write_all.result _
-          (subst (λ l. Outputs a b (λ text. text ++ l ≡ all)) next c.loop.invariant.written) c.in_ok-write_all.was c.write_all.ensures;
+          (subst (λ l. OutputsText a b (λ text. text ++ l ≡ all)) next c.loop.invariant.written) c.in_ok-write_all.was c.write_all.ensures;
       same = done_counts c.in_ok-write_all.was c.write_all.ensures.cause ∙ c.loop.invariant.same;
     }
 

@@ -1,5 +1,5 @@
 use Rattle.std.proofs.Common.{◌≡◌, ◌+◌, ◌-◌, ◌*◌, ◌++◌, length, take, drop}
-use Rattle.drm_links.specs.Sink.{Outputs}
+use Rattle.drm_links.specs.Sink.{OutputsText}
 use Rattle.report_text.specs.HexBits.{hex_of_bits}
 use Rattle.report_text.proofs.hex_bits.write_digits.Given as goal
 
@@ -10,7 +10,7 @@ invariant-loop g l =
       bits : l.bits ≡ drop (4 * l.counter) l.fn.bits;
       left : length l.bits + 4 * l.counter ≡ length l.fn.bits;
       written :
-          Outputs (g.O.Sink.known l.fn.out) (g.O.Sink.known l.out) (λ text.
+          OutputsText (g.O.Sink.known l.fn.out) (g.O.Sink.known l.out) (λ text.
           text ++ hex_of_bits (take (4 * (l.count - l.counter)) l.bits) ≡ hex_of_bits (take (4 * l.count) l.fn.bits));
       same : (g.O.Sink.known l.out).faults ≡ (g.O.Sink.known l.fn.out).faults;
     }

@@ -2,8 +2,8 @@ use Rattle.std.proofs.Common.{ℕ, List, [], ◌≡◌, ◌+◌, ◌-◌, ◌<�
 use Rattle.std.proofs.lemmas.List.{drop_all}
 use Rattle.std.proofs.lemmas.Result.{err_from_is_err_and}
 use Rattle.hex.specs.Hex.{encode_lower}
-use Rattle.drm_links.specs.Sink.{Outputs}
-use Rattle.drm_links.proofs.ToldLemmas.{Outputs-nothing, done_counts}
+use Rattle.drm_links.specs.Sink.{OutputsText}
+use Rattle.drm_links.proofs.KnownLemmas.{OutputsText-nothing, done_counts}
 use Rattle.drm_links.proofs.WritingLemmas.{Writes-whole, Writes-broken, Writes-more}
 use Rattle.report_text.specs.FrameLine.{bytes_text}
 use Rattle.drm_mux.specs.Frame.{multiplex_frame, streams_in}
@@ -25,7 +25,7 @@ loop-index-init g c =
     let frame : List ℕ = multiplex_frame c.args.mux.now (streams_in payload c.args.streams.now) in
     let rs = ranges c.args.mux.now c.args.streams.now in
     let is : frame ≡ cut payload rs = frame_cut c.args.mux.now c.args.streams.now payload (omega arith) (omega arith) c.requires.description c.requires.lengths in (
-      Outputs-nothing (g.O.Sink.known c.args.out.now) (λ text. text ++ encode_lower (cut payload (drop 0 rs)) ≡ encode_lower frame) (ap (λ l. encode_lower l) (sym is)),
+      OutputsText-nothing (g.O.Sink.known c.args.out.now) (λ text. text ++ encode_lower (cut payload (drop 0 rs)) ≡ encode_lower frame) (ap (λ l. encode_lower l) (sym is)),
       omega arith,
     )
 
@@ -43,7 +43,7 @@ returns-in_err-write_hex g c =
     let behind : List ℕ = cut payload (drop (c.loop-index.index + 1) parts) in
     let below : c.loop-index.index < length parts = omega (arith, c.loop-index-test.true, length-ranges c.args.mux.now c.args.streams.now c.requires.description.size (omega arith)) in
     let is : slice ++ behind ≡ cut payload (drop c.loop-index.index parts) = one_part payload parts c.loop-index.index r below c.range-from.ensures.range in
-    let done = subst (λ l. Outputs a b (λ text. text ++ l ≡ encode_lower frame)) (digits_parts slice behind _ is) c.loop-index.invariant.0 in
+    let done = subst (λ l. OutputsText a b (λ text. text ++ l ≡ encode_lower frame)) (digits_parts slice behind _ is) c.loop-index.invariant.0 in
     rw (p.1, some_bytes frame (omega (arith, long, c.frame_len.ensures, c.if-frame_len-eq0.false)))
     (Writes-broken (encode_lower frame) (encode_lower slice) (encode_lower behind) a b (g.O.Sink.known c.write_hex.new.out) c.write_hex.result c.in_err-write_hex.field-0.0 p.0 done c.loop-index.invariant.1 c.in_err-write_hex.was c.write_hex.ensures)
 
@@ -59,7 +59,7 @@ loop-index-preserved g c =
     let behind : List ℕ = cut payload (drop (c.loop-index.index + 1) parts) in
     let below : c.loop-index.index < length parts = omega (arith, c.loop-index-test.true, length-ranges c.args.mux.now c.args.streams.now c.requires.description.size (omega arith)) in
     let is : slice ++ behind ≡ cut payload (drop c.loop-index.index parts) = one_part payload parts c.loop-index.index r below c.range-from.ensures.range in
-    let done = subst (λ l. Outputs a b (λ text. text ++ l ≡ encode_lower frame)) (digits_parts slice behind _ is) c.loop-index.invariant.0 in (
+    let done = subst (λ l. OutputsText a b (λ text. text ++ l ≡ encode_lower frame)) (digits_parts slice behind _ is) c.loop-index.invariant.0 in (
       Writes-more (encode_lower frame) (encode_lower slice) (encode_lower behind) a b (g.O.Sink.known c.write_hex.new.out) c.write_hex.result _ done c.in_ok-write_hex.was c.write_hex.ensures,
       done_counts c.in_ok-write_hex.was c.write_hex.ensures.cause ∙ c.loop-index.invariant.1,
     )

@@ -2,7 +2,7 @@ use Rattle.std.proofs.Common.{List, ◌∙◌, refl, subst, sym, ℕ}
 use Rattle.std.specs.Result.{OnOk}
 use Rattle.rs_erase.specs.Code.{HasCodeWord}
 use Rattle.rs_erase.specs.Spaced.{HasMessage}
-use Rattle.rs_patterns.specs.Patterns.{IsRight}
+use Rattle.rs_patterns.specs.Patterns.{IsWellFormed}
 use Rattle.rs_patterns.proofs.PatternPlaces.{right_pattern, right_with}
 use Rattle.rs_patterns.proofs.patterns.solve_kept.Goals as goal
 use Rattle.rs_patterns.proofs.patterns.solve_kept.Goals.{then-not-is_for, else-not-is_for+in_default}
@@ -32,8 +32,8 @@ returns-in-Some-clause-message c =
 pub returns-clause-right : goal.returns-clause-right
 returns-clause-right c =
     elim c.if-not-is_for.branch [
-      | then-not-is_for w ↦ subst IsRight (sym w.kept-is) w.note.ensures
+      | then-not-is_for w ↦ subst IsWellFormed (sym w.kept-is) w.note.ensures
       | else-not-is_for+in_default w ↦
-          subst IsRight (sym w.kept-is)
+          subst IsWellFormed (sym w.kept-is)
           (right_with c.args.kept.now w.prepare-kept.result c.args.count c.args.k c.args.start c.args.marks.now c.requires.erased.some w.prepare-kept.ensures (w.if-not-is_for.ensures refl))
     ]

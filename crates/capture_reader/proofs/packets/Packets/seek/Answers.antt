@@ -2,14 +2,14 @@ use Rattle.std.proofs.Common.{rules, ◌∙◌, subst, true, Ok}
 use Rattle.std.proofs.lemmas.Result.{err_from_is_err_and}
 use Rattle.capture_reader.specs.Front.{Cut, BytesBegin}
 use Rattle.capture_reader.specs.Fetching.{FetchesBytes}
-use Rattle.capture_reader.specs.Walking.{WalkerState, IsCut}
+use Rattle.capture_reader.specs.Walking.{WalkerState, IsPacketCut}
 use Rattle.capture_reader.proofs.FetchingLemmas.{fetched_then, finds_broken}
 use Rattle.capture_reader.proofs.packets.Packets.seek.Goals as goal
 
 pub returns-in_err-fetch-clause-finds : goal.returns-in_err-fetch-clause-finds
 returns-in_err-fetch-clause-finds g c =
     let p = err_from_is_err_and c.from_residual.result c.from_residual.ensures.1 in
-    let cut : IsCut c.loop-size.self = (c.in-Cut.field-0, subst (λ (w : WalkerState). BytesBegin w.held (Cut c.in-Cut.field-0)) c.self-in-loop-size.view_is c.in-Cut.ensures) in
+    let cut : IsPacketCut c.loop-size.self = (c.in-Cut.field-0, subst (λ (w : WalkerState). BytesBegin w.held (Cut c.in-Cut.field-0)) c.self-in-loop-size.view_is c.in-Cut.ensures) in
     let broken = finds_broken c.args.self.now c.loop-size.self c.fetch.new.self (g.I.Source.known c.args.input.now) (g.I.Source.known c.loop-size.input) (g.I.Source.known c.fetch.new.input)
     c.in_err-fetch.field-0.0 c.loop-size.invariant.fetched cut c.in_err-fetch.ensures.fetches in
     rw (p.1, p.2) broken

@@ -4,7 +4,7 @@ use Rattle.mdi_items.specs.Frame.{frame_of}
 use Rattle.drm_text.specs.Taking.{text_of}
 use Rattle.cmd_unpack.specs.declared.messages.MessageTaker.{MessageTaker}
 use Rattle.cmd_unpack.specs.Streams.{entries_of, lacking}
-use Rattle.cmd_unpack.specs.Taken.{told_line}
+use Rattle.cmd_unpack.specs.Taken.{message_line}
 use Rattle.cmd_unpack.proofs.Items.{on_ok, message_gap, message_piece}
 use Rattle.cmd_unpack.proofs.messages.MessageTaker.take.Goals as goal
 
@@ -17,7 +17,7 @@ returns-in-Some-clause-takes g c = λ items text took.
     rw c.in-Frame.is
     (record {
       after = u;
-      line = told_line (text_of p.said);
+      line = message_line (text_of p.said);
       took = message_piece t.stream items (Frame c.in-Frame.index (frame_of c.in-Frame.view) c.in-Frame.view.payload.now) text t u c.in-Some.piece p.said took
           (ap entries_of is) refl p.tells p.left_is p.counts_are (ap lacking is) refl;
       writes = p.writes;

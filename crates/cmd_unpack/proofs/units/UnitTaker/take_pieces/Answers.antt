@@ -1,6 +1,6 @@
 use Rattle.std.proofs.Common.{◌≡◌, ◌+◌, ◌<◌, ◌^◌, length, take, drop, ap, ◌∙◌, arith}
 use Rattle.std.proofs.lemmas.Result.{err_from_is_err_and}
-use Rattle.drm_links.proofs.ToldLemmas.{done_counts}
+use Rattle.drm_links.proofs.KnownLemmas.{done_counts}
 use Rattle.drm_links.proofs.WritingLemmas.{Writes-done}
 use Rattle.cmd_unpack.proofs.Pieces.{come_none, come_one, come_broken, come_all, come_below, below_weaker}
 use Rattle.cmd_unpack.proofs.units.UnitTaker.take_pieces.Goals as goal

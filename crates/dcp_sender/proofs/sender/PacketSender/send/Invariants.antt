@@ -1,5 +1,5 @@
 use Rattle.std.proofs.Common.{◌≡◌, ℕ, ◌<◌, ◌≤◌, length, get_or}
-use Rattle.dcp_sender.specs.Carried.{most_room}
+use Rattle.dcp_sender.specs.CarriesText.{most_room}
 use Rattle.dcp_sender.specs.OverLinks.{CutOver}
 use Rattle.dcp_sender.specs.Targets.{target}
 use Rattle.dcp_sender.proofs.sender.PacketSender.send.Given as goal
@@ -12,4 +12,4 @@ invariant-loop-link g l =
     × ((k : ℕ) (d : _) → l.link-index ≤ k → get_or l.links k d ≡ get_or l.fn.links k d)
     × (l.self-inside.carry ≡ l.initial.self-inside.carry)
     × (l.self-inside.parity ≡ l.initial.self-inside.parity)
-    × (length l.self-inside.room.items ≡ most_room)
+    × (length l.self-inside.scratch.items ≡ most_room)

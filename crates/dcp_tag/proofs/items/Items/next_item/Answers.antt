@@ -1,5 +1,5 @@
 use Rattle.std.proofs.Common.{ℕ, length, take, refl, ap, ◌∙◌, arith}
-use Rattle.dcp_tag.specs.Place.{left}
+use Rattle.dcp_tag.specs.PayloadPlace.{left}
 use Rattle.dcp_tag.specs.Reading.{item_of}
 use Rattle.dcp_tag.proofs.TagLemmas.{cut_front, item_front}
 use Rattle.dcp_tag.proofs.PlaceLemmas.{left_is, begins_left, gives_at}

@@ -3,7 +3,7 @@ use Rattle.std.specs.FinMap as map
 use Rattle.drm_links.specs.Dock.{address_key}
 use Rattle.drm_links.specs.ClosedLinks.{entries_of}
 use Rattle.drm_links.specs.MemoryDock.{DockState}
-use Rattle.drm_links.proofs.DockLemmas.{links-insert, put_told}
+use Rattle.drm_links.proofs.DockLemmas.{links-insert, contents-put}
 use Rattle.drm_links.proofs.memory_dock.MemDock.put.Goals as goal
 
 pub returns-in-Ok-insert-clause-put : goal.returns-in-Ok-insert-clause-put
@@ -36,4 +36,4 @@ returns-in-Ok-insert-clause-tells c =
       calls = c.self.inside.calls;
       faults = c.self.inside.faults;
     } in
-    put_told c.args.self.now after c.args.at c.args.link (returns-in-Ok-insert-clause-put c)
+    contents-put c.args.self.now after c.args.at c.args.link (returns-in-Ok-insert-clause-put c)

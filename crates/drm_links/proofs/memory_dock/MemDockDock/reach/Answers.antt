@@ -1,4 +1,4 @@
-use Rattle.drm_links.proofs.DockLemmas.{reach_fits, reached_leaves, reached_told}
+use Rattle.drm_links.proofs.DockLemmas.{reach_fits, reached_leaves, reached_known}
 use Rattle.drm_links.proofs.memory_dock.MemDockDock.reach.Goals as goal
 
 pub count_reach-requires : goal.count_reach-requires
@@ -11,4 +11,4 @@ returns-clause-exact c =
 
 pub returns-clause-opened : goal.returns-clause-opened
 returns-clause-opened c =
-    reached_told c.take_out-opened.result c.args.at c.args.self.now c.count_reach.new.self c.counted.ensures.openings c.counted.ensures.reaches (returns-clause-exact c)
+    reached_known c.take_out-opened.result c.args.at c.args.self.now c.count_reach.new.self c.counted.ensures.openings c.counted.ensures.reaches (returns-clause-exact c)

@@ -1,7 +1,7 @@
 use Rattle.std.proofs.Common.{◌≡◌, ◌∙◌, ap, string_bytes}
 use Rattle.std.specs.FinMap as map
 use Rattle.drm_links.specs.MemoryShelf.{by_name, shelf_known}
-use Rattle.drm_links.proofs.FilesLemmas.{by_name-insert, told-with_file}
+use Rattle.drm_links.proofs.FilesLemmas.{by_name-insert, contents-with_file}
 use Rattle.drm_links.proofs.memory_shelf.MemShelf.add.Goals as goal
 
 pub returns-in-Ok-clause-added : goal.returns-in-Ok-clause-added
@@ -13,4 +13,4 @@ returns-in-Ok-clause-added c =
     rw (← c.self.view_is) (ap (λ files. record { files = files; failing = c.self.inside.failing.items; loads = c.self.inside.loads; names = c.self.inside.names.items; faults = c.self.inside.faults }) inserted)
 
 pub returns-in-Ok-clause-tells : goal.returns-in-Ok-clause-tells
-returns-in-Ok-clause-tells c = ap (λ shelf. (shelf_known shelf).told) (returns-in-Ok-clause-added c) ∙ told-with_file c.args.self.now c.args.name.now c.args.bytes.now
+returns-in-Ok-clause-tells c = ap (λ shelf. (shelf_known shelf).contents) (returns-in-Ok-clause-added c) ∙ contents-with_file c.args.self.now c.args.name.now c.args.bytes.now

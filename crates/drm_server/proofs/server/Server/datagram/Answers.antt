@@ -1,9 +1,9 @@
 use Rattle.std.proofs.Common.{ℕ, sym, subst, refl}
 use Rattle.drm_server.specs.Datagrams.{HasDatagram}
-use Rattle.drm_server.specs.Serving.{Serving}
+use Rattle.drm_server.specs.ServerState.{ServerState}
 use Rattle.drm_server.proofs.server.Server.datagram.Goals as goal
 
-abbrev Within : ℕ → Serving → Type 0
+abbrev Within : ℕ → ServerState → Type 0
 Within i s = HasDatagram s.plan s.frame i
 
 pub returns-then-is_whole : goal.returns-then-is_whole

@@ -1,6 +1,6 @@
 use Rattle.std.proofs.Common.{ℕ, List, take, Some, None, refl}
 use Rattle.drm_text.specs.Joining.{GivesMessage}
-use Rattle.drm_text.specs.Rooms.{front_of}
+use Rattle.drm_text.specs.Buffers.{front_of}
 use Rattle.drm_text.specs.Taking.{text_of}
 use Rattle.drm_text.proofs.Joinings.{full_leaves, full_tells, gives_text}
 use Rattle.drm_text.proofs.joiner.TextJoiner.piece.Goals as goal

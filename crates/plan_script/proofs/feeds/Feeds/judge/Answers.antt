@@ -1,5 +1,5 @@
 use Rattle.std.proofs.Common.{◌∙◌, sym}
-use Rattle.plan_script.specs.declared.line.Line.TheVariants as lines
+use Rattle.plan_script.specs.declared.line.ScriptLine.TheVariants as lines
 use Rattle.plan_script.specs.Steps.{feeds_in}
 use Rattle.plan_script.proofs.RuleLemmas.{refuses, read_is}
 use Rattle.plan_script.proofs.StepLemmas.{begins, begins_counted, adds, adds_counted}
@@ -7,7 +7,7 @@ use Rattle.plan_script.proofs.feeds.Feeds.judge.Goals as goal
 
 pub returns-in-Err-clause-steps : goal.returns-in-Err-clause-steps
 returns-in-Err-clause-steps c = λ form read.
-    rw c.at.ensures (refuses c.args.plan.now (feeds_in c.args.self.now) c.args.n form c.in-Err.reason (sym read ∙ c.in-Err.is))
+    rw c.fault_at_line.ensures (refuses c.args.plan.now (feeds_in c.args.self.now) c.args.n form c.in-Err.reason (sym read ∙ c.in-Err.is))
 
 pub returns-in-Feed-clause-steps : goal.returns-in-Feed-clause-steps
 returns-in-Feed-clause-steps c = λ form read.

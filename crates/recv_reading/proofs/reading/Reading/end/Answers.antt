@@ -1,5 +1,5 @@
 use Rattle.std.proofs.Common.{◌++◌, ◌∷◌, [], ◌<◌, sym, ap, subst}
-use Rattle.recv_reading.proofs.Common.{End, State, ahead, Reached}
+use Rattle.recv_reading.proofs.Common.{End, CollectorState, ahead, ReadingReached}
 use Rattle.recv_reading.specs.declared.reason.EndWord.TheVariants as word
 use Rattle.recv_reading.proofs.Reaching.{reached_end, less_ended, unfinished, few_frames}
 use Rattle.recv_reading.proofs.reading.Reading.end.Goals as goal
@@ -16,7 +16,7 @@ finish-requires-clause-most_frames c =
 
 pub returns-clause-reached : goal.returns-clause-reached
 returns-clause-reached c = λ options answers taken during more z.
-    subst (λ s. Reached options (answers ++ End ∷ []) taken (during ++ more) [] s c.finish.new.collector) (sym c.finish.ensures.ended)
+    subst (λ s. ReadingReached options (answers ++ End ∷ []) taken (during ++ more) [] s c.finish.new.collector) (sym c.finish.ensures.ended)
     (reached_end options answers taken during more c.args.self.now c.args.collector.now z c.requires.waits c.finish.new.collector c.requires.below_limit c.finish.ensures.finished)
 
 pub returns-clause-less : goal.returns-clause-less
@@ -24,4 +24,4 @@ returns-clause-less c =
     let (options, answers, taken, during, more, z) = c.requires.reached in
     subst (λ s. ahead s c.finish.new.collector < ahead c.args.self.now c.args.collector.now) (sym c.finish.ensures.ended)
     (less_ended options answers taken during more c.args.self.now c.args.collector.now z c.requires.waits c.finish.new.collector word.Input
-    (ap (λ (d : State). d.next) c.finish.ensures.finished))
+    (ap (λ (d : CollectorState). d.next) c.finish.ensures.finished))

@@ -1,5 +1,5 @@
 use Rattle.std.proofs.Common.{ℕ, ◌≡◌, ◌+◌, ◌^◌, ◌++◌, ◌∷◌, [], ◌<◌, ◌≤◌, IfSome, arith, sym, ap, subst, ◌∙◌}
-use Rattle.recv_reading.proofs.Common.{Idle, State, after_finish, ReadingState, ahead, Reached}
+use Rattle.recv_reading.proofs.Common.{Idle, CollectorState, after_finish, ReadingState, ahead, ReadingReached}
 use Rattle.recv_reading.specs.declared.reason.EndWord.TheVariants as word
 use Rattle.recv_reading.specs.State.{one_idle, ended_by}
 use Rattle.recv_reading.proofs.Reaching.{fewer_idles, reached_idle, reached_last_idle, less_idle, less_last_idle, unfinished, few_frames}
@@ -18,7 +18,7 @@ finish-requires-clause-most_frames c =
 
 pub returns-then-self-most-clause-reached : goal.returns-then-self-most-clause-reached
 returns-then-self-most-clause-reached c = λ options answers taken during more z.
-    subst (λ s. Reached options (answers ++ Idle ∷ []) taken (during ++ more) [] s c.finish.new.collector)
+    subst (λ s. ReadingReached options (answers ++ Idle ∷ []) taken (during ++ more) [] s c.finish.new.collector)
     (sym (c.finish.ensures.ended ∙ ap (λ r. ended_by word.Idle (one_idle r)) c.self.view_is))
     (reached_last_idle options answers taken during more c.args.self.now c.args.collector.now z c.requires.waits c.finish.new.collector c.requires.below_limit
     (ap (λ (r : ReadingState). r.idles + 1) (sym c.self.view_is) ∙ c.if-self-most.true ∙ ap (λ (r : ReadingState). r.bounds.idle) c.self.view_is)
@@ -31,14 +31,14 @@ returns-then-self-most-clause-less c =
     (sym (c.finish.ensures.ended ∙ ap (λ r. ended_by word.Idle (one_idle r)) c.self.view_is))
     (less_last_idle options answers taken during more c.args.self.now c.args.collector.now z c.requires.waits c.finish.new.collector
     (ap (λ (r : ReadingState). r.idles + 1) (sym c.self.view_is) ∙ c.if-self-most.true ∙ ap (λ (r : ReadingState). r.bounds.idle) c.self.view_is)
-    (ap (λ (d : State). d.next) c.finish.ensures.finished))
+    (ap (λ (d : CollectorState). d.next) c.finish.ensures.finished))
 
 more_idles : (old new idles idle : ℕ) → old ≡ idles → new ≡ idle → idles < idle → (old + 1 ≡ new → ⊥) → idles + 1 < idle
 more_idles old new idles idle is same less other = grind (arith, is, same, less)
 
 pub returns-else-self-most-clause-reached : goal.returns-else-self-most-clause-reached
 returns-else-self-most-clause-reached c = λ options answers taken during more z.
-    subst (λ s. Reached options (answers ++ Idle ∷ []) taken (during ++ more) [] s c.args.collector.now) (sym (ap one_idle c.self.view_is))
+    subst (λ s. ReadingReached options (answers ++ Idle ∷ []) taken (during ++ more) [] s c.args.collector.now) (sym (ap one_idle c.self.view_is))
     (reached_idle options answers taken during more c.args.self.now c.args.collector.now z c.requires.waits c.requires.below_limit
     (more_idles c.self.inside.idles c.self.inside.bounds.idle c.args.self.now.idles c.args.self.now.bounds.idle
     (ap (λ (r : ReadingState). r.idles) c.self.view_is) (ap (λ (r : ReadingState). r.bounds.idle) c.self.view_is)

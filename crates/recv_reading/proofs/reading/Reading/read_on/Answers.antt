@@ -1,6 +1,6 @@
 use Rattle.std.proofs.Common.{◌++◌, [], ◌<◌, sym, ap, subst, ◌∙◌}
 use Rattle.std.proofs.lemmas.List.{append-nil}
-use Rattle.recv_reading.proofs.Common.{State, ReadingState, ahead, Reached}
+use Rattle.recv_reading.proofs.Common.{CollectorState, ReadingState, ahead, ReadingReached}
 use Rattle.recv_reading.specs.declared.reason.EndWord.TheVariants as word
 use Rattle.recv_reading.proofs.Reaching.{reached_limit, less_ended, unfinished, few_frames}
 use Rattle.recv_reading.proofs.reading.Reading.read_on.Goals as goal
@@ -16,11 +16,11 @@ finish-requires-clause-most_frames g c =
     few_frames options answers taken during more c.args.self.now c.args.collector.now z c.requires.waits
 
 pub returns-then-self-clause-reads : goal.returns-then-self-clause-reads
-returns-then-self-clause-reads g c = λ start options answers taken during more came z. (
+returns-then-self-clause-reads g c = λ start options answers taken during more so_far z. (
   [],
-  subst (g.R.Datagrams.so_far start c.args.room.now c.args.from.now) (sym (append-nil answers)) came,
-  subst (λ l. Reached options l taken (during ++ more) [] c.finish.new.self c.finish.new.collector) (sym (append-nil answers))
-      (subst (λ s. Reached options answers taken (during ++ more) [] s c.finish.new.collector) (sym c.finish.ensures.ended)
+  subst (g.R.Datagrams.so_far start c.args.reader.now c.args.from.now) (sym (append-nil answers)) so_far,
+  subst (λ l. ReadingReached options l taken (during ++ more) [] c.finish.new.self c.finish.new.collector) (sym (append-nil answers))
+      (subst (λ s. ReadingReached options answers taken (during ++ more) [] s c.finish.new.collector) (sym c.finish.ensures.ended)
       (reached_limit options answers taken during more c.args.self.now c.args.collector.now z c.requires.waits c.finish.new.collector
       (ap (λ (r : ReadingState). r.taken) (sym c.self.view_is) ∙ c.if-self.true ∙ ap (λ (r : ReadingState). r.bounds.limit) c.self.view_is) c.finish.ensures.finished)),
 )
@@ -30,4 +30,4 @@ returns-then-self-clause-less g c =
     let (options, answers, taken, during, more, z) = c.requires.reached in
     subst (λ s. ahead s c.finish.new.collector < ahead c.args.self.now c.args.collector.now) (sym c.finish.ensures.ended)
     (less_ended options answers taken during more c.args.self.now c.args.collector.now z c.requires.waits c.finish.new.collector word.Limit
-    (ap (λ (d : State). d.next) c.finish.ensures.finished))
+    (ap (λ (d : CollectorState). d.next) c.finish.ensures.finished))

@@ -2,14 +2,14 @@ use Rattle.std.proofs.Common.{◌++◌, ◌∷◌, [], ◌<◌, sym, ap, subst}
 use Rattle.drm_links.specs.Link.{Datagram}
 use Rattle.law_collect.proofs.Fit.{fit_taken}
 use Rattle.recv_reading.specs.State.{one_taken, ahead}
-use Rattle.recv_reading.specs.Reached.{Reached}
+use Rattle.recv_reading.specs.ReadingReached.{ReadingReached}
 use Rattle.recv_reading.proofs.First.{may_taken}
 use Rattle.recv_reading.proofs.Reaching.{reached_taken, less_taken, takes_next}
 use Rattle.recv_reading.proofs.reading.Reading.take.Goals as goal
 
 pub returns-clause-reached : goal.returns-clause-reached
 returns-clause-reached c = λ options answers taken during more z.
-    subst (λ s. Reached options (answers ++ Datagram c.args.datagram.now ∷ []) (taken ++ c.take-answer.result ∷ []) (during ++ more) [] s c.take-answer.new.self)
+    subst (λ s. ReadingReached options (answers ++ Datagram c.args.datagram.now ∷ []) (taken ++ c.take-answer.result ∷ []) (during ++ more) [] s c.take-answer.new.self)
     (sym (ap one_taken c.self.view_is))
     (reached_taken options answers taken during more c.args.self.now c.args.collector.now z c.requires.waits
     c.take-answer.new.self c.args.datagram.now c.take-answer.result c.requires.below_limit c.take-answer.ensures.takes

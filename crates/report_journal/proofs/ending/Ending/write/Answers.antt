@@ -1,7 +1,7 @@
 use Rattle.std.proofs.Common.{◌≡◌, ◌++◌, ap, subst, List, ℕ}
 use Rattle.std.proofs.lemmas.Result.{err_from_is_err_and}
-use Rattle.drm_links.specs.Sink.{Outputs, IsFront}
-use Rattle.drm_links.proofs.ToldLemmas.{Outputs-weaker}
+use Rattle.drm_links.specs.Sink.{OutputsText, IsPrefix}
+use Rattle.drm_links.proofs.KnownLemmas.{OutputsText-weaker}
 use Rattle.drm_links.proofs.WritingLemmas.{Writes-done, Writes-front, front_more, front_then}
 use Rattle.report_text.specs.Report.{end_line}
 use Rattle.report_text.specs.Reports.{refused_text, Report}
@@ -16,9 +16,9 @@ returns-in_err-write_refused-clause-front g c =
     let d = g.O.Sink.known c.write_refused.new.out in
     let refused : List ℕ = refused_text e.counts.refused in
     let end : List ℕ = end_line e.word e.counts.sums in
-    let first : Outputs a b (λ x. x ≡ e.text.items) = subst (λ l. Outputs a b (λ x. x ≡ l)) c.deref.ensures.value (Writes-done c.in_ok-write_all.was c.write_all.ensures) in
-    let front : Outputs b d (IsFront (refused ++ end)) = Outputs-weaker (IsFront refused) (IsFront (refused ++ end)) b d (Writes-front c.in_err-write_refused.was c.write_refused.ensures) (λ x f. front_more refused end x f) in
-    rw p.1 (subst (λ l. Outputs a d (IsFront l)) (ap (λ (r : Report). r.text) c.self.view_is) (front_then e.text.items (refused ++ end) a b d first front))
+    let first : OutputsText a b (λ x. x ≡ e.text.items) = subst (λ l. OutputsText a b (λ x. x ≡ l)) c.deref.ensures.value (Writes-done c.in_ok-write_all.was c.write_all.ensures) in
+    let front : OutputsText b d (IsPrefix (refused ++ end)) = OutputsText-weaker (IsPrefix refused) (IsPrefix (refused ++ end)) b d (Writes-front c.in_err-write_refused.was c.write_refused.ensures) (λ x f. front_more refused end x f) in
+    rw p.1 (subst (λ l. OutputsText a d (IsPrefix l)) (ap (λ (r : Report). r.text) c.self.view_is) (front_then e.text.items (refused ++ end) a b d first front))
 
 pub returns-in_err-write_end-clause-front : goal.returns-in_err-write_end-clause-front
 returns-in_err-write_end-clause-front g c =
@@ -30,6 +30,6 @@ returns-in_err-write_end-clause-front g c =
     let h = g.O.Sink.known c.write_end.new.out in
     let refused : List ℕ = refused_text e.counts.refused in
     let end : List ℕ = end_line e.word e.counts.sums in
-    let first : Outputs a b (λ x. x ≡ e.text.items) = subst (λ l. Outputs a b (λ x. x ≡ l)) c.deref.ensures.value (Writes-done c.in_ok-write_all.was c.write_all.ensures) in
-    let front : Outputs b h (IsFront (refused ++ end)) = front_then refused end b d h (Writes-done c.in_ok-write_refused.was c.write_refused.ensures) (Writes-front c.in_err-write_end.was c.write_end.ensures) in
-    rw p.1 (subst (λ l. Outputs a h (IsFront l)) (ap (λ (r : Report). r.text) c.self.view_is) (front_then e.text.items (refused ++ end) a b h first front))
+    let first : OutputsText a b (λ x. x ≡ e.text.items) = subst (λ l. OutputsText a b (λ x. x ≡ l)) c.deref.ensures.value (Writes-done c.in_ok-write_all.was c.write_all.ensures) in
+    let front : OutputsText b h (IsPrefix (refused ++ end)) = front_then refused end b d h (Writes-done c.in_ok-write_refused.was c.write_refused.ensures) (Writes-front c.in_err-write_end.was c.write_end.ensures) in
+    rw p.1 (subst (λ l. OutputsText a h (IsPrefix l)) (ap (λ (r : Report). r.text) c.self.view_is) (front_then e.text.items (refused ++ end) a b h first front))

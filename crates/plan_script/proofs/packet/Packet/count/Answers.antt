@@ -1,5 +1,0 @@
-use Rattle.plan_script.proofs.PacketLemmas.{counted}
-use Rattle.plan_script.proofs.packet.Packet.count.Goals as goal
-
-pub returns : goal.returns
-returns c = λ plan is. counted plan c.args.self.now _ is (c.datagrams.ensures plan.carry c.args.self.now.len is.cut)
