@@ -5,7 +5,7 @@
     tools/names.py --words       and which definitions have one word, with their places
 
 1. Each crate begins with a prefix of the map, or is a program of it; crates.txt and the table of crates list all, in the order of `ls`.
-2. No definition of specs/ is one bare verb ("Ends", "Took"), and a relation of one bare word ("IsReady") stands in one crate.
+2. No definition of specs/ is one bare verb ("Ends", "Took"): its name has its subject too ("ReadingEnds").
 3. No clause is labelled few, some, small, many, long, all or left: a label names its fact.
 4. The name of a type stands in one crate: struct, enum, trait and type of src/, and types of specs/. A definition that models a type of its
    own crate under its name counts once. Names of the public surface that are the same in two crates are listed in SURFACE.
@@ -21,15 +21,14 @@ import command_line
 TOP = pathlib.Path(__file__).resolve().parent.parent
 CRATES = TOP / "crates"
 MAP = TOP / "docs" / "ARCHITECTURE.md"
+LIST = TOP / "crates.txt"
 
 LABELS = "few some small many long all left".split()
 LABEL = re.compile(rf"^\s*(?:requires|ensures)\*? ({'|'.join(LABELS)}) \{{")
-PREFIX = re.compile(r"^\| `(\w+_)` \|", re.MULTILINE)
-PROGRAM = re.compile(r"^\| `(drmcast|drmpaths)` \|", re.MULTILINE)
 ROW = re.compile(r"^\| `(\w+)` \|", re.MULTILINE)
+MAP_ENDS = "## Where to begin reading"
 DEFINITION = re.compile(r"^(?:(abbrev|unfoldable) )?(?:pub )?(?:(record|data) )?([A-Z][A-Za-z0-9]*)(?![A-Za-z0-9_'.])(.*)$")
 TYPE = re.compile(r"^(?:pub(?:\(crate\))? )?(?:ghost )?(?:struct|enum|trait|type) ([A-Z][A-Za-z0-9]*)\b")
-RELATION = re.compile(r"(?:Is|Are|Has|Have)[A-Z][a-z]+")
 
 # One word that ends like a verb and is none.
 NOUNS = set("Address Class Counts Files Front Items Kind Known Object Options Over Packets Parts Pieces Rules Targets Terms Totals Traffic Use".split())
@@ -72,37 +71,33 @@ def definitions(crate):
             yield place, found[2] or "function", found[3], found[4]
 
 
+def out_of_order(what, names):
+    for before, name in zip(names, names[1:]):
+        if name < before:
+            yield f"{what}: {name} stands behind {before}: the order is that of ls"
+            return
+
+
 def of_crates(crates):
     """What the map, the table and crates.txt say otherwise than the folders."""
-    text = MAP.read_text(encoding="utf-8")
-    prefixes, programs = PREFIX.findall(text), PROGRAM.findall(text)
+    prefixes, table = MAP.read_text(encoding="utf-8").split(MAP_ENDS)
+    prefixes = ROW.findall(prefixes)
     names = [crate.name for crate in crates]
     for name in names:
-        if name not in programs and not any(name.startswith(prefix) for prefix in prefixes):
-            yield f"crates/{name}: no prefix of the map in docs/ARCHITECTURE.md"
-    rows = [name for name in ROW.findall(text) if name in names]
-    once = list(dict.fromkeys(rows))
-    yield from (f"docs/ARCHITECTURE.md: no row for {name}" for name in names if name not in once)
-    listed = [line.split(":")[0].split()[0] for line in (TOP / "crates.txt").read_text(encoding="utf-8").splitlines()
-              if ":" in line and not line.startswith("#")]
-    for what, order in (("crates.txt", listed), ("docs/ARCHITECTURE.md", once)):
-        if order != sorted(order):
-            first = next(k for k in range(1, len(order)) if order[k] < order[k - 1])
-            yield f"{what}: {order[first]} stands behind {order[first - 1]}: the order is that of ls"
+        if not any(name == prefix or prefix.endswith("_") and name.startswith(prefix) for prefix in prefixes):
+            yield f"crates/{name}: no prefix of the map in {MAP.name}"
+    rows = [name for name in ROW.findall(table) if name in names]
+    yield from (f"{MAP.name}: no row for {name}" for name in names if name not in rows)
+    yield from out_of_order(MAP.name, rows)
+    yield from out_of_order(LIST.name, [line.split(":")[0] for line in LIST.read_text(encoding="utf-8").splitlines() if not line.startswith("#")])
 
 
 def of_definitions(crates):
-    """Bare verbs, and relations of one bare word in several crates."""
-    bare = collections.defaultdict(lambda: collections.defaultdict(list))
+    """Bare verbs."""
     for crate in crates:
-        for place, kind, name, rest in definitions(crate):
+        for place, _, name, _ in definitions(crate):
             if is_bare_verb(name):
                 yield f"{place}: {name} is a bare verb: say of what"
-            if not is_type(kind, name, rest) and RELATION.fullmatch(name):
-                bare[name][crate.name].append(place)
-    for name, places in sorted(bare.items()):
-        if len(places) > 1:
-            yield f"{name} stands in several crates: " + ", ".join(sorted(places))
 
 
 def of_labels(crates):
