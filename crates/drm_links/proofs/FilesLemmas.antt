@@ -51,5 +51,5 @@ changed_if true change contents = refl
 changed_if false change contents = refl
 
 -- what is told of the shelf, with one file more
-pub contents-with_file : (shelf : ShelfState) (name bytes : List ℕ) → (shelf_known (record shelf { files = map.insert shelf.files name bytes })).known ≡ option_map (with_file name bytes) (shelf_known shelf).contents
+pub contents-with_file : (shelf : ShelfState) (name bytes : List ℕ) → (shelf_known (record shelf { files = map.insert shelf.files name bytes })).contents ≡ option_map (with_file name bytes) (shelf_known shelf).contents
 contents-with_file shelf name bytes = changed_if (nat_le shelf.loads (2 ^ 62)) (with_file name bytes) _
