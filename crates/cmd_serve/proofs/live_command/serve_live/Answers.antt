@@ -24,9 +24,9 @@ returns-in_err-server-clause-run g c =
     (live_refused c.args.name.now c.args.from c.args.live.now g.S.Shelf.known c.args.shelf.now c.read_schedule.new.shelf g.I.Source.known g.O.Sink.known schedule.NoMemory c.args.input.now c.args.out.now
     (schedule_ran_out c.args.name.now c.in_ok-schedule.schedule (g.S.Shelf.known c.args.shelf.now) (g.S.Shelf.known c.read_schedule.new.shelf) c.in_ok-schedule.ensures.reads) (counts_none (λ is. cc) (c.in_ok-schedule.ensures.cause.same (λ is. cc))))
 
-pub returns-in_err-room-clause-run : goal.returns-in_err-room-clause-run
-returns-in_err-room-clause-run g c =
-    let p = err_from_is_err_and c.from_residual-in_err-room.result c.from_residual-in_err-room.ensures.1 in
+pub returns-in_err-scratch-clause-run : goal.returns-in_err-scratch-clause-run
+returns-in_err-scratch-clause-run g c =
+    let p = err_from_is_err_and c.from_residual-in_err-scratch.result c.from_residual-in_err-scratch.ensures.1 in
     rw (p.1 ∙ ap Err p.2)
     (live_refused c.args.name.now c.args.from c.args.live.now g.S.Shelf.known c.args.shelf.now c.read_schedule.new.shelf g.I.Source.known g.O.Sink.known schedule.NoMemory c.args.input.now c.args.out.now
     (schedule_ran_out c.args.name.now c.in_ok-schedule.schedule (g.S.Shelf.known c.args.shelf.now) (g.S.Shelf.known c.read_schedule.new.shelf) c.in_ok-schedule.ensures.reads) (counts_none (λ is. cc) (c.in_ok-schedule.ensures.cause.same (λ is. cc))))
@@ -51,10 +51,10 @@ returns-in_err-server-clause-read g c =
     served_read c.args.name.now c.args.from c.args.live.now c.from_residual-in_err-server.result g.S.Shelf.known c.args.shelf.now c.read_schedule.new.shelf g.I.Source.known c.args.input.now c.args.input.now g.O.Sink.known c.args.out.now c.args.out.now
     (returns-in_err-server-clause-run g c)
 
-pub returns-in_err-room-clause-read : goal.returns-in_err-room-clause-read
-returns-in_err-room-clause-read g c =
-    served_read c.args.name.now c.args.from c.args.live.now c.from_residual-in_err-room.result g.S.Shelf.known c.args.shelf.now c.read_schedule.new.shelf g.I.Source.known c.args.input.now c.args.input.now g.O.Sink.known c.args.out.now c.args.out.now
-    (returns-in_err-room-clause-run g c)
+pub returns-in_err-scratch-clause-read : goal.returns-in_err-scratch-clause-read
+returns-in_err-scratch-clause-read g c =
+    served_read c.args.name.now c.args.from c.args.live.now c.from_residual-in_err-scratch.result g.S.Shelf.known c.args.shelf.now c.read_schedule.new.shelf g.I.Source.known c.args.input.now c.args.input.now g.O.Sink.known c.args.out.now c.args.out.now
+    (returns-in_err-scratch-clause-run g c)
 
 pub returns-clause-read : goal.returns-clause-read
 returns-clause-read g c =

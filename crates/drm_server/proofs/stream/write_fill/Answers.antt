@@ -5,7 +5,7 @@ use Rattle.mdi_items.specs.Written.{written, behind, spelled, whole}
 use Rattle.drm_server.proofs.stream.write_fill.Goals as goal
 
 filled : (c : goal.After-stream) → c.fill.new.self ≡ replicate c.args.size c.args.byte
-filled c = c.fill.ensures.after (λ y same. same) ∙ ap (λ (n : ℕ). replicate n c.args.byte) (length-take-le c.args.size c.args.scratch.now (omega (arith, c.requires.within_limit, c.told-room)))
+filled c = c.fill.ensures.after (λ y same. same) ∙ ap (λ (n : ℕ). replicate n c.args.byte) (length-take-le c.args.size c.args.scratch.now (omega (arith, c.requires.within_limit, c.told-scratch)))
 
 pub returns-clause-written : goal.returns-clause-written
 returns-clause-written c =
