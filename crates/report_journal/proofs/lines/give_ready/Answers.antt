@@ -1,7 +1,7 @@
 use Rattle.report_journal.proofs.Printing.{prints_all}
 use Rattle.report_journal.proofs.lines.give_ready.Goals as goal
 
-pub returns-clause-prints_all : goal.returns-clause-whole_length
+pub returns-clause-prints_all : goal.returns-clause-prints_all
 returns-clause-prints_all g c =
     let printed = c.in_ok-print_ready.ensures in
     let (more, gives) = c.skip_ready.ensures in
