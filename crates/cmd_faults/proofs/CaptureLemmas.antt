@@ -26,24 +26,24 @@ each_early S P memory wrong long read write size faults.Link is = absurd is
 
 -- ---- by what is wrong behind the packets
 
-pub none_by : (clean : Bool) (why : capture.Ending) → EndsByIt (Ok clean) why → ⊥
+pub none_by : (clean : Bool) (why : capture.CaptureEnding) → EndsByIt (Ok clean) why → ⊥
 none_by clean capture.End is = is
 none_by clean (capture.Fault fault) is = cc
 none_by clean capture.TooLong is = cc
 
-pub fault_by : (fault : CaptureFault) (why : capture.Ending) → EndsByIt (Err (faults.Capture fault)) why → capture.Fault fault ≡ why
+pub fault_by : (fault : CaptureFault) (why : capture.CaptureEnding) → EndsByIt (Err (faults.Capture fault)) why → capture.Fault fault ≡ why
 fault_by fault capture.End is = absurd is
 fault_by fault (capture.Fault other) is = let same : fault ≡ other = cc in ap capture.Fault same
 fault_by fault capture.TooLong is = absurd (cc)
 
-pub length_by : (why : capture.Ending) → EndsByIt (Err faults.CaptureTooLong) why → capture.TooLong ≡ why
+pub length_by : (why : capture.CaptureEnding) → EndsByIt (Err faults.CaptureTooLong) why → capture.TooLong ≡ why
 length_by capture.End is = absurd is
 length_by (capture.Fault other) is = absurd (cc)
 length_by capture.TooLong is = refl
 
 -- Where no read and no write failed, nothing is wrong behind the packets and none is too long, it is done unless memory was wanting.
 pub done_or : (S : Type 0) (ending : Result Bool Fault) → ((fault : Fault) → ending ≡ Err fault → EndsEarlyOr S fault) → (ending ≡ Err faults.Read → ⊥) → (ending ≡ Err faults.Write → ⊥)
-    → ((why : capture.Ending) → EndsByIt ending why → ⊥) → (S → (number : ℕ) → ending ≡ Err (faults.PacketSize number) → ⊥)
+    → ((why : capture.CaptureEnding) → EndsByIt ending why → ⊥) → (S → (number : ℕ) → ending ≡ Err (faults.PacketSize number) → ⊥)
     → (ending ≡ Err faults.NoMemory) ⊎ ((clean : Bool) × (ending ≡ Ok clean))
 done_or S (Ok clean) kind no_read no_write none no_size = inr (clean, refl)
 done_or S (Err fault) kind no_read no_write none no_size =

@@ -42,7 +42,7 @@ abbrev pub EndsEarly : Fault → Type 0
 EndsEarly fault = EndsEarlyOr ⊥ fault
 
 -- the run ends by what is wrong behind the packets
-abbrev pub EndsByIt : Result Bool Fault → capture.Ending → Type 0
+abbrev pub EndsByIt : Result Bool Fault → capture.CaptureEnding → Type 0
 EndsByIt ending capture.End = ⊥
 EndsByIt ending (capture.Fault fault) = ending ≡ Err (faults.Capture fault)
 EndsByIt ending capture.TooLong = ending ≡ Err faults.CaptureTooLong

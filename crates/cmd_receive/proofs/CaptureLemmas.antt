@@ -50,11 +50,11 @@ began before after answers (reader, (packets, inl (read, are))) =
 began before after answers (reader, (packets, inr (ended, are))) =
     InputsBytes-weaker (λ left rest. capture.IsCaptureOf left packets capture.End) (λ left rest. Begin left answers) before after ended (λ left rest is. (packets, inr (is, are)))
 
-next_packets : (packets later : List (List ℕ)) (ending : capture.Ending) → AreNext (answers_of (packets ++ later) ending) (map Datagram packets) (answers_of later ending)
+next_packets : (packets later : List (List ℕ)) (ending : capture.CaptureEnding) → AreNext (answers_of (packets ++ later) ending) (map Datagram packets) (answers_of later ending)
 next_packets [] later ending = refl
 next_packets (p ∷ packets) later ending = (refl, next_packets packets later ending)
 
-next_whole : (packets : List (List ℕ)) (ending : capture.Ending) → AreNext (answers_of packets ending) (answers_of packets ending) []
+next_whole : (packets : List (List ℕ)) (ending : capture.CaptureEnding) → AreNext (answers_of packets ending) (answers_of packets ending) []
 next_whole [] ending = (refl, refl)
 next_whole (p ∷ packets) ending = (refl, next_whole packets ending)
 
@@ -103,7 +103,7 @@ module _ {O : Type 0} (rules : ReceiveOptions) (valid : AreInRange rules) (headl
   stopped : ReportStopped rules 1 (HeardOf before after) (known out) (known out') → Quiet
   stopped r = InputsBytes-weaker (λ left rest. Begin left r.answers) (λ left rest. Unit {0}) before after (began before after r.answers r.heard) (λ left rest begins. tt)
 
-  breaks : (stop : CaptureStop) (ending : capture.Ending) (left : List ℕ) (r : ReportBroken rules 1 (HeardUntil stop before after) (known out) (known out')) → capture.IsCaptureOf left r.heard.0 ending → answers_of r.heard.0 ending ≡ r.answers → BreaksOffBy rules left ending
+  breaks : (stop : CaptureStop) (ending : capture.CaptureEnding) (left : List ℕ) (r : ReportBroken rules 1 (HeardUntil stop before after) (known out) (known out')) → capture.IsCaptureOf left r.heard.0 ending → answers_of r.heard.0 ending ≡ r.answers → BreaksOffBy rules left ending
   breaks stop ending left r is are = record {
     packets = r.heard.0;
     is = is;

@@ -24,7 +24,7 @@ use Rattle.cmd_receive.proofs.ReceiveStatus.{clean_in_time}
 
 -- ---- bytes bring one thing
 
-same_ahead : (left : List ℕ) (ahead : List Answer) (brings : BytesBring left ahead) (packets : List (List ℕ)) (ending : capture.Ending) → capture.IsCaptureOf left packets ending → ahead ≡ answers_of packets ending
+same_ahead : (left : List ℕ) (ahead : List Answer) (brings : BytesBring left ahead) (packets : List (List ℕ)) (ending : capture.CaptureEnding) → capture.IsCaptureOf left packets ending → ahead ≡ answers_of packets ending
 same_ahead left ahead brings packets ending of =
     let same = read_one_way left brings.packets packets brings.ending ending brings.is of in
     brings.ahead_is ∙ ap₂ answers_of same.0 same.1
@@ -32,11 +32,11 @@ same_ahead left ahead brings packets ending of =
 one_ahead : (left : List ℕ) (ahead others : List Answer) → BytesBring left ahead → BytesBring left others → ahead ≡ others
 one_ahead left ahead others brings other = same_ahead left ahead brings other.packets other.ending other.is ∙ sym other.ahead_is
 
-one_ending : (left : List ℕ) (packets : List (List ℕ)) (ending : capture.Ending) (rules : ReceiveOptions) (why : capture.Ending) → capture.IsCaptureOf left packets ending → BreaksOffBy rules left why → ending ≡ why
+one_ending : (left : List ℕ) (packets : List (List ℕ)) (ending : capture.CaptureEnding) (rules : ReceiveOptions) (why : capture.CaptureEnding) → capture.IsCaptureOf left packets ending → BreaksOffBy rules left why → ending ≡ why
 one_ending left packets ending rules why of breaks = (read_one_way left packets breaks.packets ending why of breaks.is).1
 
 -- what has a report doesn't break off
-whole_report : (rules : ReceiveOptions) (left : List ℕ) (ahead : List Answer) (r : Report) (why : capture.Ending) → BytesBring left ahead → IsReportOf rules 1 ahead r → BreaksOffBy rules left why → ⊥
+whole_report : (rules : ReceiveOptions) (left : List ℕ) (ahead : List Answer) (r : Report) (why : capture.CaptureEnding) → BytesBring left ahead → IsReportOf rules 1 ahead r → BreaksOffBy rules left why → ⊥
 whole_report rules left ahead r why brings report by =
     let same : ahead ≡ answers_of by.packets why = same_ahead left ahead brings by.packets why by.is in
     let b = by.breaks in
@@ -54,10 +54,10 @@ module _ {O : Type 0} (rules : ReceiveOptions) (left : List ℕ) (known : O → 
   -- ---- exactly there
 
   abbrev Exactly : Result Bool Fault → Type 0
-  Exactly ending = (why : capture.Ending) → EndsByIt ending why ↔ BreaksOffBy rules left why
+  Exactly ending = (why : capture.CaptureEnding) → EndsByIt ending why ↔ BreaksOffBy rules left why
 
   -- behind the packets something is wrong
-  broken_by : (ending : Result Bool Fault) (is : capture.Ending) → BreaksOffBy rules left is → EndsByIt ending is → ((why : capture.Ending) → EndsByIt ending why → is ≡ why) → UnlessMemory ending (Exactly ending)
+  broken_by : (ending : Result Bool Fault) (is : capture.CaptureEnding) → BreaksOffBy rules left is → EndsByIt ending is → ((why : capture.CaptureEnding) → EndsByIt ending why → is ≡ why) → UnlessMemory ending (Exactly ending)
   broken_by ending is breaks ends one =
       inr (λ why. (
         (λ by. subst (BreaksOffBy rules left) (one why by) breaks),
@@ -77,7 +77,7 @@ module _ {O : Type 0} (rules : ReceiveOptions) (left : List ℕ) (known : O → 
   -- ---- nothing is lost
 
   whole_by : (ending : Result Bool Fault) → ((fault : Fault) → ending ≡ Err fault → EndsEarly fault) → Says rules left ending known out out'
-      → (ending ≡ Err faults.Read → ⊥) → (ending ≡ Err faults.Write → ⊥) → ((why : capture.Ending) → BreaksOffBy rules left why → ⊥)
+      → (ending ≡ Err faults.Read → ⊥) → (ending ≡ Err faults.Write → ⊥) → ((why : capture.CaptureEnding) → BreaksOffBy rules left why → ⊥)
       → UnlessMemory ending (WroteReport rules left ending known out out')
   whole_by ending kind wrote no_read no_write none =
       elim (exact_by ending kind wrote no_read no_write) [
@@ -97,7 +97,7 @@ module _ {O : Type 0} (rules : ReceiveOptions) (left : List ℕ) (known : O → 
       let there : IsInTimeAhead rules others = subst (IsInTimeAhead rules) (one_ahead left ahead others brings other) time in
       inr (is ∙ ap Ok (same ∙ is_clean r.clean (clean_in_time rules 1 others r report there)))
 
-  never_breaks : NoneBreaksOff → (ahead : List Answer) → BytesBring left ahead → IsInTimeAhead rules ahead → (why : capture.Ending) → BreaksOffBy rules left why → ⊥
+  never_breaks : NoneBreaksOff → (ahead : List Answer) → BytesBring left ahead → IsInTimeAhead rules ahead → (why : capture.CaptureEnding) → BreaksOffBy rules left why → ⊥
   never_breaks law ahead brings time why by =
       law rules (answers_of by.packets why) (subst (IsInTimeAhead rules) (same_ahead left ahead brings by.packets why by.is) time) by.breaks
 
@@ -117,10 +117,10 @@ capture_run law {I} {O} rules ending input_known input input' out_known out out'
   writes = λ clean is. subst (λ e. InputsBytes (input_known input) (input_known input') (λ left _. Says rules left e out_known out out')) is writes;
   untouched = untouched;
   exactly = λ no_read no_write.
-      InputsBytes-weaker Writes (λ left rest. UnlessMemory ending ((why : capture.Ending) → EndsByIt ending why ↔ BreaksOffBy rules left why)) (input_known input) (input_known input') writes
+      InputsBytes-weaker Writes (λ left rest. UnlessMemory ending ((why : capture.CaptureEnding) → EndsByIt ending why ↔ BreaksOffBy rules left why)) (input_known input) (input_known input') writes
       (λ left rest wrote. exact_by rules left out_known out out' ending kind wrote no_read no_write);
   complete = λ reads goes.
-      InputsBytes-weaker Writes (λ left rest. ((why : capture.Ending) → BreaksOffBy rules left why → ⊥) → UnlessMemory ending (WroteReport rules left ending out_known out out')) (input_known input) (input_known input') writes
+      InputsBytes-weaker Writes (λ left rest. ((why : capture.CaptureEnding) → BreaksOffBy rules left why → ⊥) → UnlessMemory ending (WroteReport rules left ending out_known out out')) (input_known input) (input_known input') writes
       (λ left rest wrote none. whole_by rules left out_known out out' ending kind wrote (λ is. reads (read_cause.once is)) (λ is. goes (write_cause.once is)) none);
   in_time = λ reads goes.
       InputsBytes-weaker Writes (λ left rest. (ahead : List Answer) → BytesBring left ahead → IsInTimeAhead rules ahead → UnlessMemory ending (ending ≡ Ok true)) (input_known input) (input_known input') writes

@@ -18,7 +18,7 @@ use Rattle.cmd_faults.specs.declared.fault.Fault.{Fault}
 use Rattle.cmd_faults.specs.declared.fault.Fault.TheVariants as faults
 
 -- The bytes end so behind their packets, and what comes of the packets doesn't finish the reading.
-pub record BreaksOffBy (rules : ReceiveOptions) (bytes : List ℕ) (ending : capture.Ending) : Type 0 where
+pub record BreaksOffBy (rules : ReceiveOptions) (bytes : List ℕ) (ending : capture.CaptureEnding) : Type 0 where
   pub packets : List (List ℕ)
   pub is : capture.IsCaptureOf bytes packets ending
   pub breaks : BreaksOff rules (answers_of packets ending)
@@ -60,11 +60,11 @@ pub record CaptureRun {I O : Type 0} (rules : ReceiveOptions) (ending : Result B
   -- It ends by a fault of the capture exactly where the reading breaks off by it, unless a read or a write failed before.
   pub exactly : (ending ≡ Err faults.Read → ⊥) → (ending ≡ Err faults.Write → ⊥)
       → InputsBytes (input_known input) (input_known input') (λ left _.
-      UnlessMemory ending ((why : capture.Ending) → EndsByIt ending why ↔ BreaksOffBy rules left why))
+      UnlessMemory ending ((why : capture.CaptureEnding) → EndsByIt ending why ↔ BreaksOffBy rules left why))
   -- Where no read and no write failed, and the reading doesn't break off, the report is written: whatever delivery of whatever
   -- valid schedule the packets are, it is that of the delivery.
   pub complete : (HasFailed (input_known input) (input_known input') → ⊥) → (HasFailed (out_known out) (out_known out') → ⊥)
-      → InputsBytes (input_known input) (input_known input') (λ left _. ((why : capture.Ending) → BreaksOffBy rules left why → ⊥)
+      → InputsBytes (input_known input) (input_known input') (λ left _. ((why : capture.CaptureEnding) → BreaksOffBy rules left why → ⊥)
       → UnlessMemory ending (WroteReport rules left ending out_known out out'))
   -- Where the packets are a delivery with each frame in time, none is missing, and the reading doesn't break off.
   pub in_time : (HasFailed (input_known input) (input_known input') → ⊥) → (HasFailed (out_known out) (out_known out') → ⊥)

@@ -234,10 +234,10 @@ module _ {I O : Type 0} (one_way : ReadOneWay) (one_text : HasOneText) (input_kn
   unread P same holds = subst (λ (now : Known Input). InputsBytes i now P) (sym same) (InputsBytes-nothing P i holds)
 
   abbrev Exactly : Result Bool Fault → List ℕ → Type 0
-  Exactly ending left = UnlessMemory ending ((why : capture.Ending) (packets : List (List ℕ)) → capture.IsCaptureOf left packets why → EndsByIt ending why)
+  Exactly ending left = UnlessMemory ending ((why : capture.CaptureEnding) (packets : List (List ℕ)) → capture.IsCaptureOf left packets why → EndsByIt ending why)
 
   -- it ends as these bytes do
-  as_they_end : (ending : Result Bool Fault) (is : capture.Ending) (packets : List (List ℕ)) (left : List ℕ) → EndsByIt ending is → capture.IsCaptureOf left packets is → Exactly ending left
+  as_they_end : (ending : Result Bool Fault) (is : capture.CaptureEnding) (packets : List (List ℕ)) (left : List ℕ) → EndsByIt ending is → capture.IsCaptureOf left packets is → Exactly ending left
   as_they_end ending is packets left by of = inr (λ why others read. subst (EndsByIt ending) (one_way left packets others is why of read).1 by)
 
   ends_exactly : (ending : Result Bool Fault) → (ending ≡ Err faults.Read → ⊥) → (ending ≡ Err faults.Write → ⊥) → ShowEnds ending i i' o o' → InputsBytes i i' (λ left _. Exactly ending left)
@@ -278,7 +278,7 @@ module _ {I O : Type 0} (one_way : ReadOneWay) (one_text : HasOneText) (input_kn
       )
 
   -- a capture doesn't end by a fault
-  not_faulty : (left : List ℕ) (packets : List (List ℕ)) (texts : List PacketText) → IsShown left capture.End packets texts → (why : capture.Ending) (others : List (List ℕ)) → capture.IsCaptureOf left others why → capture.End ≡ why
+  not_faulty : (left : List ℕ) (packets : List (List ℕ)) (texts : List PacketText) → IsShown left capture.End packets texts → (why : capture.CaptureEnding) (others : List (List ℕ)) → capture.IsCaptureOf left others why → capture.End ≡ why
   not_faulty left packets texts shown why others is = (one_way left packets others capture.End why shown.is is).1
 
   completes : (ending : Result Bool Fault) → (ending ≡ Err faults.Read → ⊥) → (ending ≡ Err faults.Write → ⊥) → ShowEnds ending i i' o o' → InputsBytes i i' (λ left _. Complete ending left)

@@ -41,7 +41,7 @@ abbrev pub are_clean : List PacketText → Bool
 are_clean texts = list_all (λ t. not t.bad) texts
 
 -- Packets, their texts, and how what was left of the input ends behind them.
-pub record IsShown (left : List ℕ) (ending : capture.Ending) (packets : List (List ℕ)) (texts : List PacketText) : Type 0 where
+pub record IsShown (left : List ℕ) (ending : capture.CaptureEnding) (packets : List (List ℕ)) (texts : List PacketText) : Type 0 where
   pub is : capture.IsCaptureOf left packets ending
   pub are : AreTexts 0 packets texts
 
@@ -95,7 +95,7 @@ ShowIsSound (Ok clean) out out' = OutputsText out out' (IsWholeText clean)
 ShowIsSound (Err fault) out out' = OutputsText out out' IsPrefixOfText
 
 -- the run ends as the bytes end behind their packets
-abbrev pub EndsByIt : Result Bool Fault → capture.Ending → Type 0
+abbrev pub EndsByIt : Result Bool Fault → capture.CaptureEnding → Type 0
 EndsByIt ending capture.End = (clean : Bool) × (ending ≡ Ok clean)
 EndsByIt ending (capture.Fault fault) = ending ≡ Err (faults.Capture fault)
 EndsByIt ending capture.TooLong = ending ≡ Err faults.CaptureTooLong
@@ -115,7 +115,7 @@ pub record ShowRun {I O : Type 0} (ending : Result Bool Fault)
   -- It ends as the input does behind its packets, with the byte and the field, unless a read or a write failed before.
   pub exactly : (ending ≡ Err faults.Read → ⊥) → (ending ≡ Err faults.Write → ⊥)
       → InputsBytes (input_known input) (input_known input') (λ left _.
-      UnlessMemory ending ((why : capture.Ending) (packets : List (List ℕ)) → capture.IsCaptureOf left packets why → EndsByIt ending why))
+      UnlessMemory ending ((why : capture.CaptureEnding) (packets : List (List ℕ)) → capture.IsCaptureOf left packets why → EndsByIt ending why))
   -- Where no read and no write failed, and the input is a capture, its text is written.
   pub complete : (HasFailed (input_known input) (input_known input') → ⊥) → (HasFailed (out_known out) (out_known out') → ⊥)
       → InputsBytes (input_known input) (input_known input') (λ left _. (packets : List (List ℕ)) (texts : List PacketText)

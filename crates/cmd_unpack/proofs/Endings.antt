@@ -84,9 +84,9 @@ fault_can range what faults.Link before after a b ends = ends
 
 module _ (one_way : ReadOneWay) (in_front : PacketsInFront) (range : PacketRange) (what : PayloadKind) (before after : Known Input) (a b : Known Output) where
   abbrev Exact : Result Bool Fault → List ℕ → List ℕ → Type 0
-  Exact ending left rest = UnlessMemory ending ((why : capture.Ending) → EndsByIt ending why ↔ BreaksOffBy range left why)
+  Exact ending left rest = UnlessMemory ending ((why : capture.CaptureEnding) → EndsByIt ending why ↔ BreaksOffBy range left why)
 
-  exact_at : (ending : Result Bool Fault) (why : capture.Ending) → EndsByIt ending why → ((other : capture.Ending) → EndsByIt ending other → why ≡ other)
+  exact_at : (ending : Result Bool Fault) (why : capture.CaptureEnding) → EndsByIt ending why → ((other : capture.CaptureEnding) → EndsByIt ending other → why ≡ other)
       → InputsBytes before after (λ left _. BreaksBy range left why) → InputsBytes before after (Exact ending)
   exact_at ending why by one breaks =
       InputsBytes-weaker (λ left _. BreaksBy range left why) (Exact ending) before after breaks
@@ -94,7 +94,7 @@ module _ (one_way : ReadOneWay) (in_front : PacketsInFront) (range : PacketRange
 
   exact : (ending : Result Bool Fault) → DataEnds range what ending before after a b → (ending ≡ Err faults.Read → ⊥) → (ending ≡ Err faults.Write → ⊥) → InputsBytes before after (Exact ending)
   exact (Ok clean) (given, gives, items, are, text, printed, out) no_read no_write =
-      InputsBytes-weaker (λ left _. (why : capture.Ending) → BreaksOffBy range left why → ⊥) (Exact (Ok clean)) before after (all_unbroken one_way in_front range given before after gives)
+      InputsBytes-weaker (λ left _. (why : capture.CaptureEnding) → BreaksOffBy range left why → ⊥) (Exact (Ok clean)) before after (all_unbroken one_way in_front range given before after gives)
       (λ left more unbroken. inr (λ why. ((λ is_end. absurd (none_by clean why is_end)), (λ broken. absurd (unbroken why broken)))))
   exact (Err fault) ends no_read no_write =
       each_early ⊥ (λ f. DataEnds range what (Err f) before after a b → (f ≡ faults.Read → ⊥) → (f ≡ faults.Write → ⊥) → InputsBytes before after (Exact (Err f)))
@@ -113,7 +113,7 @@ module _ (one_way : ReadOneWay) (in_front : PacketsInFront) (range : PacketRange
 
   -- nothing is lost
   done_by : (left rest : List ℕ) (ending : Result Bool Fault) → DataEnds range what ending before after a b → (ending ≡ Err faults.Read → ⊥) → (ending ≡ Err faults.Write → ⊥)
-      → Exact ending left rest → ((why : capture.Ending) → BreaksOffBy range left why → ⊥) → UnlessMemory ending (IsUnpackingDone range what ending before after a b)
+      → Exact ending left rest → ((why : capture.CaptureEnding) → BreaksOffBy range left why → ⊥) → UnlessMemory ending (IsUnpackingDone range what ending before after a b)
   done_by left rest ending ends no_read no_write (inl memory) unbroken = inl memory
   done_by left rest ending ends no_read no_write (inr exactly) unbroken =
       elim (done_or ⊥ ending (can_end ending ends) no_read no_write (λ why is. unbroken why ((exactly why).0 is)) (λ never number. absurd never)) [
@@ -141,7 +141,7 @@ data_run {I} {O} one_way in_front range what ending input_known input input' out
       complete = λ reads goes.
           let no_read : ending ≡ Err faults.Read → ⊥ = λ is. reads (read_cause.once is) in
           let no_write : ending ≡ Err faults.Write → ⊥ = λ is. goes (write_cause.once is) in
-          InputsBytes-weaker (Exact one_way in_front range what before after a b ending) (λ left _. ((why : capture.Ending) → BreaksOffBy range left why → ⊥) → UnlessMemory ending (IsUnpackingDone range what ending before after a b))
+          InputsBytes-weaker (Exact one_way in_front range what before after a b ending) (λ left _. ((why : capture.CaptureEnding) → BreaksOffBy range left why → ⊥) → UnlessMemory ending (IsUnpackingDone range what ending before after a b))
           before after (exact one_way in_front range what before after a b ending ends no_read no_write)
           (λ left rest exactly unbroken. done_by one_way in_front range what before after a b left rest ending ends no_read no_write exactly unbroken);
       read_cause = read_cause;

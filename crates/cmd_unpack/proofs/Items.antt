@@ -88,7 +88,7 @@ message_gap k items item text t u a took entries stream new given cut bad missin
       after = u;
       line = [];
       took = message_more k items item text t u None None took entries stream
-          (subst (λ (s : joining.State). JoinerRuns joining.made (reading (TextsOf k) items ++ None ∷ []) (took.texts ++ None ∷ []) s) (sym new) runs) (omega (arith, given)) cut bad missing;
+          (subst (λ (s : joining.TextState). JoinerRuns joining.made (reading (TextsOf k) items ++ None ∷ []) (took.texts ++ None ∷ []) s) (sym new) runs) (omega (arith, given)) cut bad missing;
       writes = Writes-whole [] a a (OutputsText-nothing a (λ l. l ≡ []) refl) refl;
       after_is = refl;
     }

@@ -79,7 +79,7 @@ messages_item {E} (TextsOf k) result items item text t u a b took takes =
 pub no_units : (k id d : ℕ) (joiner : JoinerState) (counts : Counts) → joiner ≡ made id d → counts ≡ no_counts → TookUnits k id d [] [] (record { stream = k; length = d; joiner = joiner; counts = counts })
 no_units k id d joiner counts new none = rw new (rw none (joins_none (new_taker k id d)))
 
-pub no_messages : (k : ℕ) (joiner : joining.State) (counts : Counts) → joiner ≡ joining.made → counts ≡ no_counts → TookMessages k [] [] (record { stream = k; joiner = joiner; counts = counts })
+pub no_messages : (k : ℕ) (joiner : joining.TextState) (counts : Counts) → joiner ≡ joining.made → counts ≡ no_counts → TookMessages k [] [] (record { stream = k; joiner = joiner; counts = counts })
 no_messages k joiner counts new none = record {
   stream = refl;
   texts = [];

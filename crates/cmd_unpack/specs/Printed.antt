@@ -33,7 +33,7 @@ abbrev pub IsPrinted : PayloadKind → List FrameItem → List ℕ → Type 0
 IsPrinted (UnitsOf k id d) items text =
     (events : List JoinerEvent) × AreEvents d (reading (UnitsOf k id d) items) events × (text ≡ answers_text (answers (made id d) events))
 IsPrinted (TextsOf k) items text =
-    (texts : List (Option (List ℕ))) × (left : joining.State) × JoinerRuns joining.made (reading (TextsOf k) items) texts left
+    (texts : List (Option (List ℕ))) × (left : joining.TextState) × JoinerRuns joining.made (reading (TextsOf k) items) texts left
     × (text ≡ flat_map text_line (messages_in texts))
 
 -- What is counted: units, cuts, and bad and missing items; a unit that is open at the end is cut. Refused packets are bad, too.
@@ -59,6 +59,6 @@ IsWholeText (UnitsOf k id d) items text clean =
     let counts = unit_counts k id d items said open_at_end in
     (text ≡ answers_text said ++ (cut_line open_at_end ++ units_end counts)) × (clean ≡ is_clean counts)
 IsWholeText (TextsOf k) items text clean =
-    (texts : List (Option (List ℕ))) × (left : joining.State) × JoinerRuns joining.made (reading (TextsOf k) items) texts left
+    (texts : List (Option (List ℕ))) × (left : joining.TextState) × JoinerRuns joining.made (reading (TextsOf k) items) texts left
     × let counts = text_counts k items texts in
     (text ≡ flat_map text_line (messages_in texts) ++ texts_end counts) × (clean ≡ is_clean counts)

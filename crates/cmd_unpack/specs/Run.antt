@@ -78,10 +78,10 @@ pub record DataRun {I O : Type 0} (range : PacketRange) (what : PayloadKind) (en
   -- It ends by a fault of the capture exactly where the reading breaks off by it, unless a read or a write failed before.
   pub exactly : (ending ≡ Err faults.Read → ⊥) → (ending ≡ Err faults.Write → ⊥)
       → InputsBytes (input_known input) (input_known input') (λ left _.
-      UnlessMemory ending ((why : capture.Ending) → EndsByIt ending why ↔ BreaksOffBy range left why))
+      UnlessMemory ending ((why : capture.CaptureEnding) → EndsByIt ending why ↔ BreaksOffBy range left why))
   -- Where no read and no write failed, and the reading doesn't break off, all is written.
   pub complete : (HasFailed (input_known input) (input_known input') → ⊥) → (HasFailed (out_known out) (out_known out') → ⊥)
-      → InputsBytes (input_known input) (input_known input') (λ left _. ((why : capture.Ending) → BreaksOffBy range left why → ⊥)
+      → InputsBytes (input_known input) (input_known input') (λ left _. ((why : capture.CaptureEnding) → BreaksOffBy range left why → ⊥)
       → UnlessMemory ending (IsUnpackingDone range what ending (input_known input) (input_known input') (out_known out) (out_known out')))
   -- A count of faults rose, by one, exactly where a read or a write ended the run.
   pub read_cause : HasCause (input_known input) (input_known input') (ending ≡ Err faults.Read)

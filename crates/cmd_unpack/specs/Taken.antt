@@ -113,7 +113,7 @@ message_count None = 0
 message_count (Some message) = 1
 
 -- A piece was taken, and the message that it makes whole, if one, was counted and written, or the write failed.
-pub record TakesPiece {E : Type 0} (result : Result (Unit {0}) E) (s left : joining.State) (piece : List ℕ) (counts counts' : Counts) (a b : Known Output) : Type 0 where
+pub record TakesPiece {E : Type 0} (result : Result (Unit {0}) E) (s left : joining.TextState) (piece : List ℕ) (counts counts' : Counts) (a b : Known Output) : Type 0 where
   pub said : Option (Bor (List ℕ))
   pub tells : GivesOfPiece s piece said
   pub left_is : (read : Option Segment) → joining.ReadsIn (joining.gather s.segment piece) read → left ≡ joining.after s piece read

@@ -17,19 +17,19 @@ use Rattle.recv_reading.specs.declared.source.SourceFault.TheVariants as faults
 -- ---- a capture
 
 -- what comes behind its packets
-abbrev pub ending_answer : capture.Ending → Answer
+abbrev pub ending_answer : capture.CaptureEnding → Answer
 ending_answer capture.End = End
 ending_answer (capture.Fault fault) = Failed
 ending_answer capture.TooLong = Failed
 
 -- its packets, each as a datagram, and then that nothing comes any more, or a failure
-abbrev pub answers_of : List (List ℕ) → capture.Ending → List Answer
+abbrev pub answers_of : List (List ℕ) → capture.CaptureEnding → List Answer
 answers_of packets ending = map Datagram packets ++ ending_answer ending ∷ []
 
 -- These bytes bring these answers.
 pub record BytesBring (bytes : List ℕ) (ahead : List Answer) : Type 0 where
   pub packets : List (List ℕ)
-  pub ending : capture.Ending
+  pub ending : capture.CaptureEnding
   pub is : capture.IsCaptureOf bytes packets ending
   pub ahead_is : ahead ≡ answers_of packets ending
 
