@@ -153,7 +153,7 @@ sent_many plan [] (d ∷ brought) sent = absurd sent
 sent_many plan (p ∷ pairs) [] sent = absurd sent
 sent_many plan (p ∷ pairs) (d ∷ brought) sent = let more = sent_many plan pairs brought sent.1 in omega (arith, more)
 
--- there are no strays
+-- there are no foreign datagrams
 pairs_again : (pairs : List (ℕ × ℕ)) → pairs_in (map OfSchedule pairs) ≡ pairs
 pairs_again [] = refl
 pairs_again (p ∷ pairs) = ap (λ l. p ∷ l) (pairs_again pairs)

@@ -32,7 +32,7 @@ air_rules plan window = record { window = window; reach = 32767; first = Some pl
 abbrev pub pairs_of : List Delivery → List (ℕ × ℕ)
 pairs_of feed = map (λ d. (d.packet, d.fragment)) feed
 
--- all that arrives of it: there are no strays
+-- all that arrives of it: there are no foreign datagrams
 abbrev pub arrivals_of : List Delivery → List Arrival
 arrivals_of feed = map OfSchedule (pairs_of feed)
 

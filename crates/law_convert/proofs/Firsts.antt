@@ -62,7 +62,7 @@ nothing_given : (c kept mid : CollectorState) (now : List CollectorItem) → rea
 nothing_given c kept mid [] idle same gives = (refl, gives.1 ∙ same)
 nothing_given c kept mid (item ∷ now) idle same gives = absurd (true≢false (sym gives.0 ∙ (ap ready same ∙ idle)))
 
--- before anything was kept no stray is far
+-- before anything was kept no foreign datagram is far
 fresh_cause : (reach sequence0 : ℕ) (c : CollectorState) (cause : Field) (datagram : List ℕ) → IsForeign cause datagram → IsFarIfSo cause reach sequence0 (pos 0) None datagram → HasCause c cause datagram
 fresh_cause reach sequence0 c Sync datagram foreign far = foreign
 fresh_cause reach sequence0 c (Af fault) datagram foreign far = foreign

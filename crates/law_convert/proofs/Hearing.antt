@@ -1,4 +1,4 @@
--- What a collector gives of a delivery of a schedule, with any strays in it.
+-- What a collector gives of a delivery of a schedule, with any foreign datagrams in it.
 use Rattle.std.proofs.Common.{ℕ, ◌≡◌, ◌≤◌, List, [], ◌++◌, Option, None, refl}
 use Rattle.std.specs.Prelude.{ℤ}
 use Rattle.dcp_collect.specs.declared.taken.Taken.{Taken}
@@ -13,7 +13,7 @@ use Rattle.law_delivery.proofs.Early.{GoesOn, goes_on, all_brought_of}
 use Rattle.law_delivery.proofs.Packets.{ArePackets, some_packets, all_sent, delivered}
 use Rattle.law_delivery.proofs.ForeignDatagrams.{others_of, with_foreign, stands_new}
 
--- The datagrams of the delivery that aren't strays, and the packets that were sent; steps over those datagrams, and over all
+-- The datagrams of the delivery that aren't foreign datagrams, and the packets that were sent; steps over those datagrams, and over all
 -- of them, which come to the same; and what is given with the end.
 pub record Hears (plan : Plan) (window reach : ℕ) (first : Option ℕ) (first_frame : ℤ) (pairs : List (ℕ × ℕ)) (datagrams : List (List ℕ)) : Type 0 where
   pub others : List (List ℕ)

@@ -29,7 +29,7 @@ use Rattle.recv_reading.specs.First.{first_of}
 abbrev pub under : Carry → Plan → Plan
 under carry plan = record plan { carry = carry }
 
--- A delivery of a valid schedule from its first frame on, with any strays in it, in which each frame is in time.
+-- A delivery of a valid schedule from its first frame on, with any foreign datagrams in it, in which each frame is in time.
 pub record AllInTime (plan : Plan) (window reach : ℕ) (first : Option ℕ) (arrivals : List Arrival) (datagrams : List (List ℕ)) : Type 0 where
   pub schedule : IsSchedule plan
   pub some : 1 ≤ window

@@ -1,4 +1,4 @@
--- A receiver that follows a delivery takes its datagrams for what they are, and refuses its strays.
+-- A receiver that follows a delivery takes its datagrams for what they are, and refuses its foreign datagrams.
 use Rattle.std.proofs.Common.{ℕ, ◌≡◌, ◌+◌, ◌<◌, ◌≤◌, ◌^◌, false, true, if◌then◌else◌, List, [], ◌∷◌, ◌++◌, length, take, Option, None, Some, refl, sym, ap, subst, ◌∙◌, arith}
 use Rattle.std.specs.Prelude.{ℤ, pos, ◌+ℤ◌, ◌-ℤ◌, ◌*ℤ◌, ◌<ℤ◌, unwrap_or}
 use Rattle.std.proofs.lemmas.Bool.{ltb-true}
@@ -105,11 +105,11 @@ module _ (plan : Plan) (is : IsSchedule plan) (window reach : ℕ) (first_frame 
         idle = (gives_given now kept mid gives).1;
       }
 
-  -- behind a stray
+  -- behind a foreign datagram
   pub stands_foreign : (cause : Field) → Stands plan window reach first_frame newest (Foreign cause ∷ arrivals) later (datagram ∷ datagrams) c → Stands plan window reach first_frame newest arrivals later datagrams c
   stands_foreign cause s = record { follows = s.follows; span = s.span; low = s.low; far = s.far.1; idle = s.idle }
 
-  -- a stray has its cause
+  -- a foreign datagram has its cause
   pub foreign_cause : (cause : Field) → Stands plan window reach first_frame newest (Foreign cause ∷ arrivals) later (datagram ∷ datagrams) c → IsForeign cause datagram → HasCause c cause datagram
   foreign_cause Sync s foreign = foreign
   foreign_cause (Af fault) s foreign = foreign

@@ -37,7 +37,7 @@ sent_join plan [] more (d ∷ ds) later sent rest = absurd sent
 sent_join plan (pair ∷ pairs) more [] later sent rest = absurd sent
 sent_join plan (pair ∷ pairs) more (d ∷ ds) later sent rest = (sent.0, sent_join plan pairs more ds later sent.1 rest)
 
--- the datagrams that aren't strays
+-- the datagrams that aren't foreign
 pub others_of : (plan : Plan) (arrivals : List Arrival) (ds : List (List ℕ)) → AllZip (IsArrival plan) arrivals ds → (others : List (List ℕ)) × AreSent plan (pairs_in arrivals) others
 others_of plan [] ds all = ([], tt)
 others_of plan (a ∷ arrivals) [] all = absurd all
@@ -45,9 +45,9 @@ others_of plan (OfSchedule pair ∷ arrivals) (d ∷ ds) all =
     let rest = others_of plan arrivals ds all.1 in (d ∷ rest.0, (all.0, rest.1))
 others_of plan (Foreign cause ∷ arrivals) (d ∷ ds) all = others_of plan arrivals ds all.1
 
--- ---- without the strays
+-- ---- without the foreign datagrams
 
--- The same steps over the datagrams that aren't strays.
+-- The same steps over the datagrams that aren't foreign.
 record Without (plan : Plan) (c after : CollectorState) (arrivals : List Arrival) (answers : List Taken) (items : List Collected) : Type 0 where
   others : List (List ℕ)
   replies : List Taken
@@ -55,7 +55,7 @@ record Without (plan : Plan) (c after : CollectorState) (arrivals : List Arrival
   steps : CollectorSteps c others replies items after
   suit : AllByRecursion IsTakenWell replies → AllZip AnswerSuits arrivals answers
 
--- where nothing was ready, a stray changes nothing
+-- where nothing was ready, a foreign datagram changes nothing
 nothing_given : (c kept mid : CollectorState) (now : List Collected) → ready c ≡ false → kept ≡ c → CollectorGives kept now mid → (now ≡ []) × (mid ≡ c)
 nothing_given c kept mid [] idle same gives = (refl, gives.1 ∙ same)
 nothing_given c kept mid (item ∷ now) idle same gives =
@@ -137,7 +137,7 @@ delivering refusing law plan window reach first frame_limit first_frame arrivals
     (record { during = run.during; rest = run.rest; mid = run.mid; after = run.after; steps = w.steps; gives = run.gives; are = run.are }) feeds in
     (given, w.suit right)
 
--- A front of a delivery without the strays, and what of it is still to come.
+-- A front of a delivery without the foreign datagrams, and what of it is still to come.
 record PrefixWithout (plan : Plan) (reach : ℕ) (first : Option ℕ) (first_frame : ℤ) (arrivals : List Arrival) (n : ℕ) (c mid : CollectorState) (answers : List Taken) (items : List Collected) : Type 0 where
   front : Without plan c mid (take n arrivals) answers items
   more : List (List ℕ)

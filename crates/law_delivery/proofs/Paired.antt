@@ -1,4 +1,4 @@
--- Deliveries without strays, and what is shown of them first.
+-- Deliveries without foreign datagrams, and what is shown of them first.
 use Rattle.std.specs.Prelude.{ℕ, ℤ, ◌≤◌, List, ◌++◌, length, take, Option, None, Some}
 use Rattle.std.specs.List.{AllByRecursion}
 use Rattle.drm_schedule.specs.declared.plan.Plan.{Plan}

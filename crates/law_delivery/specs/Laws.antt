@@ -16,13 +16,13 @@ use Rattle.drm_timeline.specs.Numbers.{frame_count}
 use Rattle.law_delivery.specs.Sent.{Arrival, OfSchedule, Foreign, pairs_in, IsDeliveryOf, IsInTime}
 use Rattle.law_delivery.specs.Given.{IsServed, AreGiven, IsStart, AreAllServed, AreAllFrames}
 
--- the answer suits what arrived: a stray is refused for its cause, and nothing else is refused or inconsistent
+-- the answer suits what arrived: a foreign datagram is refused for its cause, and nothing else is refused or inconsistent
 abbrev pub AnswerSuits : Arrival → Taken → Type 0
 AnswerSuits (OfSchedule pair) answer = IsTakenWell answer
 AnswerSuits (Foreign cause) answer = answer ≡ Refused cause
 
--- Whatever came of a valid schedule's datagrams, in whatever order, and with whatever strays: what a collector and a feed
--- give of them is what the delivery calls for, and the strays alone are refused.
+-- Whatever came of a valid schedule's datagrams, in whatever order, and with whatever foreign datagrams: what a collector and a feed
+-- give of them is what the delivery calls for, and the foreign datagrams alone are refused.
 abbrev pub Delivering : Type 0
 Delivering =
     (plan : Plan) (window reach : ℕ) (first frame_limit : Option ℕ) (first_frame : ℤ) (arrivals : List Arrival) (datagrams : List (List ℕ))
@@ -42,7 +42,7 @@ DeliveringEarly =
     → FeedAnswers new_tracker (take n collected) steps after
     → AreGiven plan window first_frame (Some n) (pairs_in arrivals) steps
 
--- The strays of such a delivery alone are refused, whatever of it is still to come.
+-- The foreign datagrams of such a delivery alone are refused, whatever of it is still to come.
 abbrev pub ForeignRefused : Type 0
 ForeignRefused =
     (plan : Plan) (window reach : ℕ) (first : Option ℕ) (first_frame : ℤ) (arrivals : List Arrival) (datagrams later : List (List ℕ))

@@ -1,4 +1,4 @@
--- Deliveries of a schedule: its datagrams, some of them never, some twice, in any order, and strays among them.
+-- Deliveries of a schedule: its datagrams, some of them never, some twice, in any order, and foreign datagrams among them.
 use Rattle.std.specs.Prelude.{ℕ, ℤ, pos, negsuc, ◌+ℤ◌, ◌*ℤ◌, ◌+◌, ◌<◌, ◌≤◌, ◌≡◌, true, unwrap_or, nat_lt, if◌then◌else◌, List, [], ◌∷◌, Option, Some, None}
 use Rattle.std.specs.List.{AllZip}
 use Rattle.drm_schedule.specs.declared.plan.Plan.{Plan}
@@ -22,12 +22,12 @@ pub record IsSent (plan : Plan) (pair : ℕ × ℕ) (datagram : List ℕ) : Type
 abbrev pub AreSent : Plan → List (ℕ × ℕ) → List (List ℕ) → Type 0
 AreSent plan pairs datagrams = AllZip (IsSent plan) pairs datagrams
 
--- What arrives: the datagram of a pair, or a stray, which is refused for this cause.
+-- What arrives: the datagram of a pair, or a foreign datagram, which is refused for this cause.
 pub data Arrival : Type 0 where
   OfSchedule : (pair : ℕ × ℕ) → Arrival
   Foreign : (cause : Field) → Arrival
 
--- the datagram can be such a stray: it can't be read, or it can and is to be far where it arrives
+-- the datagram can be such a foreign datagram: it can't be read, or it can and is to be far where it arrives
 abbrev pub IsForeign : Field → List ℕ → Type 0
 IsForeign Far datagram = (incoming : Incoming) × IsReadAs (Brings incoming) datagram
 IsForeign cause datagram = IsReadAs (Unread cause) datagram
@@ -58,7 +58,7 @@ abbrev pub IsFarIfSo : Field → ℕ → ℕ → ℤ → Option ℕ → List ℕ
 IsFarIfSo Far reach sequence0 first_frame newest datagram = IsFar reach sequence0 first_frame newest datagram
 IsFarIfSo cause reach sequence0 first_frame newest datagram = Unit {0}
 
--- each stray that is to be far is so where it arrives
+-- each foreign datagram that is to be far is so where it arrives
 abbrev pub AreFar : ℕ → ℕ → ℤ → Option ℕ → List Arrival → List (List ℕ) → Type 0
 AreFar reach sequence0 first_frame newest (OfSchedule pair ∷ arrivals) (datagram ∷ datagrams) =
     AreFar reach sequence0 first_frame (newer_number newest (number first_frame pair)) arrivals datagrams
@@ -66,7 +66,7 @@ AreFar reach sequence0 first_frame newest (Foreign cause ∷ arrivals) (datagram
     IsFarIfSo cause reach sequence0 first_frame newest datagram × AreFar reach sequence0 first_frame newest arrivals datagrams
 AreFar reach sequence0 first_frame newest arrivals datagrams = Unit {0}
 
--- A delivery that a receiver can follow, with any strays in it: it counts frames from the base, which has the first sequence
+-- A delivery that a receiver can follow, with any foreign datagrams in it: it counts frames from the base, which has the first sequence
 -- number that it was told, or is the frame of the first pair; and no number is 32,768 or more from the newest one before it, or
 -- above that one by more than the receiver's reach.
 pub record IsDeliveryOf (plan : Plan) (reach : ℕ) (first : Option ℕ) (first_frame : ℤ) (arrivals : List Arrival) (datagrams : List (List ℕ)) : Type 0 where

@@ -11,7 +11,7 @@ IsMixture {A} one other [] = (one ≡ []) × (other ≡ [])
 IsMixture {A} one other (x ∷ both) =
     ((rest : List A) × (one ≡ x ∷ rest) × IsMixture rest other both) ⊎ ((rest : List A) × (other ≡ x ∷ rest) × IsMixture one rest both)
 
--- Two deliveries of a schedule, with any strays in them, mixed in any way, are a delivery of it.
+-- Two deliveries of a schedule, with any foreign datagrams in them, mixed in any way, are a delivery of it.
 abbrev pub TwoWays : Type 0
 TwoWays =
     (plan : Plan) (arrivals others : List Arrival) (one other both : List (List ℕ))

@@ -27,7 +27,7 @@ pub fn modulators_give_early()
     giving_ends();
 }
 
-/// Of a front of a delivery the strays alone were refused, too.
+/// Of a front of a delivery the foreign datagrams alone were refused, too.
 pub fn foreign_are_refused()
     ensures { ForeignRefused }
 {

@@ -75,7 +75,7 @@ abbrev pub pairs_given : Plan → Carry → ℕ → ℤ → Option ℕ → List 
 pairs_given plan carry window first_frame frame_limit pairs =
     flat_map (λ q. pairs_by plan carry (frame_of_number plan first_frame q) (got window first_frame pairs q)) (range_with_len 0 (end_of frame_limit (newest_of first_frame None pairs)))
 
--- What becomes of a delivery of a schedule, with any strays in it, behind a gateway under whose carry the schedule is one, too.
+-- What becomes of a delivery of a schedule, with any foreign datagrams in it, behind a gateway under whose carry the schedule is one, too.
 pub record IsDeliveryPassedOn (plan : Plan) (carry : Carry) (rules : ReceiveOptions) (first_frame : ℤ) (arrivals : List Arrival) (datagrams : List (List ℕ)) (fates : List Outcome) : Type 0 where
   pub schedule : IsSchedule plan
   pub other : IsSchedule (under carry plan)
@@ -92,18 +92,18 @@ PassesSchedules =
 
 -- ---- behind a gateway
 
--- it is among these, or is a stray
+-- it is among these, or is a foreign datagram
 abbrev pub IsAmong : List (List ℕ) → List ℕ → Type 0
 IsAmong sent datagram = ((k : ℕ) × (slice_get sent k ≡ Some datagram)) ⊎ ((cause : Field) × IsForeign cause datagram)
 
--- Whatever of what was sent comes, in whatever order, and with whatever strays, is a delivery of the schedule again.
+-- Whatever of what was sent comes, in whatever order, and with whatever foreign datagrams, is a delivery of the schedule again.
 abbrev pub ComesAgain : Type 0
 ComesAgain =
     (plan : Plan) (carry : Carry) (rules : ReceiveOptions) (first_frame : ℤ) (arrivals : List Arrival) (datagrams : List (List ℕ)) (fates : List Outcome)
     → IsDeliveryPassedOn plan carry rules first_frame arrivals datagrams fates
     → (later : List (List ℕ)) → AllByRecursion (IsAmong (sent_of fates)) later → (again : List Arrival) × AllZip (IsArrival (under carry plan)) again later
 
--- they have a base, and are within the span from it, and strays that are to be far are
+-- they have a base, and are within the span from it, and foreign datagrams that are to be far are
 abbrev pub HaveFirstFrame : Plan → ℕ → Option ℕ → ℤ → List Arrival → List (List ℕ) → Type 0
 HaveFirstFrame plan reach first first_frame arrivals datagrams =
     IsFirstPacket plan.seq first (pairs_in arrivals) first_frame × IsWithinSpan reach first_frame None (pairs_in arrivals) × AreFar reach plan.seq first_frame None arrivals datagrams

@@ -25,7 +25,7 @@ pub fn schedules_are_passed_on()
     one_run();
 }
 
-/// Whatever of that comes over the next link, and with whatever strays, is a delivery of the schedule again.
+/// Whatever of that comes over the next link, and with whatever foreign datagrams, is a delivery of the schedule again.
 pub fn what_is_passed_on_comes_again()
     ensures { ComesAgain }
 {

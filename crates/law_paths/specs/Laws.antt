@@ -24,7 +24,7 @@ use Rattle.drm_paths.specs.Closing.{of_path}
 abbrev pub HasGiven : JournalOptions → List (List ℕ) → ℕ → Type 0
 HasGiven by received many = (taken : List Taken) × (items : List CollectorItem) × (mid : CollectorState) × CollectorSteps (made by.window by.reach by.first) received taken items mid × (length items ≡ many)
 
--- The text is the report of what a delivery of a schedule calls for: of what was refused it names the strays, and last it says
+-- The text is the report of what a delivery of a schedule calls for: of what was refused it names the foreign datagrams, and last it says
 -- whether the told number of frames was given before all paths had ended.
 pub record ReportsDelivery (plan : Plan) (by : JournalOptions) (first_frame : ℤ) (arrivals : List Arrival) (received : List (List ℕ)) (text : List ℕ) (clean : Bool) : Type 0 where
   pub steps : List FeedStep
@@ -68,7 +68,7 @@ abbrev pub arrivals_of : ℕ → List (ℕ × List ℕ) → List Arrival → Lis
 arrivals_of k (e ∷ entries) (a ∷ arrivals) = if e.0 == k then a ∷ arrivals_of k entries arrivals else arrivals_of k entries arrivals
 arrivals_of k entries arrivals = []
 
--- Where what came over each path is a delivery of the schedule, with any strays in it, all entries of these paths are one, in
+-- Where what came over each path is a delivery of the schedule, with any foreign datagrams in it, all entries of these paths are one, in
 -- whatever order: of each path it has the arrivals of that path's delivery, in their order.
 abbrev pub MixedPathsAreOneDelivery : Type 0
 MixedPathsAreOneDelivery =

@@ -72,7 +72,7 @@ carried_from plan window first_frame pairs end t (ps ∷ frames) =
 abbrev pub carried_by : Plan → ℕ → ℤ → Option ℕ → List (ℕ × ℕ) → List (List PacketFields) → List FramePackets
 carried_by plan window first_frame frame_limit pairs frames = carried_from plan window first_frame pairs (end_of frame_limit (newest_of first_frame None pairs)) 0 frames
 
--- Of a delivery of such a schedule, with any strays in it, what is printed gives exactly those units for which each frame is given from
+-- Of a delivery of such a schedule, with any foreign datagrams in it, what is printed gives exactly those units for which each frame is given from
 -- that of the first packet to that of the last, and tells one cut for each other unit whose first packet came.
 abbrev pub UnpacksDeliveries : Type 0
 UnpacksDeliveries =

@@ -46,7 +46,7 @@ pub record ShowsMessages (k end : ℕ) (reading : PieceReading) (items : List Fr
   pub text_is : text ≡ flat_map text_line messages ++ texts_end_text (decimal (length messages)) (decimal (missing_in items)) (decimal (bad_in (TextsOf k) items))
   pub clean_is : clean ≡ (piece_count reading == end)
 
--- Of a delivery of any schedule, with any strays in it, what is printed of a stream is exactly the messages in the frames that are given,
+-- Of a delivery of any schedule, with any foreign datagrams in it, what is printed of a stream is exactly the messages in the frames that are given,
 -- with a gap for each other frame. A reading ends at the told number, or behind the newest one.
 abbrev pub TextsOfDeliveries : Type 0
 TextsOfDeliveries =

@@ -32,7 +32,7 @@ use Rattle.recv_report.specs.Following.{HeadlinesFollow, CompletesFollow}
 use Rattle.recv_reading.proofs.Reaching.{one_way}
 use Rattle.recv_reading.proofs.OneReading.{next_front, not_shorter, same_next, next_split, goes_past}
 
--- ---- the strays alone were refused
+-- ---- the foreign datagrams alone were refused
 
 pub foreign_noted : (n : ℕ) (arrivals : List Arrival) (taken : List Taken) → AllZip AnswerSuits arrivals taken → refusals_from n taken ≡ foreign_from n arrivals
 foreign_noted n [] [] suit = refl

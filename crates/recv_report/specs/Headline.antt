@@ -40,7 +40,7 @@ abbrev pub PrintsFrames : Plan → List FeedStep → Type 0
 PrintsFrames plan steps =
     (q t : ℕ) (step : FeedStep) → slice_get steps q ≡ Some step → IsServed plan t q step.item → IsFrameLine plan t q (item_line step.item)
 
--- the refusals of the strays among the arrivals, the first of which is datagram n
+-- the refusals of the foreign datagrams among the arrivals, the first of which is datagram n
 abbrev pub foreign_from : ℕ → List Arrival → List Refusal
 foreign_from n [] = []
 foreign_from n (OfSchedule pair ∷ arrivals) = foreign_from (n + 1) arrivals
@@ -49,7 +49,7 @@ foreign_from n (Foreign cause ∷ arrivals) = record { number = n; taken = Refus
 abbrev pub foreign_datagrams : List Arrival → List Refusal
 foreign_datagrams arrivals = foreign_from 0 arrivals
 
--- The text is the report of what a delivery of a schedule calls for: of what was refused it names the strays, and last it says
+-- The text is the report of what a delivery of a schedule calls for: of what was refused it names the foreign datagrams, and last it says
 -- why the reading of these answers ends.
 pub record ReportsDelivery (plan : Plan) (rules : ReceiveOptions) (feed : ℕ) (first_frame : ℤ) (arrivals : List Arrival) (answers : List Answer) (text : List ℕ) (clean : Bool) : Type 0 where
   pub steps : List FeedStep
@@ -80,7 +80,7 @@ WouldBeRead rules ahead answers =
     ((word : EndWord) × IsReadingOf (without_frames rules) ahead answers (Some word))
     ⊎ ((rules.frames ≢ None) × IsReadingOf (without_frames rules) ahead (answers ++ Failed ∷ []) None)
 
--- All frames of the schedule were given, with its switches. The text says nothing else, but the strays among what was read of
+-- All frames of the schedule were given, with its switches. The text says nothing else, but the foreign datagrams among what was read of
 -- what was ahead, and why that reading ends.
 pub record ReportsAllFrames (plan : Plan) (rules : ReceiveOptions) (feed : ℕ) (arrivals : List Arrival) (ahead : List Answer) (text : List ℕ) (clean : Bool) : Type 0 where
   pub steps : List FeedStep

@@ -57,7 +57,7 @@ pub fn receive_one<L: Link, O: Sink>(
     // What was read of the link, and what was written of it.
     ensures ended { ReceiverEndsAs (rules_of collector.old options.now) options.now.feed
         (L.known link.old) (L.known link.new) (O.known out.old) (O.known out.new) result }
-    // Whatever delivery of whatever valid schedule came, with whatever strays, its report was written; and where each frame
+    // Whatever delivery of whatever valid schedule came, with whatever foreign datagrams, its report was written; and where each frame
     // was in time, all frames were given.
     ensures headline { IfDone (Headline (rules_of collector.old options.now) options.now.feed
         (L.known link.old) (L.known link.new) (O.known out.old) (O.known out.new)) result }
