@@ -9,7 +9,7 @@ use cmd_faults::Fault;
 use drm_links::{Sink, Source, write_all};
 use report_dump::{ShowFault, one_text, write_end_packets, write_packet};
 use std::alloc::Global;
-use text_output::Lines;
+use text_output::LineBuffer;
 
 /// Writes what is in each packet of a capture, as its bytes come. Answers whether no line says that something is bad.
 pub fn show<I: Source, O: Sink>(alloc: Global, input: &mut I, out: &mut O) -> Result<bool, Fault>
@@ -18,7 +18,7 @@ pub fn show<I: Source, O: Sink>(alloc: Global, input: &mut I, out: &mut O) -> Re
     read_one_way();
     one_text();
     let mut packets = Packets::make(alloc)?;
-    let mut lines = Lines::make(alloc)?;
+    let mut lines = LineBuffer::make(alloc)?;
     // How many packets and bytes were shown, and whether none is bad.
     let mut count = 0u64;
     let mut bytes = 0u64;
@@ -39,7 +39,7 @@ pub fn show<I: Source, O: Sink>(alloc: Global, input: &mut I, out: &mut O) -> Re
 // Writes the lines of a packet, in one call where they fit into the room.
 fn show_packet<O: Sink>(
     alloc: Global,
-    lines: &mut Lines,
+    lines: &mut LineBuffer,
     packet: &Packet<'_>,
     out: &mut O,
 ) -> Result<bool, ShowFault>

@@ -13,13 +13,13 @@ use drm_links::{Sink, WriteFault, write_all};
 use mod_feed::Step;
 use std::alloc::Global;
 use std::marker::Model;
-use text_output::{Gathered, Lines};
+use text_output::{Gathered, LineBuffer};
 
 /// Writes the lines of items. Those of one item are put together, so that they go out in one call, and short ones are gathered until
 /// they are flushed. All its memory is taken where it is made.
 #[derive(Drop)]
 pub struct LineWriter {
-    lines: Lines,
+    lines: LineBuffer,
     gathered: Gathered,
 }
 
@@ -37,7 +37,7 @@ impl LineWriter {
         ensures { IfOk result (λ writer. writer ≡ []) }
     {
         Ok(LineWriter {
-            lines: Lines::make(alloc)?,
+            lines: LineBuffer::make(alloc)?,
             gathered: Gathered::make(alloc)?,
         })
     }

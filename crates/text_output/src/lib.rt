@@ -8,6 +8,6 @@ mod output;
 mod piece;
 
 pub use gathered::Gathered;
-pub use lines::Lines;
+pub use lines::LineBuffer;
 pub use output::{write_hex, write_piece, write_pieces};
 pub use piece::Piece;

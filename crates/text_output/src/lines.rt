@@ -15,13 +15,13 @@ const MOST_CALLS: u64 = 1 << 62;
 
 /// Room for lines, so that they go out in one call. All its memory is taken where it is made.
 #[derive(Drop)]
-pub struct Lines {
+pub struct LineBuffer {
     bytes: Vec<u8>,
     calls: u64,
     faults: u64,
 }
 
-impl Model for Lines {
+impl Model for LineBuffer {
     ghost use Rattle.std.specs.Prelude.{◌≤◌, vec_len, vec_capacity};
     ghost use Rattle.text_output.specs.Lines.{LinesState};
 
@@ -32,10 +32,10 @@ impl Model for Lines {
     ghost invariant = { λ lines. (vec_len lines.bytes ≤ 262144) × (262144 ≤ vec_capacity lines.bytes) };
 }
 
-impl Lines {
+impl LineBuffer {
     /// Room in which nothing lies yet.
-    pub fn make(alloc: Global) -> Result<Lines, NoMemory> {
-        Ok(Lines {
+    pub fn make(alloc: Global) -> Result<LineBuffer, NoMemory> {
+        Ok(LineBuffer {
             bytes: Vec::with_capacity(alloc, MOST_BYTES)?,
             calls: 0,
             faults: 0,
@@ -63,7 +63,7 @@ impl Lines {
     }
 }
 
-impl Sink for Lines {
+impl Sink for LineBuffer {
     ghost known = { lines_known };
 
     fn write(&mut self, bytes: &[u8]) -> WriteOut {
