@@ -51,7 +51,7 @@ impl Model for Packets {
 
     ghost view = { λ p. p.walker };
 
-    ghost invariant = { λ p. (length p.room.items ≡ 65536) × (p.walker.at + length p.walker.held ≤ most_bytes) };
+    ghost invariant = { λ p. (length p.scratch.items ≡ 65536) × (p.walker.at + length p.walker.held ≤ most_bytes) };
 }
 
 impl Packets {

@@ -54,7 +54,7 @@ impl Model for PacketSender {
 
     ghost invariant = { λ s. CarryFits s.carry
         × (length s.parity.items ≡ most_parity)
-        × (length s.room.items ≡ most_room) };
+        × (length s.scratch.items ≡ most_room) };
 }
 
 impl PacketSender {

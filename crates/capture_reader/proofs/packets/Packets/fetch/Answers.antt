@@ -15,10 +15,10 @@ returns-in-Got-2-clause-fetches g c =
     let size : c.args.self.now.at + length c.args.self.now.held + (4294967295 - c.taken-left.result) ≡ 4294967295 =
     omega (arith, c.taken-left.ensures, c.self.invariant.1, same_at, ap length same_held) in
     let room : c.in-Got.field-0 ≤ 65536 = omega (arith, c.read_some.auto.scratch, ap length c.deref_mut.ensures.value, c.self.invariant.0, c.in-Got.ensures.moves_bytes.1) in
-    let written : c.in-Got.field-0 ≤ c.self.inside.room.len = omega (arith, c.read_some.auto.scratch, c.deref_mut.ensures.len, c.in-Got.ensures.moves_bytes.1) in
+    let written : c.in-Got.field-0 ≤ c.self.inside.scratch.len = omega (arith, c.read_some.auto.scratch, c.deref_mut.ensures.len, c.in-Got.ensures.moves_bytes.1) in
     fetch_got c.args.self.now c.put.new.self (g.I.Source.known c.args.input.now) (g.I.Source.known c.read_some.new.input) c.in-Got.field-0 c.put.result (4294967295 - c.taken-left.result) c.read_some.new.scratch c.deref.result.now
     c.requires.cut size c.in-Got.ensures.moves_bytes.0 c.in-Got.ensures.moves_bytes.1 room c.in-Got.ensures.within_limit c.if-left-eq0.false
-    (front_same c.in-Got.field-0 c.self.inside.room.len c.deref.result.now c.read_some.new.scratch _ c.deref.ensures.value written c.in-Got.ensures.moves_bytes.1)
+    (front_same c.in-Got.field-0 c.self.inside.scratch.len c.deref.result.now c.read_some.new.scratch _ c.deref.ensures.value written c.in-Got.ensures.moves_bytes.1)
     (c.in-Got.ensures.cause.same (λ failed. cc))
     (c.put.ensures.count ∙ ap (λ (w : WalkerState). min (length (take c.in-Got.field-0 c.deref.result.now)) (131072 - length w.held)) c.self.view_is)
     (c.put.ensures.after ∙ ap (λ (w : WalkerState). after_put (take c.put.result (take c.in-Got.field-0 c.deref.result.now)) w) c.self.view_is)
