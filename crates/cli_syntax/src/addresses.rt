@@ -30,6 +30,7 @@ fn port(text: &str) -> Option<u16>
 }
 
 /// The address that a text spells as `a.b.c.d:port`.
+/// Example: `address("127.0.0.1:5000")` is `Some(Address { ip: [127, 0, 0, 1], port: 5000 })`.
 #[tactic(auto, unfolding(crate::specs::Addressing::address_of))]
 pub fn address(text: &str) -> Option<Address>
     ensures { result ≡ address_of text.now }

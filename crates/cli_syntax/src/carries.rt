@@ -20,6 +20,7 @@ fn pft(text: &str) -> Option<Carry>
 }
 
 /// What `plain` or `pft:M:MTU` says.
+/// Example: `carry("pft:2:1400")` is `Some(Carry::Pft { m: 2, mtu: 1400 })`.
 #[tactic(auto, unfolding(crate::specs::Addressing::carry_of))]
 pub fn carry(text: &str) -> Option<Carry>
     ensures { result ≡ carry_of text.now }

@@ -36,6 +36,7 @@ fn number(text: &str) -> Option<u64>
 }
 
 /// The number that a text spells, where it is in this range.
+/// Example: `within("8", 1, 64)` is `Some(8)`, `within("08", 1, 64)` is `None`.
 #[tactic(auto, unfolding(crate::specs::Reading::within))]
 pub fn within(text: &str, least: u64, greatest: u64) -> Option<u64>
     ensures value { result ≡ within least greatest text.now }

@@ -68,6 +68,7 @@ pub fn air_over<R: Threads + Sync, O: Sink>(
     ensures kind { (fault : Fault) → result ≡ Err fault → (fault ≡ Fault.NoMemory) ⊎ (fault ≡ Fault.Write) }
     ensures cause { HasCause (O.known out.old) (O.known out.new) (result ≡ Err Fault.Write) }
 {
+    // For their clauses alone: what a schedule, a report, a delivery and a run of a collector keep to. The calls do nothing.
     plan.always_valid();
     reports_follow();
     laws_of_deliveries();
@@ -153,6 +154,7 @@ fn deliver(
     ensures own { server.new.plan ≡ server.new.base }
 {
     load_own(server, delivery.packet);
+    // For its clause alone: the frame has as many datagrams as a script counts.
     datagrams_are_counted(server);
     link.bring(alloc, server.datagram(delivery.fragment))
 }
@@ -172,5 +174,6 @@ fn load_own(server: &mut Server<'_>, t: u32)
 fn datagrams_are_counted(server: &Server<'_>)
     ensures { HasDatagrams server.now.plan server.now.frame (fragment_count server.now.plan server.now.frame) }
 {
+    // For its clauses alone: they say how long the packet is.
     let _ = server.packet();
 }

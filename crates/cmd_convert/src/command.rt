@@ -43,6 +43,7 @@ pub fn convert<I: Source, O: Sink, E: Sink>(
     ensures run { ConvertRun (record { window = window; reach = reach; first = first; frame_limit = frames }) carry result err_ok.new
         I.known input.old input.new O.known out.old out.new E.known err.old err.new }
 {
+    // For their clauses alone: how bytes are read as a capture. The calls do nothing.
     read_one_way();
     read_some_way();
     packets_in_front();

@@ -55,6 +55,7 @@ fn count_link<D: Dock>(
     requires { AreInRange options.now }
     ensures { CountsLink options.now at result D.known dock.old dock.new }
 {
+    // For their clauses alone: what a reading says of a delivery. The calls do nothing.
     reports_follow();
     in_time_is_unbroken();
     let mut collector = Collector::make(alloc, options.window, options.reach, options.first)?;
@@ -84,6 +85,7 @@ fn count_packets<I: Source>(
     requires { AreInRange options.now }
     ensures { CountsCapture options.now result I.known input.old input.new }
 {
+    // For their clauses alone: what a reading says of a delivery, and that any bytes are read in some way. The calls do nothing.
     reports_follow();
     in_time_is_unbroken();
     read_some_way();

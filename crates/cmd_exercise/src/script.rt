@@ -32,6 +32,7 @@ fn fragments(plan: &Schedule, packet: u32) -> u32
     requires { packet < frames plan.now }
     ensures { result ≡ fragment_count plan.now packet }
 {
+    // For its clause alone: the schedule is valid.
     plan.always_valid();
     datagrams(cut_for(plan.carry(), packet_len(plan, packet)))
 }

@@ -23,6 +23,7 @@ pub fn receive_from_capture<I: Source, O: Sink>(
     requires { AreInRange rules.now }
     ensures run { CaptureRun rules.now result I.known input.old input.new O.known out.old out.new }
 {
+    // For their clauses alone: what a report says of a delivery, and that any bytes are read in some way. The calls do nothing.
     reports_follow();
     in_time_is_unbroken();
     read_some_way();

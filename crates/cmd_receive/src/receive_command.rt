@@ -39,6 +39,7 @@ where
     ensures run { ReceiveRun rules.now addresses.now result
         D.known dock.old dock.new O.known out.old out.new }
 {
+    // For their clauses alone: what a report says of a delivery. The calls do nothing.
     reports_follow();
     in_time_is_unbroken();
     let mut receivers = open_all(alloc, rules, addresses, dock)?;

@@ -40,6 +40,7 @@ pub fn serve_live<S: Shelf, I: Source, O: Sink>(
         (IsErrOf result Fault.Read) }
     ensures write { HasCause (O.known out.old) (O.known out.new) (IsErrOf result Fault.Write) }
 {
+    // For its clause alone: a schedule with bytes of input is valid.
     input_makes_a_schedule();
     let schedule = read_schedule(alloc, shelf, name)?;
     let mut server = Server::make(alloc, &schedule)?;
@@ -77,6 +78,7 @@ pub fn send_live<S: Shelf, I: Source, D: Dock>(
     ensures words { IsErrOf result Fault.Words → ⊥ }
     ensures write { IsErrOf result Fault.Write → ⊥ }
 {
+    // For their clauses alone: a schedule has one list of datagrams, also with bytes of input. The calls do nothing.
     one_delivery();
     first_ones_are_prefix();
     input_makes_a_schedule();
@@ -113,6 +115,7 @@ fn send_live_over<S: Shelf, I: Source, L: Link>(
     ensures words { IsErrOf result Fault.Words → ⊥ }
     ensures write { IsErrOf result Fault.Write → ⊥ }
 {
+    // For its clause alone: a schedule with bytes of input is valid.
     input_makes_a_schedule();
     let schedule = read_schedule(alloc, shelf, name)?;
     let mut server = Server::make(alloc, &schedule)?;

@@ -36,6 +36,7 @@ pub fn send<S: Shelf, D: Dock>(
     ensures words { IsErrOf result Fault.Words → ⊥ }
     ensures write { IsErrOf result Fault.Write → ⊥ }
 {
+    // For their clauses alone: a schedule has one list of datagrams. The calls do nothing.
     one_delivery();
     first_ones_are_prefix();
     match reach_each(alloc, to, dock) {

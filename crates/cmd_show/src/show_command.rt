@@ -15,6 +15,7 @@ use text_output::LineBuffer;
 pub fn show<I: Source, O: Sink>(alloc: Global, input: &mut I, out: &mut O) -> Result<bool, Fault>
     ensures { ShowRun result I.known input.old input.new O.known out.old out.new }
 {
+    // For their clauses alone: bytes are read in one way, and a packet has one text. The calls do nothing.
     read_one_way();
     one_text();
     let mut packets = Packets::make(alloc)?;

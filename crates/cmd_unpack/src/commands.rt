@@ -40,6 +40,7 @@ pub fn unpack<I: Source, O: Sink>(
     ensures run { DataRun (record { window = window; reach = reach; first = first; frame_limit = frames }) (UnitsOf stream id length) result
         I.known input.old input.new O.known out.old out.new }
 {
+    // For their clauses alone: how bytes are read as a capture. The calls do nothing.
     read_one_way();
     packets_in_front();
     let joiner = Joiner::make(alloc, id, length)?;
@@ -70,6 +71,7 @@ pub fn texts<I: Source, O: Sink>(
     ensures run { DataRun (record { window = window; reach = reach; first = first; frame_limit = frames }) (TextsOf stream) result
         I.known input.old input.new O.known out.old out.new }
 {
+    // For their clauses alone, as in `unpack`.
     read_one_way();
     packets_in_front();
     let mut taker = Taker::Messages(MessageTaker {

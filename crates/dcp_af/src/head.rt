@@ -42,6 +42,7 @@ pub(crate) fn head_of(packet: &[u8]) -> AfHead
 }
 
 /// The bytes of the packet that begins with these, by its length field.
+/// Example: `described_len(b"AF\0\0\0\x09\x124\x90T")` is 21: a payload of 9 bytes, and 12 around it.
 pub fn described_len(head: &[u8]) -> u64
     requires { 10 ≤ length head.now }
     ensures { result ≡ described head.now }

@@ -23,6 +23,7 @@ pub struct Af<'a> {
 }
 
 /// The packet that these bytes are, all of them, or the first fault.
+/// Example: `read_af(b"AF\0\0\0\x01\xff\xff\x90T\0X'")` has the sequence number 65,535 and the payload `b"\0"`.
 pub fn read_af(packet: &[u8]) -> Result<Af<'_>, AfFault>
     // What is read is the packet, and what is a packet is read.
     ensures found { IfOk result (λ af. IsAf (packet_of af) packet.now) }

@@ -23,6 +23,7 @@ fn head(seq: u16, payload: u32) -> [u8; 10]
 
 /// Makes a packet with this sequence number of the payload that stands from byte 10 on and has `payload` bytes. Writes
 /// the head before it and the check value behind it, and answers the length of the packet.
+/// Example: with `123456789` in its place, `write_af(0x1234, into, 9)` makes `AF\0\0\0\x09\x124\x90T123456789V?`, and is 21.
 pub fn write_af(seq: u16, into: &mut [u8], payload: usize) -> usize
     requires fits { payload < 2 ^ 32 }
     requires room { payload + 12 ≤ length into.old }

@@ -47,6 +47,7 @@ pub fn datagrams(cut: Option<Shape>) -> u32
 }
 
 /// The bytes of datagram `i` of a packet of `len` bytes that is cut so.
+/// Example: `datagram_len(Some(shape_for(400, 2, 1400)), 400, 0)` is 47: 16 bytes of header, and 31 of payload.
 pub fn datagram_len(cut: Option<Shape>, len: usize, i: u32) -> u64
     requires { len < 2 ^ 16 }
     ensures size { (carry : Carry) → cut ≡ cut_of carry len → result ≡ datagram_size carry len i }

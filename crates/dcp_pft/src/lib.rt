@@ -1,5 +1,19 @@
-//! Fragments of packets (TS 102 821, PFT): how a packet is carried, how it is cut so that some of its fragments may be lost,
-//! the fragments written, and fragments read.
+//! PFT of DCP (TS 102 821): how a packet is carried, whole or in fragments; how it is cut and coded
+//! with Reed-Solomon so that some of its fragments may be lost; fragments written, and read. How
+//! many may be lost, and how long packets and fragments may be, is this project's own profile
+//! (`src/limits.rt`).
+//!
+//! It builds on `rs_erase` (the parity of a chunk) and `drm_bits` (the header's check value). It is
+//! used by `dcp_sender`, which cuts packets, `dcp_collect`, which puts them together,
+//! `drm_schedule` (`Carry`), and `capture_reader` (where a fragment ends).
+//!
+//! It recovers nothing: `dcp_collect` decides whether the fragments suffice, and `rs_erase` fills
+//! the erased bytes. Sequence numbers are counted by `drm_timeline` and `dcp_sender`.
+//!
+//! Begin with `shape_for` (`src/shape.rt`), `code` (`src/coding.rt`) and `read_fragment`
+//! (`src/read.rt`). `SpellsHead` (`specs/Head.antt`) is the header, `shape_of`
+//! (`specs/Cutting.antt`) the cutting, `payload_of` (`specs/Coding.antt`) what a fragment carries.
+//! Of the laws in `src/laws.rt`, functions that do nothing, see `any_may_be_lost`.
 #![tactic(auto)]
 
 mod carry;

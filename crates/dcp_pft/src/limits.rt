@@ -38,6 +38,7 @@ const MOST_CHUNKS: usize = 159;
 pub const MOST_PARITY: usize = MOST_CHUNKS * PARITY_BYTES as usize;
 
 /// The most bytes of a packet that is carried so.
+/// Example: `most_packet(Carry::Pft { m: 5, mtu: 128 })` is 8,192.
 pub fn most_packet(carry: Carry) -> usize
     ensures is { result ≡ most_packet carry }
     ensures least { longest_in_short ≤ result }

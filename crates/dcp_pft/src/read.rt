@@ -38,6 +38,7 @@ pub fn read_fragment(datagram: &[u8]) -> Result<Fragment<'_>, PftFault>
 }
 
 /// The bytes of the fragment that begins with these, by its header: all that is read is the header.
+/// Example: `size_by_head(b"PF\x12\x34\0\0\x01\0\0\x03\0\x05J\x93")` is `Ok(19)`: 14 bytes of header, and 5 of payload.
 pub fn size_by_head(front: &[u8]) -> Result<usize, PftFault>
     ensures fault { IfErr result (λ fault. IsFirstRow head_rows fault front.now) }
     ensures right { OnOk result (NoneOf head_rows front.now) }

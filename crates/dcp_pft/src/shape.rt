@@ -36,6 +36,7 @@ pub(crate) const CODED_HEAD: u32 = 16;
 pub(crate) const PLAIN_HEAD: u32 = 14;
 
 /// How a packet of so many bytes is cut so that m fragments may be lost and no datagram is longer than `mtu` bytes.
+/// Example: `shape_for(209, 5, 1400)` is `Shape { count: 20, piece: 16, rs: Some(Rs { k: 105, z: 1 }) }`.
 pub fn shape_for(len: usize, m: u8, mtu: u16) -> Shape
     requires at_least_one { 1 ≤ len }
     requires in_range { len ≤ most_packet (Pft m mtu) }

@@ -15,6 +15,7 @@ fn parity_len(shape: &Shape, len: usize) -> usize
     ensures len { result ≡ 48 * chunks_of shape.now }
     ensures within_limit { result ≤ most_parity }
 {
+    // For its clause alone: what is cut passes no limit of a reader.
     all_taken();
     let _ = len;
     48 * chunks(shape) as usize

@@ -1,4 +1,17 @@
-//! Packets under a carry: the parity of a packet and its fragments, which are written to a sink, or sent over links one after another.
+//! Sends packets: the parity of a packet and its fragments (PFT, TS 102 821), or the packet whole,
+//! written to a sink, or sent over links one after another. A packet is coded once, however many
+//! links there are.
+//!
+//! It builds on `dcp_pft`, which says how a packet is cut and makes parity and fragments,
+//! `drm_links` (`Sink`, `Link`) and `link_group` (links of which one that fails is left out). It is
+//! used by `drm_server`, `cmd_convert` and `drm_gate`.
+//!
+//! It makes no packets (`drm_server` with `mdi_items` and `dcp_af`) and doesn't wait between frames
+//! (`serve_links` of `drm_server`; `drm_adapt`). Fragments are put together again by `dcp_collect`.
+//!
+//! Begin with `PacketSender` (`src/sender.rt`), then `send_packet` (`src/send.rt`). `CarriesText`
+//! (`specs/CarriesText.antt`) says what is written of a packet, `SentPacket` (`specs/Sending.antt`)
+//! what is sent of it over a link.
 #![tactic(auto)]
 
 mod cut;

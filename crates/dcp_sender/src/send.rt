@@ -73,6 +73,7 @@ fn send_fragments<L: Link>(
     ensures calls { MakesCalls (λ traffic. traffic.calls) most_fragments (L.known link.old) (L.known link.new) }
     ensures room { length scratch.new ≡ length scratch.old }
 {
+    // For its clause alone: what is cut passes no limit of a reader.
     all_taken();
     for i in 0..shape.count {
         let len = write_cut(packet, shape, parity, seq, i, scratch);

@@ -116,6 +116,7 @@ impl PacketSender {
         ensures within_limit { result ≤ most_fragments }
         ensures carry { self.new ≡ self.old }
     {
+        // For its clause alone: what is cut passes no limit of a reader.
         all_taken();
         let cut = cut_for(self.carry, packet.len());
         write_parity(packet, cut, &mut self.parity);

@@ -9,6 +9,7 @@ use crate::head::HEAD_BYTES;
 use drm_bits::put_at;
 
 /// Writes an item from the byte `at` on, and answers the byte behind it. `bits` is the length of the value in bits.
+/// Example: `write_item(into, 0, *b"dlfc", 32, &[0, 0, 0, 1])` writes `dlfc`, `00 00 00 20`, `00 00 00 01`, and is 16.
 pub fn write_item(into: &mut [u8], at: usize, name: [u8; 4], bits: u32, value: &[u8]) -> usize
     requires size { length value.now ≡ bytes_for bits }
     requires padding { drop bits (bits_of value.now) ≡ replicate (8 * length value.now - bits) false }

@@ -1,5 +1,17 @@
-//! The edge of the program: files, streams and sockets of the system as shelves, sources, sinks and links. They tell no
-//! contents.
+//! Files, streams and UDP sockets of the system under the traits of `drm_links` (`Shelf`, `Source`,
+//! `Sink`, `Dock`, `Link`). They aren't observable, so contracts know of them only how many calls
+//! failed.
+//!
+//! It builds on `drm_links` and on the standard library's files, streams and sockets. It is used by
+//! `drmcast` and `drmpaths`, in `main`, and by tests.
+//!
+//! The forms in memory, which are observable, are in `drm_links`. IPv4 unicast alone: host names,
+//! IPv6 and multicast are nowhere.
+//!
+//! Begin with `UdpLink` (`src/udp_link.rt`); when its rests end is in `src/pace.rt`, and which
+//! refusals of the system are lost datagrams and which are faults in `src/refusals.rt`.
+//! `StreamReads` (`specs/Streams.antt`) and `HoldsFile` (`specs/Files.antt`) say what is read if
+//! the contents are known.
 #![tactic(auto)]
 
 mod file_shelf;

@@ -17,6 +17,7 @@ pub struct WrongCheck {
 }
 
 /// Whether these two bytes are the check value of the other ones.
+/// Example: `compare_crc16(b"123456789", &[0xd6, 0x4e])` is `Ok(())`.
 pub fn compare_crc16(bytes: &[u8], check: &[u8]) -> Result<(), WrongCheck>
     requires { length check.now ≡ 2 }
     ensures right { OnOk result (IsCheckOf bytes.now (from_be_bytes w16 check.now)) }

@@ -11,6 +11,7 @@ const CRC8_LOW: u8 = 0x1d;
 
 /// The check value of the Fast Access Channel (ES 201 980): a register of ones takes the bytes, the greatest bit
 /// first, and is complemented.
+/// Example: `crc8(b"123456789")` is `0x4b`.
 pub fn crc8(bytes: &[u8]) -> u8
     ensures check { IsCheck crc8_polynomial (bits_of bytes.now) (digits 8 result) }
     // There is no other.
@@ -26,6 +27,7 @@ pub fn crc8(bytes: &[u8]) -> u8
 
 /// The check value of AF packets, PFT headers (TS 102 821) and the Service Description Channel (ES 201 980), by the
 /// same rules.
+/// Example: `crc16(b"123456789")` is `0xd64e`.
 pub fn crc16(bytes: &[u8]) -> u16
     ensures check { IsCheck crc16_polynomial (bits_of bytes.now) (digits 16 result) }
     // There is no other.

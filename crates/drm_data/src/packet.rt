@@ -38,6 +38,7 @@ pub(crate) struct DataHead {
 }
 
 /// The packet that these bytes are, whose data field has `length` bytes, or the first fault.
+/// Example: `read_packet(b"\xe8\x02Hi\0?\x04", 4)` is packet 0 of id 2, first and last of its unit, with `b"Hi"`.
 pub fn read_packet(bytes: &[u8], length: u8) -> Result<DataPacket<'_>, DataFault>
     requires { 1 ≤ length }
     // What is read is the packet, and what is a packet is read.

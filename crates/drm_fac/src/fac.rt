@@ -42,6 +42,7 @@ ghost use Rattle.drm_fac.specs.Fac.{fac_fields, IsFac, FacFits};
 ghost use Rattle.drm_fac.specs.Fault.{IsFault};
 
 /// Reads the 72 bits of a FAC: 20 of the channel, 44 of the service, and the check value of these 64 in 8.
+/// Example: `66 08 01 23 45 60 a1 80 6d` is the FAC of the service 123456, with the services code 4 (one audio service).
 pub fn decode(bytes: &[u8; 9]) -> Result<Fac, FacFault>
     // What is read is the FAC that these bytes are, and each FAC is read.
     ensures read { IfOk result (λ fac. IsFac fac bytes.now) }

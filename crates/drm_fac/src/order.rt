@@ -13,6 +13,7 @@ pub enum Slot {
 
 /// The service whose parameters stand in a frame, of so many audio and data services (ES 201 980, "Fast Access
 /// Channel"). The phase counts frames from the first one of the configuration.
+/// Example: `pattern(1, 1, 4)` is `Slot::Data(0)`: four times the audio service, then the data service.
 pub fn pattern(audio: u8, data_count: u8, phase: u64) -> Slot
     requires { IsSome (code_of audio data_count) }
     ensures { Some result ≡ service_at audio data_count phase }

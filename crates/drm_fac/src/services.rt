@@ -4,6 +4,7 @@ ghost use Rattle.std.specs.Prelude.{◌≡◌, ◌<◌, IfSome, Some};
 ghost use Rattle.drm_fac.specs.Services.{counts_of, code_of};
 
 /// The numbers of audio and of data services that a code stands for; `None` where the code is reserved.
+/// Example: `counts(9)` is `Some((2, 1))`.
 pub fn counts(code: u8) -> Option<(u8, u8)>
     requires { code < 16 }
     ensures { result ≡ counts_of code }
@@ -17,6 +18,7 @@ pub fn counts(code: u8) -> Option<(u8, u8)>
 }
 
 /// The code of so many audio and data services; `None` where there is none of them, or more than four.
+/// Example: `services_code(4, 0)` is `Some(0)`.
 pub fn services_code(audio: u8, data_count: u8) -> Option<u8>
     ensures code { result ≡ code_of audio data_count }
     ensures read_again { IfSome result (λ code. counts_of code ≡ Some (audio, data_count)) }

@@ -1,6 +1,19 @@
-//! The outside of a run: shelves of files, sources and sinks of bytes, links that carry datagrams and docks where links
-//! are opened. Each is a trait; an object of it has a count of faults, and may tell its contents. Forms in memory
-//! stand in for the real ones.
+//! The outside of a run, as five traits: `Shelf` (files by name), `Source` and `Sink` (bytes read
+//! and written), `Link` (datagrams), `Dock` (where links are opened). An object of one has a count
+//! of faults, and is observable if contracts can refer to its contents. The forms in memory, which
+//! are, stand in for the real ones.
+//!
+//! It builds on `drm_bits` and `drm_lists`. It is used by all that reads, writes, sends or
+//! receives.
+//!
+//! The real files, streams and sockets are in `drm_adapt`. Several links that are sent the same are
+//! in `link_group`; `recv_reading` decides when the reading of a link ends; `text_output` writes
+//! texts in pieces.
+//!
+//! Begin with `Link` (`src/link.rt`) and `MemLink` (`src/memory_link.rt`). `Known`
+//! (`specs/Known.antt`) is what is known of an object, with the words in which all clauses of the
+//! outside are written; then `LinkReceives` and `LinkSends` (`specs/Link.antt`), and what a dock
+//! knows of its openings (`specs/Dock.antt`).
 #![tactic(auto)]
 
 mod dock;

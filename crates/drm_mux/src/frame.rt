@@ -15,6 +15,7 @@ pub struct Spans {
 }
 
 /// How many bytes the multiplex frame has.
+/// Example: two streams with the parts 2 and 1, and 1 and 2, make a frame of 6 bytes.
 pub fn frame_len(desc: &MuxDesc) -> usize
     ensures { result ≡ frame_length desc.now }
 {

@@ -10,6 +10,7 @@ use crate::MuxFault;
 use drm_bits::{BitSink, Bits, MuxDesc};
 
 /// Reads the description from the first `bits` bits of `value`, which has as many bytes as these need.
+/// Example: `read_sdci(&[0x01, 0x00, 0x20, 0x01, 0x00, 0x10, 0x02], 56)` has two streams, with the parts 2 and 1, and 1 and 2.
 pub fn read_sdci(value: &[u8], bits: u32) -> Result<MuxDesc, MuxFault>
     requires { length value.now ≡ (bits + 7) / 8 }
     ensures read { IfOk result (λ d. IsSdci d value.now) }

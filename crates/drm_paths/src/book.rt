@@ -82,6 +82,7 @@ impl<G: Road> Book<G> {
         ensures counted { length self.now.journal.entries ≡ self.now.total }
         ensures numbered { AreNumbered G.parts self.now.journal.entries }
     {
+        // For its clauses alone: what the journal keeps.
         self.journal.keeps_its_report();
     }
 

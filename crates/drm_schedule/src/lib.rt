@@ -1,4 +1,18 @@
-//! The schedule of a multiplex: its values, what the lines of a text can give of them, and which schedules are valid.
+//! The schedule of a multiplex as a value: its configurations with their services, streams and SDC
+//! entities, by super frames; what the lines of a text can give of them; and which schedules are
+//! valid.
+//!
+//! It builds on `drm_fac` and `drm_sdc` (services and entities), `dcp_pft` (`Carry`, how packets
+//! are sent), `drm_lists`, and `plan_packing` (whether an announcement fits into the blocks before
+//! it). It is used by the crates of texts (`plan_`), by `drm_timeline` and by all that serves.
+//!
+//! `drm_plan` reads the text, and `drm_timeline` derives the frames. Whether a channel can carry so
+//! many bytes in its mode and occupancy is asked nowhere.
+//!
+//! Begin with `Plan` (`src/plan.rt`), `Config` (`src/config.rt`) and `Schedule`
+//! (`src/schedule.rt`), a plan that is valid. `IsSchedule` and `first_invalid` (`specs/Valid.antt`)
+//! say what is valid and what the first fault is, `InLines` (`specs/Ranges.antt`) what lines can
+//! give. Functions in `src/laws.rt` do nothing, nor does `always_valid`: each is a law.
 #![tactic(auto)]
 
 mod announcement;

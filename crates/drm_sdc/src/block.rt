@@ -66,6 +66,7 @@ fn read_whole(alloc: Global, value: &[u8], bits: u32) -> Result<Block, SdcFault>
 }
 
 /// Answers as `read_block` does, without memory.
+/// Example: `check_block(&[0x00, 0x1e, 0x0f], 24)` is `Ok(BlockInfo { afs: 0, room: 0 })`.
 pub fn check_block(value: &[u8], bits: u32) -> Result<BlockInfo, SdcFault>
     requires { length value.now ≡ (bits + 7) / 8 }
     // There is a block of which this is told.

@@ -1,5 +1,19 @@
-//! The Service Description Channel (SDC) of Digital Radio Mondiale: what a receiver is told of the multiplex beside
-//! the Fast Access Channel, as typed entities in a block with its check value.
+//! The Service Description Channel (SDC) of Digital Radio Mondiale (ES 201 980, "Service
+//! Description Channel"): what a receiver learns of the multiplex beside the Fast Access Channel,
+//! as typed entities in a block with its check value; read and written. An entity of a type that
+//! isn't known here is kept as its bytes.
+//!
+//! It builds on `drm_bits` (fields, the check value, the multiplex description). It is used by
+//! `mdi_items` (the `sdc_` item), `drm_schedule` (entities as values), `drm_timeline` (the block of
+//! each super frame) and `report_text`.
+//!
+//! `drm_timeline` determines which entities a super frame has and in which order, `plan_packing`
+//! how an announcement is spread over several blocks. Entities as lines of text: `plan_lines`,
+//! `plan_writer`.
+//!
+//! Begin with `read_block` (`src/block.rt`), `write_block` (`src/written_block.rt`) and `Body`
+//! (`src/body.rt`). `IsBlock` (`specs/Block.antt`) is a block, `IsEntity` (`specs/Entity.antt`) an
+//! entity, and `body_fields` (`specs/Bodies.antt`) the table of fields of each type.
 #![tactic(auto)]
 
 mod application;

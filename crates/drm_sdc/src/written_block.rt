@@ -47,6 +47,7 @@ pub fn write_block(block: &Block, room: usize, into: &mut [u8]) -> Result<u32, N
 
 /// Writes the block of this data field, without four zero bits in front, and gives its bits. Zeros stand in the four
 /// bits behind the block; the bytes of `into` behind these keep what they were.
+/// Example: `frame_field(0, &[], into)` writes `01 e0 f0`, and is 20.
 pub fn frame_field(afs: u8, field: &[u8], into: &mut [u8]) -> u32
     requires index { afs < 2 ^ 4 }
     requires room { length field.now ≤ 1023 }

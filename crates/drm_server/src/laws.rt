@@ -18,6 +18,7 @@ pub fn one_packet()
 pub fn one_delivery()
     ensures { HasOneDelivery }
 {
+    // For its clause alone: a fragment is one datagram.
     one_fragment();
 }
 
@@ -25,6 +26,7 @@ pub fn one_delivery()
 pub fn first_ones_are_prefix()
     ensures { FirstOnesArePrefix }
 {
+    // For its clause alone, as above.
     one_fragment();
 }
 
@@ -32,6 +34,7 @@ pub fn first_ones_are_prefix()
 pub fn one_capture()
     ensures { HasOneCapture }
 {
+    // For its clause alone, as above.
     one_fragment();
 }
 

@@ -1,4 +1,18 @@
-//! The packets of a schedule and the datagrams that carry them, one frame at a time: to a sink, or over links.
+//! The packets of a schedule and the datagrams that carry them, one frame at a time: to a sink (a
+//! capture), or over links, with a rest between two frames. A frame may be given the bytes of its
+//! live streams.
+//!
+//! It builds on `drm_timeline` (the FAC, the block and the numbers of each frame), `mdi_items` and
+//! `dcp_af` (the packet), `dcp_sender` (fragments) and `live_streams`. It is used by `cmd_serve`,
+//! `cmd_air` and `live_server`; `law_delivery` starts from what it sends.
+//!
+//! It reads no files and no input (`cmd_load`, `live_server`), opens no links (`link_group`), and
+//! has no clock: a rest is `rest` of a `Link`, for UDP in `drm_adapt`. Nothing is modulated.
+//!
+//! Begin with `Server` (`src/server.rt`), then `write_packet` (`src/packet.rt`) and `serve_links`
+//! (`src/send.rt`). `IsFrameAt` (`specs/Frames.antt`) is the frame of a schedule, `AreDatagrams`
+//! (`specs/Datagrams.antt`) what carries a stretch of them. Functions in `src/laws.rt` do nothing:
+//! each is a law.
 #![tactic(auto)]
 
 mod laws;

@@ -104,6 +104,7 @@ impl<'a> EncodedFrame<'a> {
         requires piece { length piece.items ≡ 32760 }
         ensures { result ≡ record { base = plan.now; plan = plan.now; frame = 0 } }
     {
+        // For its clause alone: the schedule is valid.
         plan.always_valid();
         let live = Live::none();
         let len = write_packet(plan, 0, &live, &[], &mut buffer, &mut buffers);
@@ -171,6 +172,7 @@ impl<'a> EncodedFrame<'a> {
           frame = t;
         } }
     {
+        // For its clause alone: the schedule is valid.
         self.plan.always_valid();
         // For its clauses alone: they say that there is room for the piece.
         let _ = piece_len(self.plan, live, t);
@@ -205,6 +207,7 @@ impl<'a> EncodedFrame<'a> {
         ensures at_least_one { 1 ≤ result }
         ensures within_limit { result ≤ most_fragments }
     {
+        // For its clause alone: what is cut passes no limit of a reader.
         all_taken();
         datagrams(self.cut)
     }

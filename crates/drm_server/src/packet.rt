@@ -35,6 +35,7 @@ pub fn write_packet(
     ensures within { result ≤ longest_packet }
     ensures at_least_one { 1 ≤ result }
 {
+    // For its clause alone: the schedule is valid.
     plan.always_valid();
     let len = write_first(plan, t, live, piece, &mut into[HEAD..], buffers);
     write_af(sequence_number(plan, t), into, len)

@@ -13,6 +13,7 @@ pub(crate) const START: [u8; 4] = [0xff; 4];
 const SEGMENT_PIECES: usize = 6;
 
 /// Piece `k` of a message, from 0 on: none exactly past the last one. The toggle changes with each message.
+/// Example: `text_piece("Hi", false, 1)` is `Some(*b"a\0Hi")`, behind the start of four bytes FF.
 pub fn text_piece(message: &str, toggle: bool, k: usize) -> Option<[u8; 4]>
     requires at_least_one { 1 ≤ length message.now }
     requires within_limit { length message.now ≤ most_message }

@@ -32,6 +32,7 @@ pub fn block_into(plan: &Schedule, sf: u32, into: &mut [u8; 1026]) -> u32
     ensures rest { drop ((result + 4) / 8) into.new ≡ drop ((result + 4) / 8) into.old }
     ensures octets { (i : ℕ) → slice_index into.new i < 2 ^ 8 }
 {
+    // For its clause alone: the schedule is valid.
     plan.always_valid();
     let config = standing(plan, sf);
     let mut field = [0; 1023];

@@ -20,6 +20,7 @@ pub fn config_at(plan: &Schedule, sf: u32) -> usize
     ensures config { slice_get plan.now.configs result ≡ config_of plan.now sf }
     ensures within { result < length plan.now.configs }
 {
+    // For its clause alone: the schedule is valid.
     plan.always_valid();
     match last_started(plan.configs().as_slice(), sf) {
         Some(k) => k,
@@ -36,6 +37,7 @@ pub fn standing(plan: &Schedule, sf: u32) -> &Config
     ensures room { HasRoom result.now }
     ensures packet { packet_len result.now true ≤ most_packet plan.now.carry }
 {
+    // For its clause alone: the schedule is valid.
     plan.always_valid();
     plan.configs().get(config_at(plan, sf))
 }
@@ -76,6 +78,7 @@ pub fn announced<'a>(plan: &'a Schedule, sf: u32) -> Option<&'a Config>
     ensures can { (before : Config) → config_of plan.now sf ≡ Some before
         → IfSome (option_copied result) (λ c. can_be_announced before c ≡ true) }
 {
+    // For its clause alone: the schedule is valid.
     plan.always_valid();
     let mut left = plan.configs().as_slice();
     while let [config, more @ ..] = left {

@@ -1,5 +1,19 @@
-//! The frames of a schedule: which configuration holds in each super frame, and which FAC and which block of the Service
-//! Description Channel are sent; and what receivers see of their switches.
+//! The frames of a schedule: which configuration holds in each super frame, and which FAC and which
+//! block of the Service Description Channel are sent (ES 201 980); how long the packet of a frame
+//! is and which sequence number it has; and where receivers see reconfigurations.
+//!
+//! It builds on `drm_schedule` (a valid schedule), `drm_fac` and `drm_sdc` (what is sent), and
+//! `drm_reconfiguration` (what receivers see). It is used by `drm_server`, `live_streams` and
+//! `plan_script`.
+//!
+//! The bytes of streams, and the packets themselves, are made by `drm_server`. What a receiver
+//! makes of frames that came is in `drm_reconfiguration` and `mod_feed`.
+//!
+//! Begin with `fac_at` (`src/fast_access.rt`), `block_into` (`src/block.rt`) and `config_at`
+//! (`src/configuration.rt`). `fac_of` (`specs/FastAccess.antt`) is the FAC of a frame, `block_of`
+//! (`specs/Blocks.antt`) the block of a super frame, `announcement_of` (`specs/Announcing.antt`)
+//! what announces the next configuration. `starts_are_announced` and `switches_are_at_starts` do
+//! nothing: each is a law.
 #![tactic(auto)]
 
 mod announcing;

@@ -18,6 +18,7 @@ pub fn frame_count(plan: &Schedule) -> u32
     ensures at_least_one { 1 ≤ result }
     ensures within_limit { result ≤ 3000000 }
 {
+    // For its clause alone: the schedule is valid.
     plan.always_valid();
     3 * plan.length()
 }
@@ -30,6 +31,7 @@ pub fn config_of_frame(plan: &Schedule, t: u32) -> &Config
     ensures started { 3 * result.now.start ≤ t }
     ensures files { All (λ (s : Stream). is_short (t - 3 * result.now.start + 1) s ≡ false) result.now.streams }
 {
+    // For its clause alone: the schedule is valid.
     plan.always_valid();
     standing(plan, t / 3)
 }

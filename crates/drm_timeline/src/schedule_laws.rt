@@ -8,6 +8,7 @@ use drm_schedule::Schedule;
 pub fn starts_are_announced(plan: &Schedule)
     ensures { AnnouncesStarts plan.now }
 {
+    // For its clause alone: the schedule is valid.
     plan.always_valid();
 }
 
@@ -18,5 +19,6 @@ pub fn switches_are_at_starts(plan: &Schedule)
     ensures at_all_starts { SwitchesAtAllStarts plan.now }
     ensures never_resumed { ResumesNowhere plan.now }
 {
+    // For its clause alone: the reconfiguration index counts down to each later start.
     starts_are_announced(plan);
 }

@@ -30,6 +30,7 @@ fn read_line(alloc: Global, words: &[String]) -> Result<Request, WordsFault>
 }
 
 /// The request of a command line: the words that stand behind the program's name.
+/// Example: `exercise 7` asks for `Request::Exercise { n: 7 }`.
 pub fn read_words(alloc: Global, words: &[String]) -> Result<Request, WordsFault>
     // A request is answered only where it fits the words.
     ensures found { IfOk result (λ request. IsLine (map string_bytes words.now) request) }

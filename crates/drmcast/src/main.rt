@@ -1,4 +1,16 @@
-//! Runs the command of its words over the standard streams, the files of the system, and UDP.
+//! The program `drmcast`: carries a Digital Radio Mondiale multiplex (ES 201 980) from a content
+//! server to its modulators, as MDI (TS 102 820) in DCP (TS 102 821), over UDP or in captures. This
+//! is its `main`: it runs the command of its words over the standard streams, the files of the
+//! system, and UDP.
+//!
+//! It builds on `drm_top` (`run`, the contract of all commands), `drm_adapt` (the system's files,
+//! streams and sockets) and `cli_program` (the words).
+//!
+//! What a command does is in the crates `cmd_`, how its words are read in `drm_words`. Several
+//! networks received as one are another program, `drmpaths`.
+//!
+//! Begin with `run` of `drm_top` (`src/command.rt` there); then `docs/ARCHITECTURE.md`. The files
+//! `args`, `stdin` and `stdout` are an example run.
 
 #![tactic(auto)]
 

@@ -1,4 +1,15 @@
-//! Runs the paths of its words over UDP and the standard streams.
+//! The program `drmpaths`: receives one schedule at two to four addresses, over different networks,
+//! and prints one report of all that arrived, so that a frame which one network loses may come over
+//! another. This is its `main`: it runs the paths of its words over UDP and the standard streams.
+//!
+//! It builds on `cmd_paths` (`run_paths`, the contract of the whole run), `drm_adapt` (the system's
+//! streams and sockets) and `cli_program` (the words).
+//!
+//! How paths hand datagrams to one book is in `drm_paths`, the report of the book in
+//! `report_journal`, the options in `cli_paths`. All other commands are those of `drmcast`.
+//!
+//! Begin with `run_paths` of `cmd_paths` (`src/command.rt` there). The files `args`, `stdin` and
+//! `stdout` are an example run.
 
 #![tactic(auto)]
 
