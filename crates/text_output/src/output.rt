@@ -36,6 +36,7 @@ pub fn write_piece<O: Sink>(out: &mut O, piece: Piece<'_>) -> Result<(), WriteFa
 }
 
 /// Writes bytes in hex, two digits each.
+/// Example: of the bytes 0 and 42 it writes `002a`.
 pub fn write_hex<O: Sink>(out: &mut O, bytes: &[u8]) -> Result<(), WriteFault>
     ensures { WritesWhole result (O.known out.old) (O.known out.new) (encode_lower bytes.now) }
 {
