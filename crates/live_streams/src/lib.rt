@@ -1,6 +1,7 @@
 //! Live streams: streams of a schedule that take their bytes from an input, frame by frame. It says
 //! how many bytes a frame asks for (`piece_len`), which of them are whose, and which schedule they
-//! make: one that has, in the place of each live stream, a file of the bytes that came.
+//! make: one that has, in the place of each live stream, a file of the bytes that came, and of its
+//! own bytes where none came.
 //!
 //! Schedules and frames are those of `drm_schedule` and `drm_timeline`. `drm_server` loads a frame
 //! with its bytes, `live_server` reads them.

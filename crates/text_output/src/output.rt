@@ -14,6 +14,7 @@ use itoa::Buffer;
 const AT_ONCE: usize = 64;
 
 /// Writes the texts of the pieces, one after another.
+/// Example: of `[Piece::Words("feed "), Piece::Number(1)]` it writes `feed 1`.
 pub fn write_pieces<O: Sink>(out: &mut O, pieces: &[Piece<'_>]) -> Result<(), WriteFault>
     ensures { WritesWhole result (O.known out.old) (O.known out.new) (text_of pieces.now) }
 {
