@@ -20,6 +20,7 @@ impl Model for Gf {
 
 impl Gf {
     /// The sum, which is the difference too.
+    /// Example: `Gf(0x53).add(Gf(0xca))` is `Gf(0x99)`.
     pub fn add(self, other: Gf) -> Gf
         ensures { result ≡ bit_xor self other }
     {
@@ -27,6 +28,7 @@ impl Gf {
     }
 
     /// The product.
+    /// Example: `Gf(0x80).mul(Gf(2))` is `Gf(0x1d)`.
     pub fn mul(self, other: Gf) -> Gf
         ensures product { IsProduct self other result }
         ensures value { result ≡ times self other }
@@ -45,6 +47,7 @@ impl Gf {
     }
 
     /// The element whose product with this one is 1.
+    /// Example: `Gf(2).inverse()` is `Gf(0x8e)`.
     pub fn inverse(self) -> Gf
         requires { self ≢ 0 }
         ensures product { IsProduct self result 1 }
@@ -55,6 +58,7 @@ impl Gf {
     }
 
     /// 2 to the n.
+    /// Example: `Gf::power(8)` is `Gf(0x1d)`.
     pub fn power(n: u32) -> Gf
         ensures { result ≡ power n }
     {

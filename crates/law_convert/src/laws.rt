@@ -17,6 +17,7 @@ pub fn conversions_are_captures()
     ensures broken { BrokenConversions }
     ensures halted { HaltedConversions }
 {
+    // For their clauses alone: what a collector gives of a delivery, and in how many ways.
     collecting();
     giving_ends();
     in_time();
@@ -32,6 +33,7 @@ pub fn the_first_number_is_known()
     ensures given { FirstIsKnown }
     ensures first_of_all { FirstOfAll }
 {
+    // For their clauses alone: how a datagram is read and answered, and what a delivery gives.
     one_reading();
     refusing();
     one_run();
@@ -42,6 +44,7 @@ pub fn the_first_number_is_known()
 pub fn none_is_too_large()
     ensures { NoneIsTooLarge }
 {
+    // For their clauses alone: what a collector gives of a delivery, and under which numbers.
     collecting();
     giving_ends();
     steps_count();
@@ -51,6 +54,7 @@ pub fn none_is_too_large()
 pub fn captures_are_converted()
     ensures { CapturesAreConverted }
 {
+    // For their clauses alone: how a capture is read, and the laws above.
     packets_in_front();
     read_one_way();
     conversions_are_captures();

@@ -32,7 +32,7 @@ pub fn knows_open()
     ensures { KnowsOpen }
 {}
 
-/// Each unit that is begun is given or its cut is told, once.
+/// Each unit that is begun is given or its cut is reported, once.
 pub fn tells_each_once()
     ensures { TellsEachOnce }
 {}

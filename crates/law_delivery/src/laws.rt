@@ -10,6 +10,7 @@ use mod_feed::the_feed_tells_the_switches;
 pub fn modulators_give()
     ensures { Delivering }
 {
+    // For their clauses alone: what a collector gives, what a feed has before it, what is refused.
     collecting();
     the_feed_tells_the_switches();
     refusing();
@@ -19,6 +20,7 @@ pub fn modulators_give()
 pub fn modulators_give_early()
     ensures { DeliveringEarly }
 {
+    // For their clauses alone: the same, and that the steps of a collector can be joined.
     collecting();
     the_feed_tells_the_switches();
     refusing();
@@ -27,10 +29,11 @@ pub fn modulators_give_early()
     giving_ends();
 }
 
-/// Of a front of a delivery the foreign datagrams alone were refused, too.
+/// Of a first part of a delivery, too, the foreign datagrams alone were refused.
 pub fn foreign_are_refused()
     ensures { ForeignRefused }
 {
+    // For their clauses alone: the same.
     collecting();
     the_feed_tells_the_switches();
     refusing();
@@ -44,7 +47,7 @@ pub fn frames_in_time_are_given()
     ensures { GivenInTime }
 {}
 
-/// A switch is told only before the first frame of a later configuration.
+/// A reconfiguration is reported only before the first frame of a later configuration.
 pub fn switches_are_reported_at_starts()
     ensures { SwitchesAtStarts }
 {}
@@ -63,6 +66,7 @@ pub fn all_frames_are_given()
 pub fn all_frames_are_given_at_once()
     ensures { AllAtOnce }
 {
+    // For their clauses alone: what a collector gives of a delivery, and that this ends.
     collecting();
     giving_ends();
 }

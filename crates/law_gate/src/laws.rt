@@ -10,6 +10,7 @@ use law_frame_lines::served_frames_are_printed;
 pub fn deliveries_are_passed_on()
     ensures { PassesDeliveries }
 {
+    // For their clauses alone: what a collector gives of a delivery, and how a datagram is read.
     collecting();
     one_reading();
 }
@@ -19,6 +20,7 @@ pub fn deliveries_are_passed_on()
 pub fn schedules_are_passed_on()
     ensures { PassesSchedules }
 {
+    // For their clauses alone: what a collector gives of a delivery, and in how many ways.
     collecting();
     giving_ends();
     one_reading();
@@ -29,6 +31,7 @@ pub fn schedules_are_passed_on()
 pub fn what_is_passed_on_comes_again()
     ensures { ComesAgain }
 {
+    // For its clause alone: the law above.
     schedules_are_passed_on();
 }
 
@@ -36,6 +39,7 @@ pub fn what_is_passed_on_comes_again()
 pub fn frames_behind_a_gateway_are_served()
     ensures { ServedBehindOne }
 {
+    // For their clauses alone: what is passed on, what a modulator gives, and its line.
     schedules_are_passed_on();
     modulators_give();
     served_frames_are_printed();
@@ -45,6 +49,7 @@ pub fn frames_behind_a_gateway_are_served()
 pub fn frames_behind_two_gateways_are_served()
     ensures { ServedBehindTwo }
 {
+    // For their clauses alone: the laws above, and the line of a frame.
     what_is_passed_on_comes_again();
     frames_behind_a_gateway_are_served();
     served_frames_are_printed();

@@ -8,6 +8,7 @@ use recv_report::laws_of_deliveries;
 pub fn paths_report_deliveries()
     ensures { ReportsDeliveries }
 {
+    // For its clauses alone: the laws of deliveries.
     laws_of_deliveries();
 }
 
@@ -15,6 +16,7 @@ pub fn paths_report_deliveries()
 pub fn paths_report_all_frames()
     ensures { ReportsAll }
 {
+    // For their clauses alone: the laws of deliveries, and the law above.
     laws_of_deliveries();
     paths_report_deliveries();
 }

@@ -1,5 +1,17 @@
-//! The laws of several paths: what the headline says of one receiver holds of their report, and what they bring together is a
-//! delivery. No code is here that runs.
+//! Laws of receiving over several paths (networks that bring the same schedule): the report of what
+//! all paths brought is that of the one delivery that they are together (`paths_report_deliveries`,
+//! `mixed_paths_are_one_delivery`), and has all frames if each is in time over whatever path
+//! (`paths_report_all_frames`). A schedule of at most 32,768 frames can be followed in any order
+//! (`short_schedules_are_followed_in_any_order`). The functions of `src/laws.rt` have empty bodies
+//! or only call other laws: the clauses are the laws, and nothing runs.
+//!
+//! The report is that of `report_journal`, deliveries are those of `law_delivery`. No crate stands
+//! on this one.
+//!
+//! What `drmpaths` does in a run is said by `cmd_paths`; its paths and their lock are in
+//! `drm_paths`.
+//!
+//! Begin with `ReportsDelivery` in `specs/Laws.antt`.
 #![tactic(auto)]
 
 mod laws;

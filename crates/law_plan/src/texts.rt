@@ -14,6 +14,7 @@ pub fn canonical_texts_are_read_again(a: &Schedule, b: &Schedule)
     ensures again { IsReadAgain a.now }
     ensures one_text { canonical a.now ≡ canonical b.now ↔ without_files a.now ≡ without_files b.now }
 {
+    // For its clause alone: each schedule is valid.
     a.always_valid();
     b.always_valid();
 }

@@ -21,6 +21,7 @@ pub fn unpacks_what_is_whole()
 pub fn unpacks_deliveries()
     ensures { UnpacksDeliveries }
 {
+    // For its clause alone: what a modulator gives of a delivery.
     modulators_give();
 }
 
@@ -28,6 +29,7 @@ pub fn unpacks_deliveries()
 pub fn texts_of_deliveries()
     ensures { TextsOfDeliveries }
 {
+    // For their clauses alone: what a modulator gives, and which messages a joiner gives.
     modulators_give();
     joins_messages();
 }

@@ -46,6 +46,7 @@ pub(crate) fn load_next<I: Source>(
     ensures base { server.new.base ≡ server.old.base }
     ensures room { length scratch.new ≡ length scratch.old }
 {
+    // For its clause alone: the schedule is valid.
     server.schedule().always_valid();
     if *ended {
         server.load(t);

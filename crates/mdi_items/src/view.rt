@@ -44,6 +44,7 @@ pub struct SdcSpan {
 }
 
 /// Reads the frame of a payload, or names its first fault.
+/// Example: `read_mdi(&[])` is `Err(MdiFault::Absent { name: *b"*ptr" })`.
 pub fn read_mdi(payload: &[u8]) -> Result<MdiView<'_>, MdiFault>
     // What is read is the frame that the payload is, with the places in it, and there is no other.
     ensures read { IfOk result (λ v. IsMdi (frame_of v) payload.now) }

@@ -7,7 +7,7 @@ use mdi_items::{MdiFault, MdiView};
 #[derive(Clone, Copy, Debug, PartialEq, Eq)]
 pub enum FeedItem<'a> {
     Frame { index: u64, view: MdiView<'a> },
-    /// Too few fragments of the packet came: so many of so many, or none of an unknown number, which is told as 0.
+    /// Too few fragments of the packet came: so many of so many, or none of an unknown number, which is given as 0.
     Missing { index: u64, had: u32, of: u32 },
     Bad { index: u64, fault: BadFault },
 }

@@ -17,7 +17,7 @@ pub fn feeding_joins()
     ensures { FeedingJoins }
 {}
 
-/// Whatever a new feed is given, what it tells before each item is what stands there in the list of all that was seen.
+/// Whatever a new feed is given, what it gives before each item is what stands there in the list of all that was seen.
 pub fn the_feed_tells_the_switches()
     ensures { FeedTellsTheSwitches }
 {}

@@ -1,5 +1,17 @@
-//! The feed of one modulator: of each packet that a collector gives, or of what it says in its place, the logical frame
-//! that it carries, or what is to be said of it, and the switch of the multiplex that stands before it.
+//! Logical frames out of packets, as one modulator gets them: of each packet that a collector
+//! gives, the frame that it carries (TS 102 820, in an AF packet of TS 102 821); of each packet
+//! that was lost or damaged, a missing or bad item in its place; and before an item the
+//! reconfiguration or the resumption that stands there.
+//!
+//! Packets come from `dcp_collect`, AF packets are read by `dcp_af`, frames by `mdi_items`; where a
+//! reconfiguration stands is decided by `drm_reconfiguration`. `recv_report`, `report_journal`,
+//! `cmd_count` and `cmd_unpack` make their frames with it; `report_text` prints them.
+//!
+//! No datagram is here and no text: see `dcp_collect` and `report_text`. Nothing is modulated.
+//!
+//! Begin with `Feed::step` in `src/feed.rt` and `FeedItem` in `src/item.rt`; `IsItemOf` in
+//! `specs/Items.antt` says which item a packet is. The functions of `src/laws.rt` have empty
+//! bodies: their clauses are laws of many steps.
 #![tactic(auto)]
 
 mod feed;

@@ -12,6 +12,7 @@ use drm_schedule::Reason;
 use std::alloc::Global;
 
 /// The number that a word spells.
+/// Example: `number("007")` is `Ok(7)`, and `number("5x")` is `Err(Reason::Number)`.
 #[tactic(auto, unfolding(text_lines::specs::Numbers::number_of))]
 pub fn number(word: &str) -> Result<u64, Reason>
     ensures { MatchResult result (λ n. (is_number word.now ≡ true) × (n ≡ value word.now)) (λ reason. (is_number word.now ≡ false) × (reason ≡ Reason.Number)) }
@@ -23,6 +24,7 @@ pub fn number(word: &str) -> Result<u64, Reason>
 }
 
 /// The number, where it is in this range.
+/// Example: `within(7, 1, 6)` is `Err(Reason::Range)`.
 pub fn within(number: u64, least: u64, greatest: u64) -> Result<u64, Reason>
     ensures { MatchResult result (λ n. (nat_le least number ≡ true) × (nat_le number greatest ≡ true) × (n ≡ number) × (n ≤ greatest)) (λ reason. ((nat_le least number && nat_le number greatest) ≡ false) × (reason ≡ Reason.Range)) }
 {
@@ -34,6 +36,7 @@ pub fn within(number: u64, least: u64, greatest: u64) -> Result<u64, Reason>
 }
 
 /// The bytes that a word spells in two hex digits each, where they are `N`.
+/// Example: `hex::<3>("0A0b0c")` is `Ok([10, 11, 12])`.
 pub fn hex<const N: usize>(word: &str) -> Result<[u8; N], Reason>
     ensures { MatchResult result (λ bytes. (is_some (hex_of N word.now) ≡ true) × (bytes ≡ hex_value N word.now)) (λ reason. (is_some (hex_of N word.now) ≡ false) × (reason ≡ Reason.Number)) }
 {

@@ -23,6 +23,7 @@ impl Spot {
 
     /// Packs one entity more, of this size, into super frames with so many free bytes each: where it stands then, or
     /// `None` where it can't be packed.
+    /// Example: `Spot::front().place(&[3, 9], 4)` is `Some(Spot { frame: 1, taken: 4 })`.
     pub fn place(self, free: &[u16], size: u16) -> Option<Spot>
         ensures { result ≡ placed free.now self size }
     {
@@ -43,6 +44,7 @@ impl Spot {
 }
 
 /// Whether entities of these sizes can be packed, in this order, into super frames with so many free bytes each.
+/// Example: `can_be_packed(&[8, 8], &[5, 4, 4])` is `true`, with `&[7, 7]` it is `false`.
 pub fn can_be_packed(free: &[u16], sizes: &[u16]) -> bool
     ensures { result ≡ packing.can_be_packed free.now sizes.now }
 {

@@ -181,6 +181,7 @@ impl Feeds {
         requires within { in_schedule plan.now delivers ≡ true }
         ensures { KeepsPackets result n self.new (with_all plan.now (delivered plan.now delivers) self.old) }
     {
+        // For its clause alone: the schedule is valid.
         plan.always_valid();
         match delivers {
             Delivers::Take { packet, fragment } => self.put_one(plan, n, packet, fragment),

@@ -25,6 +25,7 @@ impl SchedulePacket {
         ensures number { result.number ≡ number }
         ensures in_range { result.len < 2 ^ 16 }
     {
+        // For its clause alone: the schedule is valid.
         plan.always_valid();
         let len = packet_len(plan, number);
         let cut = cut_for(plan.carry(), len);

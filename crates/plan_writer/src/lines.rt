@@ -140,6 +140,7 @@ pub fn write_stream(alloc: Global, out: &mut Vec<u8>, stream: &Stream) -> Result
 }
 
 /// Writes a line in its canonical form.
+/// Example: of `Line::Length(9)` it writes `length 9` and a line feed.
 pub fn write_line(alloc: Global, out: &mut Vec<u8>, line: &Line) -> Result<(), AllocError>
     ensures { OnOk result (out.new.items ≡ out.old.items ++ line_text line.now) }
 {

@@ -20,7 +20,7 @@ use std::alloc::Global;
 pub struct Options {
     /// The number in the first line of its report.
     pub feed: u8,
-    /// How many frames it gives, where that is told; at most 3,000,000.
+    /// The number of frames, where it is given; at most 3,000,000.
     pub frames: Option<u64>,
     /// How many idle answers of its link in a row end its report.
     pub idle: u32,
@@ -57,8 +57,8 @@ pub fn receive_one<L: Link, O: Sink>(
     // What was read of the link, and what was written of it.
     ensures ended { ReceiverEndsAs (rules_of collector.old options.now) options.now.feed
         (L.known link.old) (L.known link.new) (O.known out.old) (O.known out.new) result }
-    // Whatever delivery of whatever valid schedule came, with whatever foreign datagrams, its report was written; and where each frame
-    // was in time, all frames were given.
+    // Whatever delivery of whatever valid schedule came, with whatever foreign datagrams, its report was written; and where
+    // each frame was in time, all frames were given.
     ensures headline { IfDone (Headline (rules_of collector.old options.now) options.now.feed
         (L.known link.old) (L.known link.new) (O.known out.old) (O.known out.new)) result }
     ensures complete { IfDone (CompleteHeadline (rules_of collector.old options.now) options.now.feed
@@ -68,6 +68,7 @@ pub fn receive_one<L: Link, O: Sink>(
     ensures link { HasCause (L.known link.old) (L.known link.new) (result ≡ Ended.LinkFailed) }
     ensures write { HasCause (O.known out.old) (O.known out.new) (result ≡ Ended.WriteFailed) }
 {
+    // For its clauses alone: the report is that of the delivery which was read.
     reports_follow();
     let bounds = Bounds {
         frames: options.frames,

@@ -168,7 +168,7 @@ fn has_failed<L: Link>(receiver: &Receiver<L>) -> bool
     matches!(receiver.ended, Some(Ended::LinkFailed))
 }
 
-/// Whether each receiver's report is whole, and its text told.
+/// Whether each receiver's report is whole, and its text complete.
 pub(crate) fn all_done<L: Link>(receivers: &[Receiver<L>]) -> bool
     ensures { IsTrue result ↔ All IsReceiverDone receivers.now }
 {

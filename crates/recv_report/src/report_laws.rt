@@ -16,6 +16,7 @@ pub fn reports_follow()
     ensures headlines { HeadlinesFollow }
     ensures completes { CompletesFollow }
 {
+    // For its clauses alone: the laws of deliveries.
     laws_of_deliveries();
 }
 
@@ -23,6 +24,7 @@ pub fn reports_follow()
 pub fn in_time_is_unbroken()
     ensures { NoneBreaksOff }
 {
+    // For its clause alone: all frames are given with the last datagram.
     all_frames_are_given_at_once();
 }
 
@@ -37,6 +39,7 @@ pub fn laws_of_deliveries()
     ensures all_frames { AllFrames }
     ensures lines { ServedLines }
 {
+    // For their clauses alone, which are these.
     modulators_give();
     modulators_give_early();
     foreign_are_refused();

@@ -13,7 +13,7 @@ use mod_feed::Feed;
 use report_text::{ReportBuffer, ReportCounts, write_step};
 use std::alloc::Global;
 
-/// Whether the told number of items was given.
+/// Whether as many items were given as are asked for.
 pub(crate) fn is_full(counts: &ReportCounts, frame_limit: Option<u64>) -> bool
     requires { IfSome frame_limit (λ _. items_in counts.now.sums < 2 ^ 63) }
     ensures { result ≡ is_full frame_limit (items_in counts.now.sums) }
@@ -45,7 +45,7 @@ fn print_next<O: Sink>(
     write_step(out, &step)
 }
 
-// Prints the items that are ready, up to the told number.
+// Prints the items that are ready, up to the number that is asked for.
 fn print_ready<O: Sink>(
     collector: &mut Collector,
     feed: &mut Feed,
@@ -75,7 +75,7 @@ fn skip_ready(collector: &mut Collector)
     'past: while let Some(_given) = collector.next() {}
 }
 
-// Gives all that is ready, and prints the items up to the told number.
+// Gives all that is ready, and prints the items up to the number that is asked for.
 fn give_ready<O: Sink>(
     collector: &mut Collector,
     feed: &mut Feed,
@@ -93,8 +93,8 @@ fn give_ready<O: Sink>(
     Ok(())
 }
 
-/// Gives all that is ready, and puts the lines of the items up to the told number behind the text. Where they find no room
-/// there, the text stays as it was.
+/// Gives all that is ready, and puts the lines of the items, up to the number that is asked for, behind the text. Where they
+/// find no room there, the text stays as it was.
 pub(crate) fn write_ready(
     alloc: Global,
     collector: &mut Collector,

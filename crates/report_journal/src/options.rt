@@ -7,8 +7,8 @@ pub struct JournalOptions {
     pub window: u8,
     /// How far one may be ahead of the newest packet, from 1 to 32,767.
     pub reach: u16,
-    /// The first sequence number, where it is told.
+    /// The first sequence number, where it is given.
     pub first: Option<u16>,
-    /// The number of frames, where it is told, from 1 to 3,000,000.
+    /// The number of frames, where it is given, from 1 to 3,000,000.
     pub frames: Option<u64>,
 }

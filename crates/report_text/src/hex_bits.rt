@@ -38,6 +38,7 @@ pub fn write_digits<O: Sink>(
 const DIGITS: [u8; 16] = *b"0123456789abcdef";
 
 /// The digit of a number below 16.
+/// Example: `digit(11)` is `b'b'`.
 pub fn digit(n: u64) -> u8
     requires { n < 16 }
     ensures { result ≡ slice_index lower_digits n }

@@ -1,5 +1,18 @@
-//! The texts that are printed of what was received: each line is one definition, and one function that writes it to a
-//! sink in pieces, without memory.
+//! The text of a report of what was received: a line for each frame with its mode, FAC, SDC block,
+//! multiplex description and bytes (ES 201 980), lines for missing and bad ones, for
+//! reconfigurations and for refused datagrams, and the last line with the counts. Each line is one
+//! definition, and one function that writes it to a sink in pieces. The counts and the room that a
+//! report grows in are here too, as is the line that `fac` prints.
+//!
+//! Items come from `mod_feed`; pieces of text are written by `text_output`. `recv_report` and
+//! `report_journal` write reports with it, `cmd_convert` the lines of missing and bad frames,
+//! `report_dump` uses its words for faults.
+//!
+//! What `show` prints of a packet is in `report_dump`. When a report ends is decided in
+//! `recv_reading`.
+//!
+//! Begin with `write_step` in `src/step.rt`; `item_line` in `specs/Report.antt` says the line of an
+//! item, `report` in `specs/Reports.antt` the whole text.
 #![tactic(auto)]
 
 mod block;

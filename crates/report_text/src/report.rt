@@ -21,6 +21,7 @@ pub struct Sums {
 }
 
 /// Writes the first line of the report of feed `k`.
+/// Example: for feed 1 it writes `feed 1` and a line feed.
 pub fn write_feed<O: Sink>(out: &mut O, k: u8) -> Result<(), WriteFault>
     ensures { WritesWhole result (O.known out.old) (O.known out.new) (feed_line k) }
 {

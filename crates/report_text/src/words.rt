@@ -34,7 +34,7 @@ pub(crate) fn taken_words(taken: &Taken) -> &'static str
     match taken {
         Taken::Refused(cause) => field_words(*cause),
         Taken::Inconsistent { .. } => "pft inconsistent",
-        // Nothing is told of these.
+        // Nothing is printed of these.
         Taken::Kept | Taken::Repeated | Taken::Late => "",
     }
 }
@@ -64,6 +64,7 @@ fn named(words: &'static str, name: [u8; 4]) -> FaultWords
 }
 
 /// The words for what is wrong with an AF packet.
+/// Example: `af_words(AfFault::Sync)` is `"af sync"`.
 pub fn af_words(fault: AfFault) -> &'static str
     ensures { result.now ≡ af_words fault }
 {
@@ -78,11 +79,12 @@ pub fn af_words(fault: AfFault) -> &'static str
 }
 
 /// The words for what is wrong with a fragment.
+/// Example: `pft_words(PftFault::HeadCrc)` is `"pft head-crc"`.
 pub fn pft_words(fault: PftFault) -> &'static str
     ensures { result.now ≡ pft_words fault }
 {
     match fault {
-        // Such a datagram is told as one of neither kind.
+        // Such a datagram is reported as one of neither kind.
         PftFault::Sync => "",
         PftFault::HeadCut => "pft head-cut",
         PftFault::HeadCrc => "pft head-crc",

@@ -1,5 +1,17 @@
-//! The Reed-Solomon code of DCP (TS 102 821): code words of 255 bytes, of which the last 48 are parity, and the bytes of a
-//! code word from those that are not erased.
+//! The Reed-Solomon code of DCP (TS 102 821): code words of 255 bytes, of which the last 48 are
+//! parity. `encode` makes the parity of a chunk of at most 207 bytes; `solve` fills up to 48 erased
+//! places of a word, if a code word agrees with it at all others. Patterns (`Pattern`,
+//! `SpacedPattern`) are erased places that are prepared for many words.
+//!
+//! It stands on `gf_field`, for the field. `dcp_pft` takes the parity of a packet's chunks from it,
+//! `rs_patterns` fills their erased bytes with it.
+//!
+//! Only erasures are filled: no wrong byte at an unknown place is corrected. Packets, chunks and
+//! fragments aren't here but in `dcp_pft` and `rs_patterns`.
+//!
+//! Begin with `encode` in `src/parity.rt` and `solve` in `src/places.rt`; `IsCodeWord` in
+//! `specs/Code.antt` is the definition. The functions of `src/laws.rt` have empty bodies: their
+//! clauses are laws of the code, and nothing runs.
 #![tactic(auto)]
 
 mod equations;

@@ -13,6 +13,7 @@ use crate::row::{Row, lanes_from};
 use std::simd::prelude::*;
 
 /// Writes the 48 bytes that make the chunk, zeros behind it up to 207 bytes, and these 48 a code word.
+/// Example: of a chunk of 207 bytes `0xff` it writes 48 bytes `0xff`.
 pub fn encode(chunk: &[u8], parity: &mut [u8; 48])
     requires { length chunk.now ≤ 207 }
     ensures code_word { IsCodeWord (word_of chunk.now parity.new) }

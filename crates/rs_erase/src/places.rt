@@ -15,6 +15,7 @@ const PARITY: usize = 48;
 
 /// Fills the erased places, so that the word is the one code word that agrees with it at all others. What stood at the
 /// erased places does not matter. After an error the word is as it was.
+/// Example: in 255 bytes `0xff` with a 0 at place 7, `solve(&mut word, &[7])` makes that `0xff`.
 pub fn solve(word: &mut [u8; 255], erased: &[u8]) -> Result<(), SolveFault>
     requires { ArePlaces erased.now }
 

@@ -109,6 +109,7 @@ pub fn product_with_others(locator: Gf, locators: &[Gf]) -> Gf
     requires enough { length locators.now ≤ 48 }
     ensures { result ≡ others_product locator locators.now }
 {
+    // For their clauses alone: what the tables of logarithms and powers hold.
     logarithm_table();
     power_table();
     let mut sum = 0;

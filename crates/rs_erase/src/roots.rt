@@ -14,6 +14,7 @@ use crate::row::Row;
 use gf_field::Gf;
 
 /// The values of the word at the roots 2, 2 to the 2 and on to 2 to the 48 of the generator, in this order.
+/// Example: `syndromes(&[0xff; 255])` is `[Gf(0); 48]`.
 pub fn syndromes(word: &[u8; 255]) -> [Gf; 48]
     ensures values { AreSyndromes word.now result }
     ensures elements { AreElements result }

@@ -43,7 +43,7 @@ const FEEDS: [&[u8]; 16] = [
     b"feed 16\n",
 ];
 
-/// What so many receivers print, up to sixteen, if each gets all packets and was told three frames.
+/// What so many receivers print, up to sixteen, if each gets all packets and was asked for three frames.
 pub fn reports(alloc: Global, receivers: usize) -> Result<Vec<u8>, AllocError> {
     let mut all = Vec::new(alloc);
     for (k, feed) in FEEDS.iter().enumerate() {

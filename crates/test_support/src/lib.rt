@@ -1,4 +1,13 @@
-//! Schedules for tests, read from texts.
+//! Schedules for tests, read from texts: `SMALL` has one super frame, `SWITCHING` nine with a
+//! reconfiguration at the sixth. `schedule` reads such a text with some of its lines changed, so a
+//! test states only the lines that it is about.
+//!
+//! Texts are read by `drm_plan`. `test_schedule` and `test_top` use it.
+//!
+//! It has no tests of its own, and files of streams have no bytes here. Schedules of cases stand in
+//! `crates/test_cases/data`, those to look at in `examples`.
+//!
+//! Begin with `SMALL` and `schedule`, both in this file.
 #![tactic(auto)]
 
 use drm_plan::{PlanFault, Schedule, read_plan};

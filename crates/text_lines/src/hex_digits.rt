@@ -8,6 +8,7 @@ use hex::{FromHex, FromHexError};
 use std::alloc::Global;
 
 /// The bytes that a word spells in two digits each, where they are `N`.
+/// Example: `hex::<3>("0A0b0c")` is `Some([10, 11, 12])`.
 pub fn hex<const N: usize>(word: &str) -> Option<[u8; N]>
     ensures { result ≡ hex_of N word.now }
 {

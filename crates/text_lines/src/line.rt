@@ -16,6 +16,7 @@ fn collected(alloc: Global, line: &str) -> Result<Vec<&str>, AllocError>
 }
 
 /// The words of a line, at runs of spaces.
+/// Example: the words of `"  a   b "` are `"a"` and `"b"`.
 pub fn words(alloc: Global, line: &str) -> Result<Vec<&str>, NoMemory>
     ensures { IfOk result (λ words. map (λ word. word.now) words.items ≡ words_of line.now) }
 {

@@ -18,6 +18,7 @@ fn has_number(word: &str) -> bool
 }
 
 /// The number that a word spells in 1 to 10 decimal digits.
+/// Example: `number("007")` is `Some(7)`, and `number("+5")` is `None`.
 pub fn number(word: &str) -> Option<u64>
     ensures value { result ≡ number_of word.now }
     ensures in_range { IfSome result (λ n. n < 10 ^ 10) }

@@ -23,6 +23,7 @@ fn skip_word(line: &str) -> &str
 }
 
 /// What stands behind the first two words of a line and the one space after them, all spaces kept.
+/// Example: `behind_two_words("label 0  a  b ")` is `" a  b "`.
 pub fn behind_two_words(line: &str) -> &str
     ensures { result.now ≡ behind_two line.now }
 {

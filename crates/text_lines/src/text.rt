@@ -37,6 +37,7 @@ pub fn readable(bytes: &[u8]) -> Result<&str, NoText>
 }
 
 /// The bytes as text, or the line of the first byte that is no UTF-8, from 1.
+/// Example: `bad_line(b"a\n\xc3")` is `Err(2)`.
 pub fn bad_line(text: &[u8]) -> Result<&str, u32>
     requires { length text.now < 2 ^ 32 - 1 }
     ensures text { IsOk result ↔ IsUtf8 text.now }
@@ -61,6 +62,7 @@ fn parts(alloc: Global, text: &str) -> Result<Vec<&str>, AllocError>
 }
 
 /// The lines of a text. Each ends with a line feed, which the last may lack.
+/// Example: the lines of `"a\n\n"` are `"a"` and `""`.
 pub fn lines(alloc: Global, text: &str) -> Result<Vec<&str>, NoMemory>
     ensures { IfOk result (λ lines. map (λ line. line.now) lines.items ≡ lines_of text.now) }
 {

@@ -14,6 +14,7 @@ use itoa::Buffer;
 const AT_ONCE: usize = 64;
 
 /// Writes the texts of the pieces, one after another.
+/// Example: of `[Piece::Words("feed "), Piece::Number(1)]` it writes `feed 1`.
 pub fn write_pieces<O: Sink>(out: &mut O, pieces: &[Piece<'_>]) -> Result<(), WriteFault>
     ensures { WritesWhole result (O.known out.old) (O.known out.new) (text_of pieces.now) }
 {
@@ -36,6 +37,7 @@ pub fn write_piece<O: Sink>(out: &mut O, piece: Piece<'_>) -> Result<(), WriteFa
 }
 
 /// Writes bytes in hex, two digits each.
+/// Example: of the bytes 0 and 42 it writes `002a`.
 pub fn write_hex<O: Sink>(out: &mut O, bytes: &[u8]) -> Result<(), WriteFault>
     ensures { WritesWhole result (O.known out.old) (O.known out.new) (encode_lower bytes.now) }
 {
