@@ -15,7 +15,7 @@ use mdi_items::{MdiFault, MdiView, SdcSpan};
 use mod_feed::{BadFault, Feed, FeedItem, Step};
 
 // The last frame of a super frame, with the reconfiguration index 1: it names the next frame.
-const NAMING: [u8; 90] = [
+const NAMING: &[u8] = &[
     0x41, 0x46, 0, 0, 0, 0x4e, 0, 1, 0x90, 0x54, 0x2a, 0x70, 0x74, 0x72, 0, 0, 0, 0x40, 0x44, 0x4d,
     0x44, 0x49, 0, 0, 0, 0, 0x64, 0x6c, 0x66, 0x63, 0, 0, 0, 0x20, 0, 0, 0, 1, 0x66, 0x61, 0x63,
     0x5f, 0, 0, 0, 0x48, 0x46, 8, 0x41, 0x23, 0x45, 0x60, 0xa1, 0x80, 0x12, 0x73, 0x64, 0x63, 0x69,
@@ -32,6 +32,8 @@ const SECOND: [u8; 90] = [
     0x20, 0x55, 0x55, 0x55, 0x55, 0x87, 0x85,
 ];
 
+const SECOND_BYTES: &[u8] = &SECOND;
+
 // The first frame, with a block of 92 bits.
 const FIRST: [u8; 110] = [
     0x41, 0x46, 0, 0, 0, 0x62, 0, 0, 0x90, 0x54, 0x2a, 0x70, 0x74, 0x72, 0, 0, 0, 0x40, 0x44, 0x4d,
@@ -41,6 +43,8 @@ const FIRST: [u8; 110] = [
     0x5c, 0, 0x60, 0x10, 0, 0, 0x40, 0x49, 2, 0x30, 6, 0xbe, 0x60, 0x73, 0x74, 0x72, 0x30, 0, 0, 0,
     0x20, 0x55, 0x55, 0x55, 0x55, 0xf9, 0x59,
 ];
+
+const FIRST_BYTES: &[u8] = &FIRST;
 
 // Of a frame with one stream of four bytes.
 #[derive(Clone, Copy)]
@@ -55,7 +59,7 @@ struct Shown {
     at: usize,
 }
 
-const SHOWN_NAMING: Shown = Shown {
+const SHOWN_NAMING: &Shown = &Shown {
     dlfc: 1,
     fac_bytes: [0x46, 8, 0x41, 0x23, 0x45, 0x60, 0xa1, 0x80, 0x12],
     identity: 2,
@@ -65,7 +69,7 @@ const SHOWN_NAMING: Shown = Shown {
     at: 74,
 };
 
-const SHOWN_SECOND: Shown = Shown {
+const SHOWN_SECOND: &Shown = &Shown {
     dlfc: 1,
     fac_bytes: [0x26, 8, 1, 0x23, 0x45, 0x60, 0xa1, 0x80, 0x33],
     identity: 1,
@@ -75,7 +79,7 @@ const SHOWN_SECOND: Shown = Shown {
     at: 74,
 };
 
-const SHOWN_FIRST: Shown = Shown {
+const SHOWN_FIRST: &Shown = &Shown {
     dlfc: 0,
     fac_bytes: [0x66, 8, 1, 0x23, 0x45, 0x60, 0xa1, 0x80, 0x6d],
     identity: 3,
@@ -180,11 +184,11 @@ fn switches(out: Out<'_>, item: FeedItem<'_>) -> bool
     let mut feed = Feed::new();
     let naming = Out::Packet {
         index: 0,
-        bytes: &NAMING,
+        bytes: NAMING,
         whole: false,
     };
     let before = Some(Before::Switch(1));
-    feed.step(naming) == frame(0, &SHOWN_NAMING, &NAMING) && feed.step(out) == Step { before, item }
+    feed.step(naming) == frame(0, SHOWN_NAMING, NAMING) && feed.step(out) == Step { before, item }
 }
 
 // The same with a packet in its place.
@@ -206,7 +210,7 @@ fn tells_the_switch_that_a_frame_names(rt: HostRuntime) {
     assert!(rt; switches(Out::Damaged { index: 1 }, bad(1, BadFault::Code).item));
     assert!(rt; switches_at(BROKEN, bad(1, BROKEN_CHECK).item));
     assert!(rt; switches_at(NO_ITEMS, bad(1, ABSENT).item));
-    assert!(rt; switches_at(&SECOND, frame(1, &SHOWN_SECOND, &SECOND).item));
+    assert!(rt; switches_at(SECOND_BYTES, frame(1, SHOWN_SECOND, SECOND_BYTES).item));
 }
 
 // A frame of mode C after one of mode B, and one that is lost. The second frame of mode C is no news.
@@ -214,7 +218,7 @@ fn resumes(changed: &[u8], shown: &Shown) -> bool {
     let mut feed = Feed::new();
     let first = Out::Packet {
         index: 0,
-        bytes: &SECOND,
+        bytes: SECOND_BYTES,
         whole: false,
     };
     let other = Out::Packet {
@@ -231,7 +235,7 @@ fn resumes(changed: &[u8], shown: &Shown) -> bool {
         before: Some(Before::Resumed(2)),
         ..frame(2, shown, changed)
     };
-    feed.step(first) == frame(0, &SHOWN_SECOND, &SECOND)
+    feed.step(first) == frame(0, SHOWN_SECOND, SECOND_BYTES)
         && feed.step(Out::Damaged { index: 1 }) == bad(1, BadFault::Code)
         && feed.step(other) == resumed
         && feed.step(again) == frame(3, shown, changed)
@@ -245,7 +249,7 @@ fn tells_a_resumption(rt: HostRuntime) {
     changed[89] = 0x20;
     let shown = Shown {
         mode: Mode::C,
-        ..SHOWN_SECOND
+        ..*SHOWN_SECOND
     };
     assert!(rt; resumes(&changed, &shown));
 }
@@ -256,10 +260,10 @@ fn gives_a_block(rt: HostRuntime) {
     let mut feed = Feed::new();
     let first = Out::Packet {
         index: 0,
-        bytes: &FIRST,
+        bytes: FIRST_BYTES,
         whole: false,
     };
-    assert!(rt; feed.step(first) == frame(0, &SHOWN_FIRST, &FIRST));
+    assert!(rt; feed.step(first) == frame(0, SHOWN_FIRST, FIRST_BYTES));
     let mut broken = FIRST;
     broken[94] = 0xbf;
     broken[108] = 0x82;

@@ -3,7 +3,6 @@
 use crate::runs::{CollectorCall, ExpectedItem, SentDatagram, run};
 use dcp_collect::Head;
 use dcp_collect::Taken::{Inconsistent, Kept, Late, Repeated};
-use drm_bits::NoMemory;
 
 // A packet with sequence number 1, in two pieces of five bytes and a last one of three.
 pub(crate) const FIRST: &[u8] = b"PF\0\x01\0\0\0\0\0\x03\0\x05\xc6\xe1Radio";
@@ -29,13 +28,13 @@ const LONGEST_LAST: &[u8] = b"PF\0\x01\0\0\x02\0\0\x03\0\x06}\xc2abcdef";
 
 const OF_FOUR: &[u8] = b"PF\0\x01\0\0\x03\0\0\x04\0\x03\xedWabc";
 
-const EQUAL: [CollectorCall<'static>; 3] = [
+const EQUAL: &[CollectorCall<'static>] = &[
     CollectorCall::Takes(SentDatagram::Bytes(EQUAL_LAST), Kept),
     CollectorCall::Takes(SentDatagram::Bytes(FIRST), Kept),
     CollectorCall::Takes(SentDatagram::Bytes(SECOND), Kept),
 ];
 
-const EQUAL_GIVEN: [ExpectedItem<'static>; 1] = [ExpectedItem::Bytes(0, b"Radio Nordabcde")];
+const EQUAL_GIVEN: &[ExpectedItem<'static>] = &[ExpectedItem::Bytes(0, b"Radio Nordabcde")];
 
 // The pieces come in this order.
 fn join<'a>(first: &'a [u8], second: &'a [u8], third: &'a [u8]) -> [CollectorCall<'a>; 9] {
@@ -53,18 +52,18 @@ fn join<'a>(first: &'a [u8], second: &'a [u8], third: &'a [u8]) -> [CollectorCal
 }
 
 #[test]
-fn joins_pieces(rt: HostRuntime) -> Result<(), NoMemory> {
+fn joins_pieces(rt: HostRuntime) {
     let steps = join(FIRST, SECOND, LAST);
-    run(&rt, rt.alloc(), (1, None), &steps, None, &[])?;
+    run(&rt, rt.alloc(), (1, None), &steps, None, &[]);
     let steps = join(LAST, SECOND, FIRST);
-    run(&rt, rt.alloc(), (1, None), &steps, None, &[])?;
+    run(&rt, rt.alloc(), (1, None), &steps, None, &[]);
     let steps = join(SECOND, LAST, FIRST);
-    run(&rt, rt.alloc(), (1, None), &steps, None, &[])
+    run(&rt, rt.alloc(), (1, None), &steps, None, &[]);
 }
 
 #[test]
-fn joins_pieces_of_one_length(rt: HostRuntime) -> Result<(), NoMemory> {
-    run(&rt, rt.alloc(), (1, None), &EQUAL, None, &EQUAL_GIVEN)
+fn joins_pieces_of_one_length(rt: HostRuntime) {
+    run(&rt, rt.alloc(), (1, None), EQUAL, None, EQUAL_GIVEN);
 }
 
 // A fragment of the packet of three, by its index and its length.
@@ -79,7 +78,7 @@ fn head(index: u32, len: u16) -> Head {
 }
 
 // A fragment that is kept, and one that came: index and length of each.
-const DISAGREEING: [(&[u8], (u32, u16), &[u8], (u32, u16)); 6] = [
+const DISAGREEING: &[(&[u8], (u32, u16), &[u8], (u32, u16))] = &[
     (FIRST, (0, 5), SHORT_FIRST, (0, 4)),
     (FIRST, (0, 5), SHORT_SECOND, (1, 4)),
     (FIRST, (0, 5), LONGEST_LAST, (2, 6)),
@@ -106,8 +105,8 @@ fn disagree<'a>(
 }
 
 #[test]
-fn names_lengths_that_disagree(rt: HostRuntime) -> Result<(), NoMemory> {
-    for row in &DISAGREEING {
+fn names_lengths_that_disagree(rt: HostRuntime) {
+    for row in DISAGREEING {
         let steps = disagree(row.0, row.1, row.2, row.3);
         run(
             &rt,
@@ -116,9 +115,8 @@ fn names_lengths_that_disagree(rt: HostRuntime) -> Result<(), NoMemory> {
             &steps,
             None,
             &[ExpectedItem::Lost(0, 1, 3)],
-        )?;
+        );
     }
-    Ok(())
 }
 
 const KEPT_FIRST: Head = Head {
@@ -146,7 +144,7 @@ const CAME_OF_FOUR: Head = Head {
 };
 
 // Of several fragments that are kept the one with the lowest index is told, and none once the packet is whole.
-const LOWEST: [CollectorCall<'static>; 8] = [
+const LOWEST: &[CollectorCall<'static>] = &[
     CollectorCall::Takes(SentDatagram::Bytes(SECOND), Kept),
     CollectorCall::Takes(SentDatagram::Bytes(FIRST), Kept),
     CollectorCall::Takes(
@@ -169,19 +167,19 @@ const LOWEST: [CollectorCall<'static>; 8] = [
     CollectorCall::Holds(13, Some(0), Some(1)),
 ];
 
-const LOWEST_REST: [ExpectedItem<'static>; 2] = [
+const LOWEST_REST: &[ExpectedItem<'static>] = &[
     ExpectedItem::Nothing(0, 1),
     ExpectedItem::Bytes(1, PACKET),
 ];
 
 #[test]
-fn names_the_first_that_disagrees(rt: HostRuntime) -> Result<(), NoMemory> {
-    run(&rt, rt.alloc(), (4, Some(0)), &LOWEST, None, &LOWEST_REST)
+fn names_the_first_that_disagrees(rt: HostRuntime) {
+    run(&rt, rt.alloc(), (4, Some(0)), LOWEST, None, LOWEST_REST);
 }
 
 const SINGLE: &[u8] = b"PF\0\x05\0\0\0\0\0\x01\0\0d\xcb";
 
-const EMPTY: [CollectorCall<'static>; 5] = [
+const EMPTY: &[CollectorCall<'static>] = &[
     CollectorCall::Takes(SentDatagram::Bytes(SINGLE), Kept),
     CollectorCall::Holds(0, Some(5), Some(0)),
     CollectorCall::Gives(ExpectedItem::Bytes(0, b"")),
@@ -190,8 +188,8 @@ const EMPTY: [CollectorCall<'static>; 5] = [
 ];
 
 #[test]
-fn gives_no_bytes(rt: HostRuntime) -> Result<(), NoMemory> {
-    run(&rt, rt.alloc(), (1, None), &EMPTY, None, &[])
+fn gives_no_bytes(rt: HostRuntime) {
+    run(&rt, rt.alloc(), (1, None), EMPTY, None, &[]);
 }
 
 // Four fragments without bytes.
@@ -203,7 +201,7 @@ const EMPTY_2: &[u8] = b"PF\0\0\0\0\x02\0\0\x04\0\0s\xb7";
 
 const EMPTY_3: &[u8] = b"PF\0\0\0\0\x03\0\0\x04\0\x006\x17";
 
-const FOUR_EMPTY: [CollectorCall<'static>; 8] = [
+const FOUR_EMPTY: &[CollectorCall<'static>] = &[
     CollectorCall::Takes(SentDatagram::Bytes(EMPTY_3), Kept),
     CollectorCall::Takes(SentDatagram::Bytes(EMPTY_1), Kept),
     CollectorCall::Takes(SentDatagram::Bytes(EMPTY_1), Repeated),
@@ -215,6 +213,6 @@ const FOUR_EMPTY: [CollectorCall<'static>; 8] = [
 ];
 
 #[test]
-fn gives_no_bytes_of_four_fragments(rt: HostRuntime) -> Result<(), NoMemory> {
-    run(&rt, rt.alloc(), (1, None), &FOUR_EMPTY, None, &[])
+fn gives_no_bytes_of_four_fragments(rt: HostRuntime) {
+    run(&rt, rt.alloc(), (1, None), FOUR_EMPTY, None, &[]);
 }

@@ -3,6 +3,7 @@
 ghost use Rattle.std.specs.Prelude.{◌≡◌, ◌≤◌, length};
 
 use crate::packets::{FIVE, HI, ONE_TO_FOUR};
+use crate::wrong::has_none;
 use drm_bits::{NoMemory, zeros};
 use drm_data::{DataFault, Joined, Joiner, Packer};
 use std::alloc::Global;
@@ -36,7 +37,7 @@ const WRONG_IS: DataFault = DataFault::Crc {
     computed: 0x3f04,
 };
 
-const WHOLE: [JoinerCall<'static>; 5] = [
+const WHOLE: &[JoinerCall<'static>] = &[
     JoinerCall::Packet(HI, Joined::Unit(b"Hi")),
     JoinerCall::Packet(ONE_TO_FOUR, Joined::Nothing),
     JoinerCall::Packet(FIVE, Joined::Unit(UNIT)),
@@ -44,20 +45,20 @@ const WHOLE: [JoinerCall<'static>; 5] = [
     JoinerCall::End(false),
 ];
 
-const WITHOUT_THE_SECOND: [JoinerCall<'static>; 3] = [
+const WITHOUT_THE_SECOND: &[JoinerCall<'static>] = &[
     JoinerCall::Packet(HI, Joined::Unit(b"Hi")),
     JoinerCall::Gap(false),
     JoinerCall::Packet(FIVE, Joined::Nothing),
 ];
 
-const ENDED: [JoinerCall<'static>; 4] = [
+const ENDED: &[JoinerCall<'static>] = &[
     JoinerCall::Packet(HI, Joined::Unit(b"Hi")),
     JoinerCall::Packet(ONE_TO_FOUR, Joined::Nothing),
     JoinerCall::End(true),
     JoinerCall::End(false),
 ];
 
-const CUT: [JoinerCall<'static>; 12] = [
+const CUT: &[JoinerCall<'static>] = &[
     JoinerCall::Packet(ONE_TO_FOUR, Joined::Nothing),
     JoinerCall::Gap(true),
     JoinerCall::Packet(FIVE, Joined::Nothing),
@@ -84,7 +85,7 @@ const CUT: [JoinerCall<'static>; 12] = [
     JoinerCall::Gap(false),
 ];
 
-const PASSED_OVER: [JoinerCall<'static>; 6] = [
+const PASSED_OVER: &[JoinerCall<'static>] = &[
     JoinerCall::Packet(ONE_TO_FOUR, Joined::Nothing),
     JoinerCall::Packet(OTHER, Joined::Nothing),
     JoinerCall::Packet(FILLER, Joined::Nothing),
@@ -103,29 +104,29 @@ fn answers(joiner: &mut Joiner, step: &JoinerCall<'_>) -> bool {
 }
 
 // The first call that answers otherwise, if one does.
-fn wrong_step(alloc: Global, steps: &[JoinerCall<'_>]) -> Result<Option<usize>, NoMemory> {
-    let mut joiner = Joiner::make(alloc, 2, 4)?;
+fn wrong_step(alloc: Global, steps: &[JoinerCall<'_>]) -> Option<usize> {
+    let Ok(mut joiner) = Joiner::make(alloc, 2, 4) else {
+        return Some(0);
+    };
     for (k, step) in steps.iter().enumerate() {
         if !answers(&mut joiner, step) {
-            return Ok(Some(k));
+            return Some(k);
         }
     }
-    Ok(None)
+    None
 }
 
 #[test]
-fn joins_packets(rt: HostRuntime) -> Result<(), NoMemory> {
-    assert_eq!(rt; wrong_step(rt.alloc(), &WHOLE)?, None);
-    assert_eq!(rt; wrong_step(rt.alloc(), &PASSED_OVER)?, None);
-    Ok(())
+fn joins_packets(rt: HostRuntime) {
+    has_none(&rt, wrong_step(rt.alloc(), WHOLE));
+    has_none(&rt, wrong_step(rt.alloc(), PASSED_OVER));
 }
 
 #[test]
-fn tells_cuts(rt: HostRuntime) -> Result<(), NoMemory> {
-    assert_eq!(rt; wrong_step(rt.alloc(), &WITHOUT_THE_SECOND)?, None);
-    assert_eq!(rt; wrong_step(rt.alloc(), &ENDED)?, None);
-    assert_eq!(rt; wrong_step(rt.alloc(), &CUT)?, None);
-    Ok(())
+fn tells_cuts(rt: HostRuntime) {
+    has_none(&rt, wrong_step(rt.alloc(), WITHOUT_THE_SECOND));
+    has_none(&rt, wrong_step(rt.alloc(), ENDED));
+    has_none(&rt, wrong_step(rt.alloc(), CUT));
 }
 
 // Whether the longest unit comes back of its packets, the last of which alone ends it.

@@ -8,3 +8,5 @@ mod joining;
 mod packets;
 #[cfg(test)]
 mod texts;
+#[cfg(test)]
+mod wrong;

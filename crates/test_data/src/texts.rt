@@ -2,13 +2,14 @@
 
 ghost use Rattle.std.specs.Prelude.{◌≤◌, length};
 
+use crate::wrong::has_none;
 use drm_text::{TextJoiner, text_piece};
 
 // The pieces of a message.
-const HI: [[u8; 4]; 3] = [[0xff; 4], *b"a\0Hi", *b"-\xb3\0\0"];
+const HI: &[[u8; 4]] = &[[0xff; 4], *b"a\0Hi", *b"-\xb3\0\0"];
 
 // With the other toggle, in two segments.
-const LONGER: [[u8; 4]; 9] = [
+const LONGER: &[[u8; 4]] = &[
     [0xff; 4],
     *b"\xcf\0Ra",
     *b"dio ",
@@ -55,7 +56,7 @@ const HEAD: [u8; 4] = *b"a\0Hi";
 
 const END: [u8; 4] = *b"-\xb3\0\0";
 
-const WHOLE: [JoinerCall<'static>; 12] = [
+const WHOLE: &[JoinerCall<'static>] = &[
     JoinerCall::Nothing(START),
     JoinerCall::Nothing(HEAD),
     JoinerCall::Gives(END, "Hi"),
@@ -71,7 +72,7 @@ const WHOLE: [JoinerCall<'static>; 12] = [
 ];
 
 // A gap, another start and a piece of none break off what was begun.
-const BROKEN: [JoinerCall<'static>; 12] = [
+const BROKEN: &[JoinerCall<'static>] = &[
     JoinerCall::Nothing(START),
     JoinerCall::Nothing(HEAD),
     JoinerCall::Gap,
@@ -111,6 +112,6 @@ fn wrong_step(steps: &[JoinerCall<'_>]) -> Option<usize> {
 
 #[test]
 fn joins_pieces(rt: HostRuntime) {
-    assert_eq!(rt; wrong_step(&WHOLE), None);
-    assert_eq!(rt; wrong_step(&BROKEN), None);
+    has_none(&rt, wrong_step(WHOLE));
+    has_none(&rt, wrong_step(BROKEN));
 }

@@ -55,7 +55,7 @@ fn tells_of_a_block_without_entities(rt: HostRuntime) {
     assert!(rt; info == Ok(BlockInfo { afs: 0, room: 0 }));
 }
 
-const NO_BLOCKS: [(&[u8], u32, SdcFault); 5] = [
+const NO_BLOCKS: &[(&[u8], u32, SdcFault)] = &[
     (&[0x00, 0x1e], 16, SdcFault::BlockLength { bits: 16 }),
     (&[0x00, 0x1e, 0x0f], 23, SdcFault::BlockLength { bits: 23 }),
     (&[0x10, 0x1e, 0x0f], 24, SdcFault::Front { bits: 1 }),

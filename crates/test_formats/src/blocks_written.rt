@@ -32,7 +32,7 @@ pub(crate) fn written(
 }
 
 // A field, the index, the room, and the block.
-const BLOCKS: [(&[u8], u8, usize, &[u8]); 14] = [
+const BLOCKS: &[(&[u8], u8, usize, &[u8])] = &[
     // A description, a label and two lists of frequencies.
     (
         &[0x0c, 0x06, 0x12, 0x34, 0x56, 0x00, 0x0f, 0xff],

@@ -6,7 +6,7 @@ const FAC: [u8; 8] = [0x66, 0x08, 0x01, 0x23, 0x45, 0x60, 0xa1, 0x80];
 
 // The second row is the first eight bytes of a FAC, and the third the head of an AF packet without payload, which ends
 // with the bytes 04 52.
-const VALUES: [(&[u8], u8, u16); 5] = [
+const VALUES: &[(&[u8], u8, u16)] = &[
     (b"123456789", 0x4b, 0xd64e),
     (&FAC, 0x6d, 0x05ac),
     (b"AF\0\0\0\0\0\0\x90T", 0x5e, 0x0452),

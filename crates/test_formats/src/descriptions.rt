@@ -104,7 +104,7 @@ fn writes_descriptions(rt: HostRuntime) {
     }
 }
 
-const NO_DESCRIPTIONS: [(&[u8], u32, MuxFault); 5] = [
+const NO_DESCRIPTIONS: &[(&[u8], u32, MuxFault)] = &[
     (&[0, 0], 16, MuxFault::SdciLength { bits: 16 }),
     (&[], 0, MuxFault::SdciLength { bits: 0 }),
     (&[0; 4], 31, MuxFault::SdciLength { bits: 31 }),
@@ -186,7 +186,7 @@ fn locates_each_byte(rt: HostRuntime) {
 }
 
 // Lengths of the two streams, which are described as 3 and 3; the first wrong one, and how long it is.
-const LENGTHS: [([usize; 4], Option<(u8, usize)>); 5] = [
+const LENGTHS: &[([usize; 4], Option<(u8, usize)>)] = &[
     ([3, 3, 0, 0], None),
     ([3, 3, 9, 9], None),
     ([2, 4, 0, 0], Some((0, 2))),

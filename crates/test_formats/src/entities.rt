@@ -7,7 +7,7 @@ use std::alloc::Global;
 
 const RADIO: [u8; 7] = [0x0a, 0x10, 0x52, 0x61, 0x64, 0x69, 0x6f];
 
-const FAULTS: [(&[u8], SdcFault); 7] = [
+const FAULTS: &[(&[u8], SdcFault)] = &[
     (
         &[0x0a, 0x10, 0x52, 0x61, 0x64, 0x69, 0xff],
         SdcFault::LabelText { at: 0 },
@@ -81,7 +81,7 @@ pub(crate) fn is_field(alloc: Global, field: &[u8], count: usize, rest: &[u8]) -
 }
 
 // A tail begins with two zero bytes, or has fewer than two. One zero byte begins none.
-const TAILS: [(&[u8], usize, &[u8]); 5] = [
+const TAILS: &[(&[u8], usize, &[u8])] = &[
     (&[], 0, &[]),
     (&[0, 0, 5], 0, &[0, 0, 5]),
     (&[7], 0, &[7]),
@@ -120,14 +120,14 @@ fn has(alloc: Global, field: &[u8], all_said: &[EntityNumbers]) -> bool {
     }
 }
 
-const LABEL: [EntityNumbers; 1] = [(false, &[1, 0, 0], b"Radio")];
+const LABEL: &[EntityNumbers] = &[(false, &[1, 0, 0], b"Radio")];
 
 // A schedule, the parameters of the next channel, and a time.
 const SEVERAL: [u8; 16] = [
     0x08, 0x49, 0xab, 0x68, 0xeb, 0xcd, 0x05, 0xad, 0x2e, 0xd3, 0x08, 0x87, 0x53, 0x05, 0xfb, 0x81,
 ];
 
-const SEVERAL_SAID: [EntityNumbers; 3] = [
+const SEVERAL_SAID: &[EntityNumbers] = &[
     (false, &[4, 9, 0x55, 0x5a3, 0x2bcd], b""),
     (true, &[10, 1, 2, 9, 0, 3, 1, 6, 0x13], b""),
     (false, &[8, 60000, 23, 59, 0x81], b""),
@@ -139,7 +139,7 @@ const LISTS: [u8; 21] = [
     0x34, 0x56, 0x00, 0x0f, 0xff,
 ];
 
-const LISTS_SAID: [EntityNumbers; 3] = [
+const LISTS_SAID: &[EntityNumbers] = &[
     (false, &[3, 1, 0, 256, 0x5a, 0x9234, 0x7fff, 0x10000], b""),
     (true, &[5, 2, 1, 0x0100_0377, 1, 5], b"\xab\xcd"),
     (true, &[0, 1, 2, 2, 0x123, 0x456, 0, 0xfff], b""),
@@ -151,7 +151,7 @@ const SERVICES: [u8; 17] = [
     0x99,
 ];
 
-const SERVICES_SAID: [EntityNumbers; 3] = [
+const SERVICES_SAID: &[EntityNumbers] = &[
     (true, &[9, 3, 1, 2, 1, 1, 5, 0, 1, 0x15, 1], b"\xde\xad"),
     (false, &[12, 2, 1, 0x123456, 0xbeef], b""),
     (false, &[5, 1, 3, 5, 1, 2], b"\x99"),
@@ -159,22 +159,22 @@ const SERVICES_SAID: [EntityNumbers; 3] = [
 
 #[test]
 fn reads_a_label(rt: HostRuntime) {
-    assert!(rt; has(rt.alloc(), &RADIO, &LABEL));
+    assert!(rt; has(rt.alloc(), &RADIO, LABEL));
 }
 
 #[test]
 fn reads_numbers_of_several_bodies(rt: HostRuntime) {
-    assert!(rt; has(rt.alloc(), &SEVERAL, &SEVERAL_SAID));
+    assert!(rt; has(rt.alloc(), &SEVERAL, SEVERAL_SAID));
 }
 
 #[test]
 fn reads_lists_and_octets(rt: HostRuntime) {
-    assert!(rt; has(rt.alloc(), &LISTS, &LISTS_SAID));
+    assert!(rt; has(rt.alloc(), &LISTS, LISTS_SAID));
 }
 
 #[test]
 fn reads_services(rt: HostRuntime) {
-    assert!(rt; has(rt.alloc(), &SERVICES, &SERVICES_SAID));
+    assert!(rt; has(rt.alloc(), &SERVICES, SERVICES_SAID));
 }
 
 #[test]

@@ -15,7 +15,7 @@ const NO_SERVICE: OfService = (0, 0, false, 0, false, 0, false, 0);
 
 // The bytes were packed, and their check values divided out bit by bit, by a program in Python. All fields 0, all
 // with each bit set, and three of ordinary values.
-const FACS: [([u8; 9], OfChannel, OfService); 5] = [
+const FACS: &[([u8; 9], OfChannel, OfService)] = &[
     (
         [0x00, 0x00, 0x00, 0x00, 0x00, 0x00, 0x00, 0x00, 0xe9],
         NO_CHANNEL,
@@ -76,7 +76,7 @@ fn names_a_wrong_check_value(rt: HostRuntime) {
 }
 
 // The first number that is too great for each field that isn't one bit.
-const TOO_GREAT_CHANNELS: [OfChannel; 6] = [
+const TOO_GREAT_CHANNELS: &[OfChannel] = &[
     (false, 4, 0, false, 0, false, 0, 0, 0),
     (false, 0, 16, false, 0, false, 0, 0, 0),
     (false, 0, 0, false, 4, false, 0, 0, 0),
@@ -85,7 +85,7 @@ const TOO_GREAT_CHANNELS: [OfChannel; 6] = [
     (false, 0, 0, false, 0, false, 0, 0, 4),
 ];
 
-const TOO_GREAT_SERVICES: [OfService; 5] = [
+const TOO_GREAT_SERVICES: &[OfService] = &[
     (0x100_0000, 0, false, 0, false, 0, false, 0),
     (0, 4, false, 0, false, 0, false, 0),
     (0, 0, false, 16, false, 0, false, 0),
@@ -135,7 +135,7 @@ fn fac(channel: OfChannel, service: OfService) -> Fac {
 }
 
 // Read off the two bits of each count by hand.
-const COUNTS: [Option<(u8, u8)>; 16] = [
+const COUNTS: &[Option<(u8, u8)>] = &[
     Some((4, 0)),
     Some((0, 1)),
     Some((0, 2)),
@@ -166,7 +166,7 @@ fn counts_services(rt: HostRuntime) {
 }
 
 // How many audio and data services, and their code.
-const CODES: [((u8, u8), Option<u8>); 10] = [
+const CODES: &[((u8, u8), Option<u8>)] = &[
     ((4, 0), Some(0)),
     ((0, 4), Some(15)),
     ((2, 1), Some(9)),
@@ -201,7 +201,7 @@ const D: Slot = Slot::Data(0);
 const E: Slot = Slot::Data(1);
 
 // Each order written out by hand, and what comes after it.
-const ORDERS: [(u8, u8, &[Slot]); 8] = [
+const ORDERS: &[(u8, u8, &[Slot])] = &[
     (1, 0, &[A, A]),
     (3, 0, &[A, B, C, A, B]),
     (0, 2, &[D, E, D]),

@@ -163,7 +163,7 @@ const WRONG_CRC: FacFault = FacFault::Crc {
     computed: 0x33,
 };
 
-const WRONG_ITEMS: [FrameEdit; 14] = [
+const WRONG_ITEMS: &[FrameEdit] = &[
     (0, b'+', MdiFault::Absent { name: *b"*ptr" }),
     (
         7,
@@ -214,7 +214,7 @@ const LONGER: MuxFault = MuxFault::StreamLength {
     described: 5,
 };
 
-const WRONG_STREAMS: [FrameEdit; 3] = [
+const WRONG_STREAMS: &[FrameEdit] = &[
     (66, b'S', MdiFault::Absent { name: *b"str0" }),
     (
         73,
@@ -299,7 +299,7 @@ const WRONG_BLOCK_CRC: SdcFault = SdcFault::Crc {
     computed: 0x6be6,
 };
 
-const WRONG_BLOCKS: [FrameEdit; 3] = [
+const WRONG_BLOCKS: &[FrameEdit] = &[
     (66, b'S', MdiFault::Absent { name: *b"sdc_" }),
     (73, 0x5b, MdiFault::Sdc(SdcFault::BlockLength { bits: 91 })),
     (84, 0xbf, MdiFault::Sdc(WRONG_BLOCK_CRC)),

@@ -9,7 +9,7 @@ use drm_bits::{BitSink, Bits, Short};
 type TakenBits = (u32, u64, usize);
 
 // The bits of a5 3c ff are 1 010 01010011 110011111111, cut here by hand.
-const CUT: [TakenBits; 5] = [
+const CUT: &[TakenBits] = &[
     (1, 1, 23),
     (3, 2, 20),
     (8, 0x53, 12),
@@ -54,7 +54,7 @@ fn ends_inside_a_byte(rt: HostRuntime) {
 // How many bits, their number, and how many are written behind it.
 type Put = (u32, u64, usize);
 
-const PUT: [Put; 5] = [
+const PUT: &[Put] = &[
     (1, 1, 1),
     (3, 2, 4),
     (8, 0x53, 12),

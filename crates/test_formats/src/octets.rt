@@ -27,7 +27,7 @@ fn keeps_the_bytes(rt: HostRuntime) {
 
 // A byte that begins no character, one that continues none, a character that is cut, one that is spelled too
 // long, and half of a pair of UTF-16.
-const NO_TEXTS: [&[u8]; 5] = [
+const NO_TEXTS: &[&[u8]] = &[
     b"Radi\xff",
     b"\x80",
     b"Radio \xc3",

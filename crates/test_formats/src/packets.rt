@@ -6,7 +6,7 @@ use dcp_af::{Af, AfFault, read_af, write_af};
 const EMPTY: [u8; 12] = [0x41, 0x46, 0, 0, 0, 0, 0, 0, 0x90, 0x54, 0x04, 0x52];
 
 // Packets of a writer in Python: sequence number, whether the check value counts, minor revision, payload.
-const PACKETS: [(&[u8], u16, bool, u8, &[u8]); 7] = [
+const PACKETS: &[(&[u8], u16, bool, u8, &[u8])] = &[
     (&EMPTY, 0, true, 0, b""),
     (b"AF\0\0\0\0\0\0\x10T\0\0", 0, false, 0, b""),
     (
@@ -40,7 +40,7 @@ fn reads_packets(rt: HostRuntime) {
 }
 
 // The last ones have several faults, of which the first is answered. Check values are from Python.
-const FAULTS: [(&[u8], AfFault); 16] = [
+const FAULTS: &[(&[u8], AfFault)] = &[
     (b"", AfFault::Sync),
     (b"A", AfFault::Sync),
     (b"AG\0\0\0\0\0\0\x90T\x04R", AfFault::Sync),

@@ -79,7 +79,7 @@ fn stays_at_a_cut(rt: HostRuntime) {
 }
 
 // The first answer, as a reader written in Python gives it: the bits and the bytes of an item, None, or a cut.
-const FRONTS: [(&[u8], Option<(u32, &[u8])>); 7] = [
+const FRONTS: &[(&[u8], Option<(u32, &[u8])>)] = &[
     (b"", None),
     (b"A", None),
     (b"ABCD\0\0\0", None),
@@ -112,7 +112,7 @@ fn answers_at_the_front(rt: HostRuntime) {
     }
 }
 
-const CUT: [&[u8]; 4] = [
+const CUT: &[&[u8]] = &[
     b"ABCD\0\0\0\x09\xff",
     b"ABCD\0\0\0\x01",
     b"ABCD\xff\xff\xff\xff\0\0\0\0\0\0\0\0\0",
