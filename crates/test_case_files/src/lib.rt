@@ -2,6 +2,7 @@
 #![tactic(auto)]
 
 mod case;
+mod fault;
 mod keyword;
 mod pieces;
 mod reader;

@@ -5,7 +5,7 @@ use gf_field::{Gf, LOGS, POWERS as POWER_TABLE, mul_lanes};
 use std::simd::prelude::*;
 
 /// An element, another, and their product.
-const PRODUCTS: [(u8, u8, u8); 14] = [
+const PRODUCTS: &[(u8, u8, u8)] = &[
     (0x02, 0x80, 0x1d),
     (0x00, 0xff, 0x00),
     (0x01, 0xff, 0xff),
@@ -23,7 +23,7 @@ const PRODUCTS: [(u8, u8, u8); 14] = [
 ];
 
 /// An element and its inverse.
-const INVERSES: [(u8, u8); 10] = [
+const INVERSES: &[(u8, u8)] = &[
     (0x01, 0x01),
     (0x02, 0x8e),
     (0x03, 0xf4),
@@ -37,7 +37,7 @@ const INVERSES: [(u8, u8); 10] = [
 ];
 
 /// A number n and 2 to the n.
-const POWERS: [(u32, u8); 17] = [
+const POWERS: &[(u32, u8)] = &[
     (0, 0x01),
     (1, 0x02),
     (7, 0x80),

@@ -20,7 +20,7 @@ fn end(head: &[u8], len: usize) -> usize
 type Numbers = (u16, u32, u32);
 
 // Headers of a writer in Python, the lengths of their payloads, sequence number, index and count.
-const FRAGMENTS: [(&[u8], usize, Numbers, Option<Rs>, Option<Addr>); 10] = [
+const FRAGMENTS: &[(&[u8], usize, Numbers, Option<Rs>, Option<Addr>)] = &[
     (
         b"PF\0\0\0\0\0\0\0\x0a\x80\x10n\0\x9e\xb6",
         16,
@@ -121,7 +121,7 @@ fn reads_fragments(rt: HostRuntime) {
 }
 
 // Check values are from Python.
-const FAULTS: [(&[u8], usize, PftFault); 33] = [
+const FAULTS: &[(&[u8], usize, PftFault)] = &[
     (b"", 0, PftFault::Sync),
     (b"P", 0, PftFault::Sync),
     (
@@ -259,12 +259,12 @@ fn wrong_fault(rows: &[(&[u8], usize, PftFault)]) -> Option<usize> {
 
 #[test]
 fn names_the_fault(rt: HostRuntime) {
-    let wrong = wrong_fault(&FAULTS);
+    let wrong = wrong_fault(FAULTS);
     assert!(rt; wrong.is_none(), "{wrong:?}");
 }
 
 // Of several faults.
-const FIRST_FAULTS: [(&[u8], usize, PftFault); 10] = [
+const FIRST_FAULTS: &[(&[u8], usize, PftFault)] = &[
     (b"PF\0\0\0\0\0\0\0\0\x80\x10\0\0\xf0", 0, PftFault::HeadCut),
     (b"PF\0\0\0\0\0\0\0\0\x80\x10\0\0\xf0<", 0, PftFault::HeadCrc),
     (b"PF\0\0\0\0\0\0\0\0\x80\x10\0\0\xf0=", 0, PftFault::Count),
@@ -307,6 +307,6 @@ const FIRST_FAULTS: [(&[u8], usize, PftFault); 10] = [
 
 #[test]
 fn names_the_first_fault(rt: HostRuntime) {
-    let wrong = wrong_fault(&FIRST_FAULTS);
+    let wrong = wrong_fault(FIRST_FAULTS);
     assert!(rt; wrong.is_none(), "{wrong:?}");
 }

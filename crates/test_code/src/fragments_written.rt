@@ -95,7 +95,7 @@ fn writes_fragments(rt: HostRuntime) {
 type WriteCase = (usize, u8, u16, u32, usize, u16);
 
 // Two chunks, and without a code two pieces, of which the last has the rest.
-const DATAGRAMS: [WriteCase; 23] = [
+const DATAGRAMS: &[WriteCase] = &[
     (209, 5, 65535, 0, 32, 0xba9f),
     (209, 5, 65535, 1, 32, 0xb431),
     (209, 5, 65535, 2, 32, 0x5ebe),
@@ -175,7 +175,7 @@ const PARITY_OF_209: [u8; 96] = [
     225, 169, 234, 74, 69, 221, 2, 189, 204, 122, 104, 148,
 ];
 
-const FRAGMENTS_OF_12: [(u32, [u8; 24]); 8] = [
+const FRAGMENTS_OF_12: &[(u32, [u8; 24])] = &[
     (
         0,
         [

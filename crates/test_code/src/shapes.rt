@@ -5,7 +5,7 @@ use dcp_pft::{Carry, MOST_FRAGMENTS, Rs, Shape, chunks, most_packet, shape_for};
 /// The length of the packet, the fragments that may be lost, the longest datagram; the shape, and the number of chunks.
 type ShapeCase = (usize, u8, u16, u32, u16, Option<Rs>, u32);
 
-const CASES: [ShapeCase; 22] = [
+const CASES: &[ShapeCase] = &[
     (12, 5, 1400, 8, 8, Some(Rs { k: 12, z: 0 }), 1),
     (207, 1, 1400, 11, 24, Some(Rs { k: 207, z: 0 }), 1),
     (208, 5, 1400, 19, 16, Some(Rs { k: 104, z: 0 }), 2),
@@ -47,7 +47,7 @@ fn cuts_packets(rt: HostRuntime) {
 }
 
 // Shapes that are no packet's, as a receiver may see them, and the number of their chunks.
-const OTHERS: [(u32, u16, Option<Rs>, u32); 5] = [
+const OTHERS: &[(u32, u16, Option<Rs>, u32)] = &[
     (1, 254, Some(Rs { k: 207, z: 0 }), 0),
     (1, 255, Some(Rs { k: 207, z: 0 }), 1),
     (3, 255, Some(Rs { k: 207, z: 206 }), 3),
@@ -67,7 +67,7 @@ fn counts_chunks(rt: HostRuntime) {
 }
 
 // The most bytes of a packet.
-const LIMITS: [(Carry, usize); 5] = [
+const LIMITS: &[(Carry, usize)] = &[
     (Carry::Plain, 32768),
     (Carry::Pft { m: 5, mtu: 1500 }, 32768),
     (Carry::Pft { m: 0, mtu: 256 }, 32768),

@@ -4,6 +4,7 @@ use crate::places::are_places;
 use rs_erase::{SolveFault, encode, solve, syndromes};
 
 /// A chunk, whose bytes begin with `first` and grow by `step` modulo 256, and its parity.
+#[derive(Clone, Copy)]
 struct Coded {
     first: u8,
     step: u8,
@@ -14,17 +15,22 @@ struct Coded {
 /// The parity is that of `encode_rs_char` of libfec 1.0-26 (Debian's libfec-dev), made by
 /// `init_rs_char(8, 0x11d, 1, 1, 48, 0)` (first root 2 to the 1, 48 roots), with the zeros behind the chunk written out. A
 /// division by the generator in Python gives the same.
+const FIRST: Coded = Coded {
+    first: 1,
+    step: 1,
+    length: 207,
+    parity: [
+        134, 241, 157, 99, 234, 69, 126, 243, 32, 220, 255, 33, 223, 236, 102, 16, 80, 191, 160,
+        126, 157, 87, 65, 32, 21, 9, 93, 227, 169, 141, 156, 254, 179, 176, 78, 176, 196, 159, 24,
+        76, 55, 5, 88, 164, 97, 254, 82, 32,
+    ],
+};
+
+const FIRST_WORD: &Coded = &FIRST;
+
+/// The others are made in the same way.
 const CODED: [Coded; 12] = [
-    Coded {
-        first: 1,
-        step: 1,
-        length: 207,
-        parity: [
-            134, 241, 157, 99, 234, 69, 126, 243, 32, 220, 255, 33, 223, 236, 102, 16, 80, 191,
-            160, 126, 157, 87, 65, 32, 21, 9, 93, 227, 169, 141, 156, 254, 179, 176, 78, 176, 196,
-            159, 24, 76, 55, 5, 88, 164, 97, 254, 82, 32,
-        ],
-    },
+    FIRST,
     Coded {
         first: 0,
         step: 0,
@@ -136,8 +142,10 @@ const CODED: [Coded; 12] = [
     },
 ];
 
+const WORDS: &[Coded] = &CODED;
+
 /// Places of a word: the first, the last, every fifth, and three samples by Python's `random`.
-const PLACES: [[u8; 48]; 6] = [
+const PLACES: &[[u8; 48]] = &[
     [
         0, 1, 2, 3, 4, 5, 6, 7, 8, 9, 10, 11, 12, 13, 14, 15, 16, 17, 18, 19, 20, 21, 22, 23, 24,
         25, 26, 27, 28, 29, 30, 31, 32, 33, 34, 35, 36, 37, 38, 39, 40, 41, 42, 43, 44, 45, 46, 47,
@@ -223,7 +231,7 @@ fn has_its_parity(coded: &Coded) -> bool {
 
 #[test]
 fn parities(rt: HostRuntime) {
-    for (k, coded) in CODED.iter().enumerate() {
+    for (k, coded) in WORDS.iter().enumerate() {
         assert!(rt; has_its_parity(coded), "row {k}");
     }
 }
@@ -256,7 +264,7 @@ fn has_values(word: &[u8; 255], values: &[u8; 48]) -> bool {
 
 #[test]
 fn values_at_the_roots(rt: HostRuntime) {
-    let mut word = word_of(&CODED[0]);
+    let mut word = word_of(FIRST_WORD);
     assert!(rt; has_values(&word, &[0; 48]));
     for place in 207..255 {
         word[place] = 0;
@@ -278,9 +286,9 @@ fn is_refused(word: &[u8; 255], places: &[u8], fault: SolveFault) -> bool {
 
 #[test]
 fn erased_places(rt: HostRuntime) {
-    for coded in &CODED {
+    for coded in WORDS {
         let word = word_of(coded);
-        for places in &PLACES {
+        for places in PLACES {
             assert!(rt; becomes(&zeroed(&word, places), places, &word));
             assert!(rt; becomes(&changed(&word, places), places, &word));
         }
@@ -289,8 +297,8 @@ fn erased_places(rt: HostRuntime) {
 
 #[test]
 fn one_more_byte_is_wrong(rt: HostRuntime) {
-    let wrong = changed(&word_of(&CODED[0]), &[254]);
-    for places in &PLACES {
+    let wrong = changed(&word_of(FIRST_WORD), &[254]);
+    for places in PLACES {
         let places = &places[..47];
         assert!(rt; places[46] >= 254 || is_refused(&wrong, places, SolveFault::NoCodeWord));
     }
@@ -298,7 +306,7 @@ fn one_more_byte_is_wrong(rt: HostRuntime) {
 
 #[test]
 fn nothing_is_erased(rt: HostRuntime) {
-    let code_word = word_of(&CODED[0]);
+    let code_word = word_of(FIRST_WORD);
     assert!(rt; becomes(&code_word, &[], &code_word));
     let mut word = [0; 255];
     word[0] = 1;
@@ -311,6 +319,6 @@ fn too_many_are_erased(rt: HostRuntime) {
     for (i, place) in places.iter_mut().enumerate() {
         *place = i as u8;
     }
-    let code_word = word_of(&CODED[0]);
+    let code_word = word_of(FIRST_WORD);
     assert!(rt; is_refused(&code_word, &places, SolveFault::TooMany { count: 49 }));
 }

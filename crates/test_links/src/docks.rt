@@ -85,19 +85,26 @@ fn gives_once(dock: &mut MemDock) -> bool {
     is_gone && is_sent && is_open
 }
 
-fn gives_a_link_once(alloc: Global) -> bool {
-    let Ok(mut dock) = MemDock::make(alloc, &[]) else {
-        return false;
-    };
-    puts_quiet(&mut dock, alloc, HERE, 2)
+fn holds_one(dock: &mut MemDock, alloc: Global) -> bool {
+    puts_quiet(dock, alloc, HERE, 2)
         && dock.has(HERE)
         && !dock.has(NEXT)
-        && cannot_bind(&mut dock, NEXT)
-        && cannot_bind(&mut dock, THERE)
-        && gives_once(&mut dock)
-        && cannot_bind(&mut dock, HERE)
+        && cannot_bind(dock, NEXT)
+        && cannot_bind(dock, THERE)
+}
+
+fn has_given_one(dock: &mut MemDock) -> bool {
+    gives_once(dock)
+        && cannot_bind(dock, HERE)
         && dock.closed(NEXT).is_none()
-        && was_closed(&dock, HERE, b"ab")
+        && was_closed(dock, HERE, b"ab")
+}
+
+fn gives_a_link_once(alloc: Global) -> bool {
+    match MemDock::make(alloc, &[]) {
+        Ok(mut dock) => holds_one(&mut dock, alloc) && has_given_one(&mut dock),
+        Err(NoMemory) => false,
+    }
 }
 
 #[test]
@@ -106,7 +113,7 @@ fn a_dock_gives_a_link_once(rt: HostRuntime) {
 }
 
 // Where a link is bound, and whether that fails.
-const OPENINGS: [(Address, bool); 5] = [
+const OPENINGS: &[(Address, bool)] = &[
     (HERE, true),
     (HERE, false),
     (NEXT, true),
@@ -153,13 +160,17 @@ fn sends_and_closes(dock: &mut MemDock, alloc: Global, at: Address, bytes: &[u8]
     sent == Sent::Sent
 }
 
+fn closes_three(dock: &mut MemDock, alloc: Global) -> bool {
+    sends_and_closes(dock, alloc, HERE, b"ab")
+        && sends_and_closes(dock, alloc, THERE, b"c")
+        && sends_and_closes(dock, alloc, HERE, b"de")
+}
+
 fn keeps_the_last(alloc: Global) -> bool {
     let Ok(mut dock) = MemDock::make(alloc, &[]) else {
         return false;
     };
-    sends_and_closes(&mut dock, alloc, HERE, b"ab")
-        && sends_and_closes(&mut dock, alloc, THERE, b"c")
-        && sends_and_closes(&mut dock, alloc, HERE, b"de")
+    closes_three(&mut dock, alloc)
         && was_closed(&dock, HERE, b"de")
         && was_closed(&dock, THERE, b"c")
 }

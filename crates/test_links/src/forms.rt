@@ -33,7 +33,7 @@ fn binds_and_reaches<D: Dock>(dock: &mut D, at: Address) -> (bool, bool) {
 }
 
 // The room of the buffer, what a source answers, and the buffer, which was of dots.
-const READS: [(usize, ReadOut, [u8; 4]); 8] = [
+const READS: &[(usize, ReadOut, [u8; 4])] = &[
     (4, ReadOut::Got(3), *b"abc."),
     (4, ReadOut::Failed, *b"...."),
     (2, ReadOut::Got(2), *b"de.."),
@@ -70,7 +70,7 @@ fn a_source_gives_pieces_and_fails_where_told(rt: HostRuntime) {
 }
 
 // Bytes, what a sink answers to them, and what it has then.
-const WRITES: [([u8; 4], WriteOut, &[u8]); 5] = [
+const WRITES: &[([u8; 4], WriteOut, &[u8])] = &[
     (*b"abcd", WriteOut::Wrote(3), b"abc"),
     (*b"defg", WriteOut::Failed, b"abc"),
     (*b"defg", WriteOut::Wrote(3), b"abcdef"),
@@ -104,7 +104,7 @@ fn a_sink_takes_pieces_and_fails_where_told(rt: HostRuntime) {
 }
 
 // A name, a limit, and what the shelf gives.
-const LOADS: [(&str, usize, Gave<'static>); 8] = [
+const LOADS: &[(&str, usize, Gave<'static>)] = &[
     ("audio.bin", 100, Gave::File(b"defgh")),
     ("plan.txt", 9, Gave::File(b"drmplan 1")),
     ("plan.txt", 8, Gave::TooLong),
@@ -139,10 +139,10 @@ fn loaded_rows(alloc: Global, shelf: &mut MemShelf) -> usize {
     named_rows(shelf)
 }
 
-// How many of the loads are told in their order.
+// How many of the loads are told in their order, and no more.
 fn named_rows(shelf: &MemShelf) -> usize {
-    for (k, name) in shelf.names().iter().enumerate() {
-        if k >= LOADS.len() || name.as_slice() != LOADS[k].0.as_bytes() {
+    for (k, (name, row)) in shelf.names().iter().zip(LOADS).enumerate() {
+        if name.as_slice() != row.0.as_bytes() {
             return k;
         }
     }

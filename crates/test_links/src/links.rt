@@ -27,16 +27,33 @@ fn sends(link: &mut MemLink, bytes: &[u8], answer: Sent) -> bool {
     send(link, bytes) == answer
 }
 
-fn fails_where_listed(alloc: Global) -> bool {
-    let Ok(mut link) = MemLink::make(alloc, &[0], &[], 1) else {
-        return false;
-    };
-    brings(&mut link, alloc, b"AF")
-        && receives(alloc, &mut link, Came::Failed, b"..")
-        && sends(&mut link, b"AF", Sent::Failed)
+// What is sent, and whether it is.
+type SendRow<'a> = (&'a [u8], Sent);
+
+// Whether each of these is answered so.
+fn sends_rows(link: &mut MemLink, rows: &[SendRow<'_>]) -> bool {
+    for row in rows {
+        if !sends(link, row.0, row.1) {
+            return false;
+        }
+    }
+    true
+}
+
+fn fails(alloc: Global, link: &mut MemLink) -> bool {
+    brings(link, alloc, b"AF")
+        && receives(alloc, link, Came::Failed, b"..")
+        && sends(link, b"AF", Sent::Failed)
         && link.sent(0).is_none()
-        && receives(alloc, &mut link, Came::Datagram(2), b"AF.")
-        && sends(&mut link, b"AF", Sent::Sent)
+        && receives(alloc, link, Came::Datagram(2), b"AF.")
+        && sends(link, b"AF", Sent::Sent)
+}
+
+fn fails_where_listed(alloc: Global) -> bool {
+    match MemLink::make(alloc, &[0], &[], 1) {
+        Ok(mut link) => fails(alloc, &mut link),
+        Err(NoMemory) => false,
+    }
 }
 
 #[test]
@@ -46,7 +63,7 @@ fn each_listed_call_of_a_link_fails(rt: HostRuntime) {
 
 // What recvs answer, and what stands at the front. At 6 nothing is left, and before 7 more is brought. The number 8 stands
 // in both lists.
-const RECVS: [(Came, &[u8]); 11] = [
+const RECVS: &[(Came, &[u8])] = &[
     (Came::Idle, b"..."),
     (Came::Failed, b"..."),
     (Came::Datagram(2), b"ab."),
@@ -93,18 +110,24 @@ fn a_link_gives_what_was_brought(rt: HostRuntime) {
     assert!(rt; rows == 11, "row {rows}");
 }
 
+// Of these the second fails, and for the last two there is no room.
+const SENDS: &[SendRow<'static>] = &[
+    (b"ab", Sent::Sent),
+    (b"x", Sent::Failed),
+    (b"cde", Sent::Sent),
+    (b"f", Sent::Failed),
+    (b"", Sent::Failed),
+];
+
 fn keeps(alloc: Global) -> bool {
     let Ok(mut link) = MemLink::make(alloc, &[1], &[0], 2) else {
         return false;
     };
-    sends(&mut link, b"ab", Sent::Sent)
-        && sends(&mut link, b"x", Sent::Failed)
-        && sends(&mut link, b"cde", Sent::Sent)
-        && sends(&mut link, b"f", Sent::Failed)
-        && sends(&mut link, b"", Sent::Failed)
-        && was_sent(&link, 0, b"ab")
-        && was_sent(&link, 1, b"cde")
-        && link.sent(2).is_none()
+    sends_rows(&mut link, SENDS) && has_kept(&link)
+}
+
+fn has_kept(link: &MemLink) -> bool {
+    was_sent(link, 0, b"ab") && was_sent(link, 1, b"cde") && link.sent(2).is_none()
 }
 
 #[test]
@@ -161,21 +184,37 @@ fn sends_later(link: &mut MemLink, millis: u32, bytes: &[u8], answer: Sent) -> b
     send(link, bytes) == answer
 }
 
+// A rest before a send, what is sent, and whether it is.
+const LATER: &[(u32, &[u8], Sent)] = &[
+    (6, b"a", Sent::Sent),
+    (0, b"b", Sent::Sent),
+    (4, b"x", Sent::Failed),
+    (2, b"c", Sent::Sent),
+];
+
+fn rests_and_sends(link: &mut MemLink) -> bool {
+    rest(link, u32::MAX);
+    for row in LATER {
+        if !sends_later(link, row.0, row.1, row.2) {
+            return false;
+        }
+    }
+    rest(link, 9);
+    true
+}
+
+fn has_rested(link: &MemLink) -> bool {
+    link.waited(0) == Some(4_294_967_302)
+        && link.waited(1) == Some(1)
+        && link.waited(2) == Some(8)
+        && link.waited(3).is_none()
+}
+
 fn keeps_how_long(alloc: Global) -> bool {
     let Ok(mut link) = MemLink::make(alloc, &[2], &[], 3) else {
         return false;
     };
-    rest(&mut link, u32::MAX);
-    let is_sent = sends_later(&mut link, 6, b"a", Sent::Sent)
-        && sends_later(&mut link, 0, b"b", Sent::Sent)
-        && sends_later(&mut link, 4, b"x", Sent::Failed)
-        && sends_later(&mut link, 2, b"c", Sent::Sent);
-    rest(&mut link, 9);
-    is_sent
-        && link.waited(0) == Some(4_294_967_302)
-        && link.waited(1) == Some(1)
-        && link.waited(2) == Some(8)
-        && link.waited(3).is_none()
+    rests_and_sends(&mut link) && has_rested(&link)
 }
 
 #[test]

@@ -75,7 +75,7 @@ fn so_many_cross<L: Link>(alloc: Global, from: &mut L, to: &mut L, length: usize
     }
 }
 
-const LENGTHS: [usize; 5] = [5, 0, 1500, 8192, GREATEST];
+const LENGTHS: &[usize] = &[5, 0, 1500, 8192, GREATEST];
 
 // How many of the lengths cross before the first that doesn't.
 fn lengths_cross<L: Link>(alloc: Global, from: &mut L, to: &mut L) -> usize {
@@ -231,7 +231,7 @@ fn rests<R: Clock, L: Link>(
     }
 }
 
-const RESTS: [u32; 4] = [0, 1, 5, 50];
+const RESTS: &[u32] = &[0, 1, 5, 50];
 
 // How many of the rests take their time, together with those before, before the first that doesn't. What comes in this time
 // doesn't end them.

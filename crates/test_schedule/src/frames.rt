@@ -11,10 +11,10 @@ use test_support::{Edit, SWITCHING, schedule};
 
 // Nine bytes are free in each super frame: the description of the streams and the channel parameters fill the first
 // one, and the audio entity goes into the second.
-const SPREAD: [Edit<'static>; 1] = [(12, "room 18")];
+const SPREAD: &[Edit<'static>] = &[(12, "room 18")];
 
 // A clock that starts at 23:58 is told at once, and after each fifty super frames a minute later.
-const CLOCK: [Edit<'static>; 5] = [
+const CLOCK: &[Edit<'static>] = &[
     (4, "length 109"),
     (12, "room 22"),
     (16, "config 7 7"),
@@ -23,7 +23,7 @@ const CLOCK: [Edit<'static>; 5] = [
 ];
 
 // Two audio services and a data service, with the order counted from the configuration's start.
-const TURNS: [Edit<'static>; 7] = [
+const TURNS: &[Edit<'static>] = &[
     (4, "length 4"),
     (12, "room 60"),
     (16, "config 1 1"),
@@ -51,7 +51,7 @@ fn is_block(plan: &Schedule, sf: u32, block: &[u8]) -> bool {
 }
 
 // A super frame, its configuration and its index.
-const COUNTED: [(u32, usize, u8); 6] = [
+const COUNTED: &[(u32, usize, u8)] = &[
     (0, 0, 0),
     (2, 0, 0),
     (3, 0, 2),
@@ -66,14 +66,14 @@ fn counts(plan: &Schedule, row: &(u32, usize, u8)) -> bool {
 }
 
 // A frame, and the length of its packet.
-const LENGTHS: [(u32, usize); 4] = [(0, 125), (1, 90), (2, 90), (15, 125)];
+const LENGTHS: &[(u32, usize)] = &[(0, 125), (1, 90), (2, 90), (15, 125)];
 
 fn has_length(plan: &Schedule, t: u32, len: usize) -> bool {
     packet_len(plan, t) == len
 }
 
 fn all_count(plan: &Schedule) -> bool {
-    for row in &COUNTED {
+    for row in COUNTED {
         if !counts(plan, row) {
             return false;
         }
@@ -82,7 +82,7 @@ fn all_count(plan: &Schedule) -> bool {
 }
 
 fn all_have_lengths(plan: &Schedule) -> bool {
-    for row in &LENGTHS {
+    for row in LENGTHS {
         if !has_length(plan, row.0, row.1) {
             return false;
         }
@@ -104,7 +104,7 @@ fn counts_down_to_the_next_configuration(rt: HostRuntime) {
 }
 
 // Super frames of the schedule that is spread, and their blocks.
-const SPREAD_BLOCKS: [(u32, &[u8]); 2] = [
+const SPREAD_BLOCKS: &[(u32, &[u8])] = &[
     (
         3,
         &[
@@ -122,7 +122,7 @@ const SPREAD_BLOCKS: [(u32, &[u8]); 2] = [
 ];
 
 // The same of the one with a clock.
-const CLOCK_BLOCKS: [(u32, &[u8]); 3] = [
+const CLOCK_BLOCKS: &[(u32, &[u8])] = &[
     (
         7,
         &[
@@ -161,18 +161,18 @@ fn blocks(alloc: Global, edits: &[Edit<'_>], blocks: &[(u32, &[u8])]) -> usize {
 
 #[test]
 fn tells_the_next_configuration(rt: HostRuntime) {
-    let rows = blocks(rt.alloc(), &SPREAD, &SPREAD_BLOCKS);
+    let rows = blocks(rt.alloc(), SPREAD, SPREAD_BLOCKS);
     assert!(rt; rows == 2, "row {rows}");
 }
 
 #[test]
 fn tells_the_time(rt: HostRuntime) {
-    let rows = blocks(rt.alloc(), &CLOCK, &CLOCK_BLOCKS);
+    let rows = blocks(rt.alloc(), CLOCK, CLOCK_BLOCKS);
     assert!(rt; rows == 3, "row {rows}");
 }
 
 // Frames and their FACs.
-const FACS: [(u32, [u8; 9]); 6] = [
+const FACS: &[(u32, [u8; 9])] = &[
     (3, [0x66, 0x12, 0x01, 0x23, 0x45, 0x60, 0xa1, 0x80, 0xbc]),
     (4, [0x26, 0x12, 0x01, 0x23, 0x45, 0x68, 0xa1, 0x80, 0xee]),
     (5, [0x46, 0x12, 0x01, 0x23, 0x45, 0x60, 0xa1, 0x80, 0x93]),
@@ -186,7 +186,7 @@ fn has_fac(plan: &Schedule, t: u32, bytes: [u8; 9]) -> bool {
 }
 
 fn take_turns(alloc: Global) -> usize {
-    let Ok(plan) = schedule(alloc, SWITCHING, &TURNS) else {
+    let Ok(plan) = schedule(alloc, SWITCHING, TURNS) else {
         return 0;
     };
     for (k, row) in FACS.iter().enumerate() {

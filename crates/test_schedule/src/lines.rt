@@ -22,7 +22,7 @@ fn is_shown(alloc: Global, pieces: &[&str], expected: &str) -> bool {
 }
 
 // A text, and its lines.
-const TEXTS: [(&str, &str); 7] = [
+const TEXTS: &[(&str, &str)] = &[
     ("", ""),
     ("\n", "|"),
     ("a", "a|"),
@@ -47,7 +47,7 @@ fn cuts_a_text_into_lines(rt: HostRuntime) {
 }
 
 // A line, and its words.
-const LINES: [(&str, &str); 7] = [
+const LINES: &[(&str, &str)] = &[
     ("", ""),
     ("   ", ""),
     ("a", "a|"),
@@ -72,7 +72,7 @@ fn cuts_a_line_into_words(rt: HostRuntime) {
 }
 
 // A line, and what stands behind two words.
-const BEHIND: [(&str, &str); 8] = [
+const BEHIND: &[(&str, &str)] = &[
     ("", ""),
     ("label", ""),
     ("label 0", ""),
@@ -94,7 +94,7 @@ fn keeps_what_stands_behind_two_words(rt: HostRuntime) {
     }
 }
 
-const NUMBERS: [(&str, Option<u64>); 11] = [
+const NUMBERS: &[(&str, Option<u64>)] = &[
     ("0", Some(0)),
     ("007", Some(7)),
     ("4294967295", Some(4_294_967_295)),
@@ -119,7 +119,7 @@ fn reads_numbers(rt: HostRuntime) {
     }
 }
 
-const THREE_BYTES: [(&str, Option<[u8; 3]>); 8] = [
+const THREE_BYTES: &[(&str, Option<[u8; 3]>)] = &[
     ("0A0b0c", Some([10, 11, 12])),
     ("FFffFf", Some([255, 255, 255])),
     ("", None),
@@ -141,9 +141,9 @@ fn reads_so_many_bytes(rt: HostRuntime) {
     }
 }
 
-const ANY_BYTES: [(&str, &[u8]); 3] = [("", &[]), ("aB", &[0xab]), ("00ff10", &[0, 255, 16])];
+const ANY_BYTES: &[(&str, &[u8])] = &[("", &[]), ("aB", &[0xab]), ("00ff10", &[0, 255, 16])];
 
-const NO_BYTES: [&str; 3] = ["a", "0g", "-"];
+const NO_BYTES: &[&str] = &["a", "0g", "-"];
 
 fn are_bytes(alloc: Global, word: &str, expected: Option<&[u8]>) -> bool {
     match bytes(alloc, word) {
@@ -163,7 +163,7 @@ fn reads_any_bytes(rt: HostRuntime) {
     }
 }
 
-const TEXTS_OF_BYTES: [(&[u8], Result<&str, u32>); 6] = [
+const TEXTS_OF_BYTES: &[(&[u8], Result<&str, u32>)] = &[
     (b"", Ok("")),
     (b"\xc3\x85s\n", Ok("Ås\n")),
     (b"\xff", Err(1)),

@@ -30,10 +30,10 @@ fn announces(plan: &Schedule) -> bool {
     config.start == 5 && config.countdown == 2
 }
 
-const EDITS: [(usize, &str); 2] = [(2, "carry pft 5 1400"), (3, "first 7 8")];
+const EDITS: &[(usize, &str)] = &[(2, "carry pft 5 1400"), (3, "first 7 8")];
 
 fn says(alloc: Global) -> bool {
-    match schedule(alloc, SWITCHING, &EDITS) {
+    match schedule(alloc, SWITCHING, EDITS) {
         Ok(plan) => begins_so(&plan) && announces(&plan),
         Err(_) => false,
     }
@@ -45,7 +45,7 @@ fn has_what_its_text_says(rt: HostRuntime) {
 }
 
 // How much is free in each super frame, the sizes of entities, and whether these can be packed.
-const PACKED: [(&[u16], &[u16], bool); 9] = [
+const PACKED: &[(&[u16], &[u16], bool)] = &[
     (&[], &[], true),
     (&[], &[0], false),
     (&[8, 8], &[5, 4, 4], true),

@@ -36,7 +36,7 @@ fn is_script(
     }
 }
 
-const OF_PACKET_2: [(u32, u32); 10] = [
+const OF_PACKET_2: &[(u32, u32)] = &[
     (1, 8),
     (2, 8),
     (2, 7),
@@ -49,7 +49,7 @@ const OF_PACKET_2: [(u32, u32); 10] = [
     (2, 0),
 ];
 
-const OF_PACKET_1: [(u32, u32); 9] = [
+const OF_PACKET_1: &[(u32, u32)] = &[
     (1, 0),
     (1, 1),
     (1, 2),
@@ -79,16 +79,16 @@ const BY_LINES: &[u8] = b"# two\n\nfeed\n take  1 008 \nback 2\nfeed\npacket 1";
 
 #[test]
 fn delivers_in_the_order_of_the_lines(rt: HostRuntime) {
-    assert!(rt; delivers(rt.alloc(), &[], BY_LINES, &OF_PACKET_2, &OF_PACKET_1));
+    assert!(rt; delivers(rt.alloc(), &[], BY_LINES, OF_PACKET_2, OF_PACKET_1));
 }
 
-const WHOLE: [(u32, u32); 5] = [(0, 0), (1, 0), (2, 0), (1, 0), (2, 0)];
+const WHOLE: &[(u32, u32)] = &[(0, 0), (1, 0), (2, 0), (1, 0), (2, 0)];
 
-const PLAIN: [Edit<'static>; 1] = [(2, "carry plain")];
+const PLAIN: &[Edit<'static>] = &[(2, "carry plain")];
 
 const OF_WHOLE: &[u8] = b"feed\npackets 0 2\nback 1\ntake 2 0\nfeed";
 
 #[test]
 fn a_packet_that_is_carried_whole_is_one_fragment(rt: HostRuntime) {
-    assert!(rt; delivers(rt.alloc(), &PLAIN, OF_WHOLE, &WHOLE, &[]));
+    assert!(rt; delivers(rt.alloc(), PLAIN, OF_WHOLE, WHOLE, &[]));
 }

@@ -76,7 +76,7 @@ struct SwitchCase<'a> {
     items: &'a [(SeenItem, Option<Before>)],
 }
 
-const CASES: [SwitchCase<'static>; 11] = [
+const CASES: &[SwitchCase<'static>] = &[
     SwitchCase {
         name: "a missing frame was named",
         items: &[
@@ -192,7 +192,7 @@ fn follow(rt: &impl Abort, case: &SwitchCase<'_>) {
 
 #[test]
 fn tells_what_stands_before(rt: HostRuntime) {
-    for case in &CASES {
+    for case in CASES {
         follow(&rt, case);
     }
 }

@@ -9,7 +9,7 @@ use std::alloc::{AllocError, Global};
 // Lines of words, each word behind a `|`, and what they ask for: the command, then the plain words and the options in
 // the order of the command's row, `-` where one isn't told. By hand from the rules of the command line; a reader of the
 // same rules in Python gives the same.
-const ASKED: [(&str, &str); 74] = [
+const ASKED: &[(&str, &str)] = &[
     ("|fac", "fac"),
     ("|fac|--", "fac"),
     ("|show", "show"),

@@ -7,7 +7,7 @@ use test_support::{SMALL, schedule};
 // The frame, the bytes of its packet, its fragments, and the ends of its first one's header.
 type Load = (u32, usize, u32, [u8; 5]);
 
-const LOADS: [Load; 5] = [
+const LOADS: &[Load] = &[
     (2, 90, 9, [0, 2, 0, 0, 0]),
     (0, 110, 10, [0, 0, 0, 0, 0]),
     (1, 90, 9, [0, 1, 0, 0, 0]),

@@ -11,7 +11,7 @@ use std::time::{Clock, Duration};
 use test_gated_links::reports;
 
 // The headers of the first fragments of the three packets, but for their check values.
-const FIRST: [(usize, [u8; 14]); 3] = [
+const FIRST: &[(usize, [u8; 14])] = &[
     (
         0,
         [0x50, 0x46, 0, 0, 0, 0, 0, 0, 0, 0x0a, 0x80, 0x10, 0x6e, 0],
@@ -26,7 +26,7 @@ const FIRST: [(usize, [u8; 14]); 3] = [
     ),
 ];
 
-const PORTS: [(u16, &str); 3] = [
+const PORTS: &[(u16, &str)] = &[
     (47_801, "127.0.0.1:47801"),
     (47_802, "127.0.0.1:47802"),
     (47_803, "127.0.0.1:47803"),
@@ -34,7 +34,7 @@ const PORTS: [(u16, &str); 3] = [
 
 // A link at the first of these ports that is free, with its address as a word.
 fn bind<D: Dock>(dock: &mut D) -> Option<(D::L, &'static str)> {
-    for row in &PORTS {
+    for row in PORTS {
         let at = Address {
             ip: [127, 0, 0, 1],
             port: row.0,
@@ -48,7 +48,7 @@ fn bind<D: Dock>(dock: &mut D) -> Option<(D::L, &'static str)> {
 
 // Whether this datagram is the first fragment of a packet, if it should be.
 fn is_in_its_place(k: usize, datagram: &[u8]) -> bool {
-    for row in &FIRST {
+    for row in FIRST {
         if row.0 == k && !datagram.starts_with(&row.1) {
             return false;
         }
