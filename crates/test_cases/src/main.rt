@@ -1,5 +1,15 @@
-//! Runs the cases of the files that its words name, in memory, and prints each whose run isn't as its case says. The files
-//! behind the word `--paths` have cases of several paths.
+//! A program that runs cases in memory, and prints each one whose run isn't as the case says. Its
+//! words are files of cases; those behind the word `--paths` are of `drmpaths`, all others of
+//! `drmcast`. The files are in `data`: all commands, each fault, each limit.
+//!
+//! Cases are read by `test_case_files`; a case of `drmcast` is a call of `run` of `drm_top`, one of
+//! `drmpaths` a call of `run_paths` of `cmd_paths`, over the forms in memory of `drm_links`.
+//!
+//! Files and sockets of the system aren't used here: `tools/edge.py` runs the built programs over
+//! the same cases. What no case can say is tested in `test_top` and `test_paths`.
+//!
+//! Run it with `rt run -- $PWD/data/fac.cases` in the folder; `rt ci` runs it over all files that
+//! `args` names. Begin with `differences` in `src/differences.rt`.
 #![tactic(auto)]
 
 mod differences;
