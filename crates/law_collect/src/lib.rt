@@ -17,6 +17,6 @@
 mod laws;
 
 pub use laws::{
-    collecting, giving_ends, in_time, one_giving, one_nearest, one_reading, one_run, reaching_all,
-    refusing, steps_count, steps_join, steps_part,
+    collecting, few_at_once, giving_ends, in_time, one_giving, one_nearest, one_reading, one_run,
+    reaching_all, refusing, steps_count, steps_join, steps_part,
 };
