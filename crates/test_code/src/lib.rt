@@ -1,5 +1,15 @@
-//! Tests of the field, the code and the fragments over what these crates offer: they stand apart, so that what is built on
-//! those crates doesn't prove them once more.
+//! Tests of Reed-Solomon and of the fragments of DCP (TS 102 821): products and inverses of the
+//! field (`gf_field`), parity and erased places of code words (`rs_erase`), how packets are cut,
+//! and fragments written and read with each of their faults (`dcp_pft`). Expected values come from
+//! libfec, and from programs in Python after the standard. `random_words.rt` compares the crates
+//! with plain bodies by the definitions, over many words.
+//!
+//! It stands on the public calls of these three crates. A crate that others stand on has no tests
+//! inside, since it would be proved twice.
+//!
+//! Reassembly is tested in `test_collector`; packets in a capture by the cases of `test_cases`.
+//!
+//! Run it with `rt test` in the folder. Begin with `words.rt`.
 #![tactic(auto)]
 
 #[cfg(test)]

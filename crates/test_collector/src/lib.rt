@@ -1,5 +1,14 @@
-//! Tests of the collector and of the feed over what these crates offer: runs of datagrams, call by call, and the items of
-//! single packets.
+//! Tests of reassembly (`dcp_collect`) and of the frames that come of it (`mod_feed`): datagrams in
+//! any order, lost, repeated, damaged or hostile, call by call, and which packets are given or
+//! named as lost. A run is a row of a table: what is taken, what is answered, what is given.
+//!
+//! It stands on these two crates, and writes its datagrams with `dcp_af` and `dcp_pft`; packets
+//! with frames in them were made by a program in Python after TS 102 820 and TS 102 821.
+//!
+//! Fragments by themselves are tested in `test_code`, frames by themselves in `test_formats`; whole
+//! receivers by the cases of `test_cases`, and in `test_top`.
+//!
+//! Run it with `rt test` in the folder. Begin with `order.rt`; `runs.rt` says what a row is.
 #![tactic(auto)]
 
 #[cfg(test)]
