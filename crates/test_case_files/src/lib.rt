@@ -13,7 +13,6 @@
 #![tactic(auto)]
 
 mod case;
-mod fault;
 mod keyword;
 mod pieces;
 mod reader;

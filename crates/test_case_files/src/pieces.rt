@@ -1,137 +1,97 @@
 //! Pieces of byte lists.
 
-use crate::case::NamedFile;
-use crate::fault::{CaseFault, Result};
-use crate::words::{byte, number, push, size};
-
-const NO_LINES: CaseFault = CaseFault("no two numbers and a text");
+use crate::words::{bytes, number, size};
+use anyhow::{Context, Result, bail};
+use std::alloc::Global;
+use std::collections::BTreeMap;
 
 pub fn is_piece(keyword: &str) -> bool {
-    match keyword.as_bytes() {
-        [byte] => b"|.x*+%@".contains(byte),
-        _ => false,
-    }
+    matches!(keyword, "|" | "." | "x" | "*" | "+" | "%" | "@")
 }
 
 /// Appends what a piece line says.
-pub fn append(list: &mut Vec<u8>, lets: &[NamedFile], keyword: &str, rest: &str) -> Result<()> {
+pub fn append(
+    list: &mut Vec<u8>,
+    named: &BTreeMap<String, Vec<u8>>,
+    keyword: &str,
+    rest: &str,
+) -> Result<()> {
     match keyword {
         "|" => append_line(list, rest),
-        "." => append_text(list, rest.as_bytes()),
+        "." => Ok(list.extend_from_slice(rest.as_bytes())?),
         "x" => append_digits(list, rest),
         "*" => append_same(list, rest),
         "+" => append_rising(list, rest),
         "%" => append_lines(list, rest),
-        _ => append_named(list, lets, rest),
+        _ => append_named(list, named, rest),
     }
-}
-
-fn append_text(list: &mut Vec<u8>, text: &[u8]) -> Result<()> {
-    Ok(list.extend_from_slice(text)?)
 }
 
 fn append_line(list: &mut Vec<u8>, text: &str) -> Result<()> {
-    append_text(list, text.as_bytes())?;
-    push(list, b'\n')
+    list.extend_from_slice(text.as_bytes())?;
+    list.push(b'\n')?;
+    Ok(())
 }
 
-/// Appends the bytes of lower-case digits, two a byte.
 pub fn append_digits(list: &mut Vec<u8>, digits: &str) -> Result<()> {
-    for pair in digits.as_bytes().chunks(2) {
-        let byte = byte(pair)?;
-        push(list, byte)?;
-    }
+    let piece = bytes(*list.allocator(), digits)?;
+    list.extend_from_slice(&piece)?;
     Ok(())
 }
 
 // A number and a byte.
-fn count_and_byte(text: &str) -> Result<(usize, u8)> {
-    let Some((count, digits)) = text.split_once(' ') else {
-        return Err(CaseFault("no number and byte"));
-    };
-    let count = size(count)?;
-    let byte = byte(digits.as_bytes())?;
-    Ok((count, byte))
+fn count_and_byte(alloc: Global, text: &str) -> Result<(usize, u8)> {
+    let (count, digits) = text.split_once(' ').context("a number and a byte")?;
+    match bytes(alloc, digits)?.as_slice() {
+        [byte] => Ok((size(count)?, *byte)),
+        _ => bail!("{digits:?} is no byte"),
+    }
 }
 
 fn append_same(list: &mut Vec<u8>, rest: &str) -> Result<()> {
-    let (count, byte) = count_and_byte(rest)?;
+    let (count, byte) = count_and_byte(*list.allocator(), rest)?;
     let length = list.len().saturating_add(count);
-    Ok(list.resize(length, byte)?)
+    list.resize(length, byte)?;
+    Ok(())
 }
 
 fn append_rising(list: &mut Vec<u8>, rest: &str) -> Result<()> {
-    let (count, mut next) = count_and_byte(rest)?;
+    let (count, first) = count_and_byte(*list.allocator(), rest)?;
+    let mut next = first;
     for _ in 0..count {
-        push(list, next)?;
+        list.push(next)?;
         next = next.wrapping_add(1);
     }
     Ok(())
 }
 
 fn append_lines(list: &mut Vec<u8>, rest: &str) -> Result<()> {
-    let Some((first, behind)) = rest.split_once(' ') else {
-        return Err(NO_LINES);
-    };
-    let Some((last, text)) = behind.split_once(' ') else {
-        return Err(NO_LINES);
-    };
-    let (first, last) = (number(first)?, number(last)?);
-    for k in first..last.saturating_add(1) {
-        append_numbered(list, text.as_bytes(), k)?;
+    let (first, behind) = rest.split_once(' ').context("two numbers and a text")?;
+    let (last, text) = behind.split_once(' ').context("two numbers and a text")?;
+    for k in number(first)?..=number(last)? {
+        append_numbered(list, text, k)?;
     }
     Ok(())
 }
 
 // The text with the number in place of each `#`, and a line feed.
-fn append_numbered(list: &mut Vec<u8>, text: &[u8], k: u64) -> Result<()> {
-    for character in text {
-        if *character == b'#' {
-            append_decimal(list, k)?;
+fn append_numbered(list: &mut Vec<u8>, text: &str, k: u64) -> Result<()> {
+    let digits = format!(in *list.allocator(); "{k}")?;
+    for character in text.bytes() {
+        if character == b'#' {
+            list.extend_from_slice(digits.as_bytes())?;
         } else {
-            push(list, *character)?;
+            list.push(character)?;
         }
     }
-    push(list, b'\n')
-}
-
-// Appends a number as a decimal one.
-fn append_decimal(list: &mut Vec<u8>, number: u64) -> Result<()> {
-    let digits = digits_of(number);
-    let mut has_begun = false;
-    for (place, digit) in digits.iter().enumerate() {
-        has_begun = has_begun || *digit != b'0' || place == 19;
-        if has_begun {
-            push(list, *digit)?;
-        }
-    }
+    list.push(b'\n')?;
     Ok(())
 }
 
-// With zeros in front.
-fn digits_of(number: u64) -> [u8; 20] {
-    let mut digits = [b'0'; 20];
-    let mut left = number;
-    for digit in digits.iter_mut().rev() {
-        *digit = b'0'.wrapping_add((left % 10) as u8);
-        left /= 10;
-    }
-    digits
-}
-
-/// The bytes of this name, if it has any.
-pub fn named<'a>(lets: &'a [NamedFile], name: &str) -> Option<&'a [u8]> {
-    for it in lets {
-        if it.name.as_str() == name {
-            return Some(it.bytes.as_slice());
-        }
-    }
-    None
-}
-
-fn append_named(list: &mut Vec<u8>, lets: &[NamedFile], name: &str) -> Result<()> {
-    match named(lets, name) {
-        Some(piece) => append_text(list, piece),
-        None => Err(CaseFault("no let has this name")),
-    }
+fn append_named(list: &mut Vec<u8>, named: &BTreeMap<String, Vec<u8>>, name: &str) -> Result<()> {
+    let Some(piece) = named.get(name) else {
+        bail!("no let has the name {name:?}");
+    };
+    list.extend_from_slice(piece)?;
+    Ok(())
 }
