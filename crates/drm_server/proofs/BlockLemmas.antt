@@ -12,10 +12,10 @@ use Rattle.drm_timeline.specs.Blocks.{block_of}
 use Rattle.drm_server.specs.Frames.{IsBlockAt}
 use Rattle.drm_server.proofs.ByteLemmas.{bytes_take}
 
-pub block_bits : (n : ℕ) (o : Option Config) (c : Config) → Some n ≡ option_map (λ (x : Config). 8 * x.room + 20) o → o ≡ Some c → n ≡ 8 * c.scratch + 20
+pub block_bits : (n : ℕ) (o : Option Config) (c : Config) → Some n ≡ option_map (λ (x : Config). 8 * x.room + 20) o → o ≡ Some c → n ≡ 8 * c.room + 20
 block_bits n o c is same = some_is (is ∙ ap (λ (x : Option Config). option_map (λ (y : Config). 8 * y.room + 20) x) same)
   where
-    some_is : Some n ≡ Some (8 * c.scratch + 20) → n ≡ 8 * c.scratch + 20
+    some_is : Some n ≡ Some (8 * c.room + 20) → n ≡ 8 * c.room + 20
     some_is eq = cc
 
 -- four bits are behind the block

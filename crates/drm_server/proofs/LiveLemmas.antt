@@ -97,8 +97,8 @@ module _ (live : Live) (given : LivePieces) (plan : Plan) (t : ℕ) (valid : IsS
               fac = sym (same_fac live given plan t) ∙ x.fac;
               mux = x.mux ∙ ap description_of config ∙ same_description live given c holds.frames;
               mode = x.mode ∙ ap (λ (c : Config). c.mode) config;
-              block = block_like first with_ plan (t / 3) c.scratch parts.block (sym (same_block live given plan (t / 3)))
-                  (subst (λ (c : Config). HasBlockWhere first with_ (t / 3) c.scratch parts.block) config x.block);
+              block = block_like first with_ plan (t / 3) c.room parts.block (sym (same_block live given plan (t / 3)))
+                  (subst (λ (c : Config). HasBlockWhere first with_ (t / 3) c.room parts.block) config x.block);
               streams = refl;
             };
             input = x.streams ∙ ap (λ (c : Config). own_streams c (t - 3 * c.start)) config ∙ same_streams live given plan t c holds whole;

@@ -44,7 +44,7 @@ one_frame plan t p q x y =
     let same : x.config ≡ y.config = some_is x.config y.config (sym x.holds ∙ y.holds) in
     let first : Bool = t % 3 == 0 in
     same_parts p q (x.count ∙ sym y.count) (some_fac p.fac q.fac (sym x.fac ∙ y.fac)) (x.mux ∙ (ap description_of same ∙ sym y.mux)) (x.mode ∙ (ap (λ (c : Config). c.mode) same ∙ sym y.mode))
-    (one_where first plan (t / 3) y.config.room p.block q.block (subst (λ (c : Config). HasBlockWhere first plan (t / 3) c.scratch p.block) same x.block) y.block)
+    (one_where first plan (t / 3) y.config.room p.block q.block (subst (λ (c : Config). HasBlockWhere first plan (t / 3) c.room p.block) same x.block) y.block)
     (x.streams ∙ (ap (λ (c : Config). map (stream_bytes (t - 3 * c.start)) c.streams) same ∙ sym y.streams))
 
 -- the payload of a packet

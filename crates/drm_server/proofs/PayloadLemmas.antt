@@ -28,7 +28,7 @@ piece_is live plan t c holds = ap (λ (o : Option Config). unwrap_or (option_map
 -- the parts of a frame, and what is written of them
 pub payload_is : (live : Live) (piece : List ℕ) (plan : Plan) (t : ℕ) (c : Config) (streams : List Stream) (head after : List ℕ) (block : Option BlockBytes) (fac : Fac) (payload : List ℕ)
     → config_of plan (t / 3) ≡ Some c → streams ≡ c.streams → fac_of plan t ≡ Some fac → AreHeadItems ((plan.dlfc + t) % 2 ^ 32) fac (description_of c) c.mode head
-    → HasBlockWhere (t % 3 == 0) plan (t / 3) c.scratch block → after ≡ head ++ spelling (block_pieces block)
+    → HasBlockWhere (t % 3 == 0) plan (t / 3) c.room block → after ≡ head ++ spelling (block_pieces block)
     → payload ≡ after ++ spelling (stream_pieces 0 (streams_with live (Some piece) (map (stream_bytes (t - 3 * c.start)) streams)))
     → IsPayloadWith live piece plan t payload
 payload_is live piece plan t c streams head after block fac payload holds same is_fac is_head has after_is is =

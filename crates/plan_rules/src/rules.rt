@@ -104,7 +104,7 @@ impl ParsedText {
     }
 
     // What is wrong with a line of this keyword, whose words are right.
-    #[tactic(auto, unfolding(crate::specs::LinesStep::check_of))]
+    #[tactic(auto, unfolding(crate::specs::Steps::check_of))]
     fn check(&self, n: u32, keyword: Keyword) -> Result<(), PlanFault>
         ensures { result ≡ check_of self.now n keyword }
     {
@@ -121,7 +121,7 @@ impl ParsedText {
     }
 
     // The fault of a line that has this fault by itself.
-    #[tactic(auto, unfolding(crate::specs::LinesStep::refused_of))]
+    #[tactic(auto, unfolding(crate::specs::Steps::refused_of))]
     fn refused(&self, n: u32, keyword: Keyword, reason: Reason) -> PlanFault
         ensures { result ≡ refused_of self.now n keyword reason }
     {
@@ -213,7 +213,7 @@ impl ParsedText {
     }
 
     // What the end of a text of `n` lines shows to be missing.
-    #[tactic(auto, unfolding(crate::specs::LinesStep::end_check))]
+    #[tactic(auto, unfolding(crate::specs::Steps::end_check))]
     fn check_end(&self, n: u32) -> Result<(), PlanFault>
         requires { n < 2 ^ 32 - 1 }
         ensures { result ≡ end_check (version_in self.now.front) self.now.current n }
