@@ -25,7 +25,7 @@ in_range words request line =
     let idle = number_range 50 1 1000000 (omega arith) (omega arith) (value_of (codes "idle") (options line.arguments)) request.idle asks.idle in
     let limit = number_range 1000000 1 1000000 (omega arith) (omega arith) (value_of (codes "limit") (options line.arguments)) request.limit asks.limit in
     record {
-      options = record { some_window = window.0; few_packets = window.1; some_reach = reach.0; near_reach = reach.1; some_frames = frames.0; few_frames = frames.1 };
+      journal = record { some_window = window.0; few_packets = window.1; some_reach = reach.0; near_reach = reach.1; some_frames = frames.0; few_frames = frames.1 };
       options = record { idle = idle.0; limit = limit.0; few = limit.1 };
       few_idles = idle.1;
       some_paths = asks.some_paths;

@@ -36,7 +36,7 @@ options_in request = record { idle = request.idle; limit = request.limit }
 
 -- each number is in its range, and the addresses are two to four different ones
 pub record IsPathsRequestInRange (request : PathsRequest) : Type 0 where
-  pub options : AreInRange (settings_in request)
+  pub journal : AreInRange (settings_in request)
   pub options : AreReasonable (options_in request)
   pub few_idles : request.idle ≤ 1000000
   pub some_paths : 2 ≤ length request.addresses

@@ -123,17 +123,17 @@ fn run_links<G: Road + Send + Sync, R: Threads + Wait + Sync, D: Dock>(
 where
     D::L: Link + Send,
     requires blank { (blank.name ≡ G.name) × (blank.parts ≡ G.parts) × (G.parts ≡ length request.now.addresses) }
-    requires options { settings_in request.now ≡ settings_of G.window G.reach G.first G.frames }
+    requires journal { settings_in request.now ≡ settings_of G.window G.reach G.first G.frames }
     requires range { IsPathsRequestInRange request.now }
     ensures { RunsLinks request.now D.L.known result (D.known dock.old) (D.known dock.new) }
 {
-    let options = JournalOptions {
+    let journal = JournalOptions {
         window: request.window,
         reach: request.reach,
         first: request.first,
         frames: request.frames,
     };
-    let (shared, paths) = open_paths::<G>(alloc, blank, options, request.addresses.len() as u8)?;
+    let (shared, paths) = open_paths::<G>(alloc, blank, journal, request.addresses.len() as u8)?;
     let seats = seats_of(alloc, paths)?;
     let room = room_for(alloc, &request.addresses)?;
     match open_links(alloc, room, seats, &request.addresses, dock) {
@@ -153,7 +153,7 @@ fn read_links<G: Road + Send + Sync, R: Threads + Wait + Sync, D: Dock>(
 ) -> Result<Ending, PathsFault>
 where
     D::L: Link + Send,
-    requires options { settings_in request.now ≡ settings_of G.window G.reach G.first G.frames }
+    requires journal { settings_in request.now ≡ settings_of G.window G.reach G.first G.frames }
     requires range { IsPathsRequestInRange request.now }
     requires new { HaveNewPaths receivers.items }
     requires buffers { All (λ receiver. vec_len receiver.buffer ≡ 65536) receivers.items }

@@ -147,7 +147,7 @@ returns-clause-ends g c =
     (ends_by c.args.request.now g.D.L.Link.known links paths receivers after ran (failed ∙ c.if-failed.false) (out ∙ c.if-ran_out.false)
     c.close_paths.ensures.0 c.close_paths.result
     (subst (λ ps. BookCloses (settings_in c.args.request.now) c.close_paths.ensures.0 ps c.close_paths.result) then_paths
-    (subst (λ by. BookCloses by c.close_paths.ensures.0 c.in_ok-paths.paths c.close_paths.result) (sym c.requires.options) c.close_paths.ensures.1)))
+    (subst (λ by. BookCloses by c.close_paths.ensures.0 c.in_ok-paths.paths c.close_paths.result) (sym c.requires.journal) c.close_paths.ensures.1)))
 
 pub returns-clause-closed : goal.returns-clause-closed
 returns-clause-closed g c =
