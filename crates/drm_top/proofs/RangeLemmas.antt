@@ -33,9 +33,9 @@ listed (text ∷ other ∷ texts) addresses is = absurd is
 
 in_reading : (options : CommandOptions) (rules : ReceiveOptions) → IsReading options rules.window rules.reach rules.first rules.frames rules.idle rules.limit → AreInRange rules
 in_reading options rules reading =
-    let window = within 8 1 64 rules.window _ (omega arith) (omega arith) reading.stretch.has_window in
-    let reach = within 32767 1 32767 rules.reach _ (omega arith) (omega arith) reading.stretch.has_reach in
-    let frames = within_or_none 1 3000000 _ rules.frames reading.stretch.has_frames in
+    let window = within 8 1 64 rules.window _ (omega arith) (omega arith) reading.packets.has_window in
+    let reach = within 32767 1 32767 rules.reach _ (omega arith) (omega arith) reading.packets.has_reach in
+    let frames = within_or_none 1 3000000 _ rules.frames reading.packets.has_frames in
     let idle = within 50 1 1000000 rules.idle _ (omega arith) (omega arith) reading.has_idle in
     let limit = within 4294967295 1 4294967295 rules.limit _ (omega arith) (omega arith) reading.has_limit in
     let less : rules.limit ≤ 4294967295 = limit.1 in
@@ -69,9 +69,9 @@ both None some few = tt
 both (Some n) some few = (some, few)
 
 in_stretch : (options : CommandOptions) (window reach : ℕ) (first frames : Option ℕ) → IsStretch options window reach first frames → IsInStretch window frames
-in_stretch options window reach first frames stretch =
-    let size = within 8 1 64 window _ (omega arith) (omega arith) stretch.has_window in
-    let some = within_or_none 1 3000000 _ frames stretch.has_frames in
+in_stretch options window reach first frames packets =
+    let size = within 8 1 64 window _ (omega arith) (omega arith) packets.has_window in
+    let some = within_or_none 1 3000000 _ frames packets.has_frames in
     (size.0, size.1, both frames some.0 some.1)
 
 pub in_range : (request : Request) (words : List (List ℕ)) → IsLine words request → HasTextNames request → IsRequestInRange request
