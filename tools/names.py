@@ -2,13 +2,12 @@
 """Checks the names of the sources: what docs/ARCHITECTURE.md's map says of crates, and a few rules that a reader leans on.
 
     tools/names.py
-    tools/names.py --words       and which definitions have one word, with their places
 
 1. Each crate begins with a prefix of the map, or is a program of it; crates.txt and the table of crates list all, in the order of `ls`.
 2. No definition of specs/ is one bare verb ("Ends", "Took"): its name has its subject too ("ReadingEnds").
 3. No clause is labelled few, some, small, many, long, all or left: a label names its fact.
 4. The name of a type stands in one crate: struct, enum, trait and type of src/, and types of specs/. A definition that models a type of its
-   own crate under its name counts once. Names of the public surface that are the same in two crates are listed in SURFACE.
+   own crate under its name counts once.
 
 The status is 1 if a name breaks a rule; each is printed with its place.
 """
@@ -35,9 +34,6 @@ NOUNS = set("Address Class Counts Files Front Items Kind Known Object Options Ov
 # Bare verbs and participles that don't end in s or ed.
 IRREGULAR = set("Begin Begun Broke Broken Came Come End Find Fit Follow Gave Give Go Heard Made Make Read Rise Run Sent Suit Take Told Took Went"
                 " Wrote".split())
-
-# Names of types that the public surface has in several crates, each where its users look for it.
-SURFACE = {}
 
 
 def words(name):
@@ -119,20 +115,13 @@ def of_types(crates):
             if found:
                 stands[found[1]].add(crate.name)
     for name, places in sorted(stands.items()):
-        if len(places) > 1 and places != SURFACE.get(name):
+        if len(places) > 1:
             yield f"the type {name} stands in several crates: " + ", ".join(sorted(places))
 
 
 def main():
-    parser = command_line.parser(__doc__)
-    parser.add_argument("--words", action="store_true", help="list the definitions of one word")
-    arguments = parser.parse_args()
+    command_line.parser(__doc__).parse_args()
     crates = sorted(path for path in CRATES.iterdir() if path.is_dir())
-    if arguments.words:
-        for crate in crates:
-            for place, kind, name, rest in definitions(crate):
-                if words(name) == 1:
-                    print(f"{name} {place} {kind}{rest}")
     wrong = [line for check in (of_crates, of_definitions, of_labels, of_types) for line in check(crates)]
     print(*wrong, f"names: {len(crates)} crates, {len(wrong)} wrong", sep="\n")
     return 1 if wrong else 0
