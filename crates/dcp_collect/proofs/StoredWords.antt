@@ -1,5 +1,5 @@
 -- The word of a chunk, as its bytes stand in a slot.
-use Rattle.std.proofs.Common.{ℕ, ◌≡◌, ◌+◌, ◌-◌, ◌<◌, ◌≤◌, ◌++◌, inl, inr, Bool, List, length, take, drop, replicate, get_or, sym, subst, ap, ◌∙◌, arith}
+use Rattle.std.proofs.Common.{ℕ, ◌≡◌, ◌+◌, ◌-◌, ◌%◌, ◌<◌, ◌≤◌, ◌++◌, inl, inr, Bool, true, List, length, take, drop, replicate, get_or, sym, subst, ap, ◌∙◌, arith}
 use Rattle.std.proofs.lemmas.Bool.{cases_lt}
 use Rattle.std.proofs.lemmas.List.{get_or_past, get_or-take, get_or-drop, get_or-replicate, length-take-le, length-drop, length-replicate}
 use Rattle.std.specs.List.{Contains}
@@ -14,7 +14,7 @@ use Rattle.dcp_collect.proofs.Received.{at_chunk, at_fill, at_parity, word_at, w
 -- It is that of the fragments outside the erased positions.
 pub word_agrees : (count : ℕ) (fs : List NumberedFragment) (marks : List Bool) (bytes word : List ℕ) (k start : ℕ) → k ≤ 207
     → MarksDescribe count fs marks bytes start (start + k + 48) → length word ≡ 255
-    → ((j : ℕ) → j < k + 48 → get_or word (position k j) 0 ≡ get_or bytes (start + j) 0)
+    → ((j : ℕ) → j < k + 48 → has_index fs ((start + j) % count) ≡ true → get_or word (position k j) 0 ≡ get_or bytes (start + j) 0)
     → ((p : ℕ) → k ≤ p → p < 207 → get_or word p 0 ≡ 0)
     → AgreesOutside (erased_positions count (has_index fs) start k (k + 48)) (received_word count fs start k) word
 word_agrees count fs marks bytes word k start few t long stand fill = record {
@@ -27,7 +27,7 @@ word_agrees count fs marks bytes word k start few t long stand fill = record {
       | inl inside ↦
           let at = position_in_chunk k p inside in
           let has = kept_outside count (has_index fs) start k (k + 48) p (omega arith) (λ c. out (subst (Contains (erased_positions count (has_index fs) start k (k + 48))) at c)) in
-          ap (λ n. get_or word n 0) (sym at) ∙ stand p (omega arith) ∙ sym (t.by_bytes (start + p) (omega arith) (omega (arith, inside)) has)
+          ap (λ n. get_or word n 0) (sym at) ∙ stand p (omega arith) has ∙ sym (t.by_bytes (start + p) (omega arith) (omega (arith, inside)) has)
           ∙ sym (word_at count fs start k p within ∙ at_chunk count fs start k p inside)
       | inr beyond ↦ elim (cases_lt p 207) [
         | inl gap ↦ fill p beyond gap ∙ sym (word_at count fs start k p within ∙ at_fill count fs start k p beyond gap)
@@ -37,7 +37,7 @@ word_agrees count fs marks bytes word k start few t long stand fill = record {
             let has = kept_outside count (has_index fs) start k (k + 48) (k + (p - 207)) (omega (arith, within, behind))
             (λ c. out (subst (Contains (erased_positions count (has_index fs) start k (k + 48))) at c)) in
             let place : start + (k + (p - 207)) ≡ start + k + (p - 207) = omega arith in
-            ap (λ n. get_or word n 0) (sym at) ∙ stand (k + (p - 207)) (omega (arith, within, behind))
+            ap (λ n. get_or word n 0) (sym at) ∙ stand (k + (p - 207)) (omega (arith, within, behind)) has
             ∙ sym (t.by_bytes (start + (k + (p - 207))) (omega arith) (omega (arith, within, behind)) has)
             ∙ ap (received count fs) place
             ∙ sym (word_at count fs start k p within ∙ at_parity count fs start k p beyond behind)

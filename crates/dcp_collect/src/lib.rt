@@ -22,6 +22,7 @@ mod form;
 mod head;
 mod item;
 mod made;
+mod multiples;
 mod number;
 mod payloads;
 mod read;

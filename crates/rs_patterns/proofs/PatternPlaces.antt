@@ -20,7 +20,7 @@ positions_below count a b some same start k zero = refl
 positions_below count a b some same start k (suc n) =
     ap₂ (λ l x. l ++ cond x [] (position k n ∷ [])) (positions_below count a b some same start k n) (same ((start + n) % count) (mod_below (start + n) count some))
 
-same_index : (count start n : ℕ) → (start % count + n) % count ≡ (start + n) % count
+pub same_index : (count start n : ℕ) → (start % count + n) % count ≡ (start + n) % count
 same_index count start n =
     let whole = div-add-mod start count in
     let e : start + n ≡ start % count + n + count * (start / count) = omega (arith, whole) in

@@ -34,8 +34,8 @@ pub(crate) fn write_erased(
     erased
 }
 
-// The index of the fragment that has the next place of the coded chunks.
-fn next_index(index: usize, count: usize) -> usize
+/// The index of the fragment that has the next place of the coded chunks.
+pub fn next_index(index: usize, count: usize) -> usize
     requires { index < count }
     ensures { (place : ℕ) → index ≡ place % count → result ≡ (place + 1) % count }
 {

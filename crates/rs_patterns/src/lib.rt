@@ -16,4 +16,5 @@
 mod erased;
 mod patterns;
 
+pub use erased::next_index;
 pub use patterns::Patterns;
