@@ -24,4 +24,6 @@ mod order;
 #[cfg(test)]
 mod runs;
 #[cfg(test)]
+mod small_chunks;
+#[cfg(test)]
 mod without_code;
