@@ -1,7 +1,9 @@
 use Rattle.std.proofs.Common.{◌≡◌, ◌-◌, length, take, drop, sym, subst, ◌∙◌, arith}
 use Rattle.std.proofs.lemmas.Result.{err_from_is_err_and}
+use Rattle.dcp_pft.specs.Faults.{table}
 use Rattle.dcp_pft.specs.Head.{PftFragment}
 use Rattle.dcp_pft.specs.Reading.{IsPft}
+use Rattle.dcp_pft.proofs.Table.{handed, none_first}
 use Rattle.dcp_pft.proofs.Spelled.{fragment_at}
 use Rattle.dcp_pft.proofs.Answered.{fault_only, fault_is, found_at, given_is, payload_is, is_fragment_at}
 use Rattle.dcp_pft.proofs.read.read_fragment.Goals as goal
@@ -31,3 +33,20 @@ returns-clause-found c = subst (λ (f : PftFragment). IsPft f c.args.datagram.no
 
 pub returns-clause-only : goal.returns-clause-only
 returns-clause-only c = λ f is. given c ∙ is_fragment_at f c.args.datagram.now is
+
+pub returns-in_err-head-clause-found : goal.returns-in_err-head-clause-found
+returns-in_err-head-clause-found c = let p = err_from_is_err_and c.from_residual.result c.from_residual.ensures.1 in rw p.1 tt
+
+pub returns-in_err-head-clause-fault : goal.returns-in_err-head-clause-fault
+returns-in_err-head-clause-fault c =
+    let p = err_from_is_err_and c.from_residual.result c.from_residual.ensures.1 in
+    handed c.from_residual.result p.0 c.in_err-head.field-0.0 table c.args.datagram.now p.1 p.2 c.in_err-head.ensures.fault
+
+pub returns-in_err-head-clause-lent : goal.returns-in_err-head-clause-lent
+returns-in_err-head-clause-lent c = let p = err_from_is_err_and c.from_residual.result c.from_residual.ensures.1 in rw p.1 tt
+
+pub returns-clause-faults : goal.returns-clause-faults
+returns-clause-faults c = λ fault is. absurd (none_first table fault c.args.datagram.now c.in_ok-head.ensures.right is)
+
+pub returns-clause-lent : goal.returns-clause-lent
+returns-clause-lent c = payload_is c.args.datagram.now c.size_of_head.result c.size_of_head.ensures
