@@ -415,33 +415,20 @@ pub(crate) fn request(
         (map option_said options.now)) }
     ensures text { IfOk result HasTextNames }
 {
-    if command == "fac" {
-        bare(Request::Fac, texts, options)
-    } else if command == "check" {
-        check(alloc, texts, options)
-    } else if command == "serve" {
-        serve(alloc, texts, options)
-    } else if command == "receive" {
-        receive(alloc, texts, options)
-    } else if command == "count" {
-        count(texts, options)
-    } else if command == "air" {
-        air(alloc, texts, options)
-    } else if command == "show" {
-        bare(Request::Show, texts, options)
-    } else if command == "convert" {
-        convert(texts, options)
-    } else if command == "exercise" {
-        exercise(texts, options)
-    } else if command == "gate" {
-        gate(alloc, texts, options)
-    } else if command == "pack" {
-        pack(texts, options)
-    } else if command == "unpack" {
-        unpack(texts, options)
-    } else if command == "texts" {
-        messages(texts, options)
-    } else {
-        Err(WordsFault::Words)
+    match command {
+        "fac" => bare(Request::Fac, texts, options),
+        "check" => check(alloc, texts, options),
+        "serve" => serve(alloc, texts, options),
+        "receive" => receive(alloc, texts, options),
+        "count" => count(texts, options),
+        "air" => air(alloc, texts, options),
+        "show" => bare(Request::Show, texts, options),
+        "convert" => convert(texts, options),
+        "exercise" => exercise(texts, options),
+        "gate" => gate(alloc, texts, options),
+        "pack" => pack(texts, options),
+        "unpack" => unpack(texts, options),
+        "texts" => messages(texts, options),
+        _ => Err(WordsFault::Words),
     }
 }
