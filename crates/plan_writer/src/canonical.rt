@@ -4,6 +4,7 @@ ghost use Rattle.std.specs.Prelude.{◌≡◌, ◌++◌, IfOk, OnOk};
 ghost use Rattle.std.specs.List.{flat_map};
 ghost use Rattle.plan_writer.specs.Canonical.{text_of, front_lines, settings_lines, service_lines, stream_lines, clock_lines, entity_lines, block_lines, config_lines, canonical};
 
+use crate::lines::{write_clock_line, write_service};
 use crate::{write_entity, write_line, write_stream};
 use drm_bits::{NoMemory, Octets};
 use drm_schedule::{Clock, Config, Entity, Schedule, Service, Stream, Timed};
@@ -57,7 +58,7 @@ fn write_services(alloc: Global, out: &mut Vec<u8>, services: &[Service]) -> Res
     ensures { OnOk result (out.new.items ≡ out.old.items ++ text_of (service_lines services.now)) }
 {
     for service in services {
-        write_line(alloc, out, &Line::Service(*service))?;
+        write_service(alloc, out, service)?;
     }
     Ok(())
 }
@@ -74,10 +75,10 @@ fn write_streams(alloc: Global, out: &mut Vec<u8>, streams: &[Stream]) -> Result
 fn write_clock(alloc: Global, out: &mut Vec<u8>, clock: Option<Clock>) -> Result<(), AllocError>
     ensures { OnOk result (out.new.items ≡ out.old.items ++ text_of (clock_lines clock)) }
 {
-    if let Some(clock) = clock {
-        write_line(alloc, out, &Line::Clock(clock))?;
+    match clock {
+        Some(clock) => write_clock_line(alloc, out, &clock),
+        None => Ok(()),
     }
-    Ok(())
 }
 
 fn write_entities(alloc: Global, out: &mut Vec<u8>, entities: &[Entity]) -> Result<(), AllocError>

@@ -1,12 +1,10 @@
 //! The canonical lines of entities.
 
-ghost use Rattle.std.specs.Prelude.{◌≡◌, ◌++◌, ◌∷◌, false, decimal, OnOk, IfOk, string_bytes};
-ghost use Rattle.std.specs.List.{join_with_byte};
-ghost use Rattle.plan_grammar.specs.Said.{line_text, entity_text, config_words};
+ghost use Rattle.std.specs.Prelude.{◌≡◌, ◌++◌, false, OnOk};
+ghost use Rattle.plan_grammar.specs.Said.{line_text, entity_text};
 
-use crate::words_out::{
-    bit, bytes_or_none, frequencies, number, optional_byte, six_digits, write_words,
-};
+use crate::word::Word;
+use crate::words_out::write_words;
 use drm_sdc::{AppMode, Body, Channels, Entity};
 use plan_grammar::Line;
 use std::alloc::{AllocError, Global};
@@ -14,11 +12,7 @@ use std::alloc::{AllocError, Global};
 fn label(alloc: Global, out: &mut Vec<u8>, short: u8, text: &[u8]) -> Result<(), AllocError>
     ensures { OnOk result (out.new.items ≡ out.old.items ++ entity_text false (Body.Label short 0 text.now)) }
 {
-    let front = format!(in alloc; "label {short} ")?;
-    out.extend_from_slice(front.as_bytes())?;
-    out.extend_from_slice(text)?;
-    out.push(b'\n')?;
-    Ok(())
+    write_words(alloc, out, "label", &[Word::Byte(short), Word::Plain(text)])
 }
 
 fn freq(
@@ -32,19 +26,14 @@ fn freq(
 ) -> Result<(), AllocError>
     ensures { OnOk result (out.new.items ≡ out.old.items ++ entity_text false (Body.Freq sync layer restriction region list.now)) }
 {
-    let sync = bit(alloc, sync)?;
-    let layer = bit(alloc, layer)?;
-    let restriction = optional_byte(alloc, restriction)?;
-    let region = optional_byte(alloc, region)?;
-    let list = frequencies(alloc, list)?;
     let words = [
-        sync.as_str(),
-        layer.as_str(),
-        restriction.as_str(),
-        region.as_str(),
-        list.as_str(),
+        Word::Bit(sync),
+        Word::Bit(layer),
+        Word::MaybeByte(restriction),
+        Word::MaybeByte(region),
+        Word::Frequencies(list),
     ];
-    write_words(out, "freq", &words)
+    write_words(alloc, out, "freq", &words)
 }
 
 fn when(
@@ -57,12 +46,13 @@ fn when(
 ) -> Result<(), AllocError>
     ensures { OnOk result (out.new.items ≡ out.old.items ++ entity_text false (Body.When id day start duration)) }
 {
-    let id = number(alloc, u64::from(id))?;
-    let day = number(alloc, u64::from(day))?;
-    let start = number(alloc, u64::from(start))?;
-    let duration = number(alloc, u64::from(duration))?;
-    let words = [id.as_str(), day.as_str(), start.as_str(), duration.as_str()];
-    write_words(out, "when", &words)
+    let words = [
+        Word::Byte(id),
+        Word::Byte(day),
+        Word::Number(u32::from(start)),
+        Word::Number(u32::from(duration)),
+    ];
+    write_words(alloc, out, "when", &words)
 }
 
 fn app(
@@ -77,55 +67,31 @@ fn app(
 ) -> Result<(), AllocError>
     ensures { OnOk result (out.new.items ≡ out.old.items ++ entity_text false (Body.App short stream packet enhancement domain bytes.now)) }
 {
-    let short = number(alloc, u64::from(short))?;
-    let stream = number(alloc, u64::from(stream))?;
-    let enhancement = bit(alloc, enhancement)?;
-    let domain = number(alloc, u64::from(domain))?;
-    let bytes = bytes_or_none(alloc, bytes)?;
     match packet {
         AppMode::Sync { .. } => {
-            let form = String::from_str(alloc, "sync")?;
             let words = [
-                short.as_str(),
-                stream.as_str(),
-                form.as_str(),
-                enhancement.as_str(),
-                domain.as_str(),
-                bytes.as_str(),
+                Word::Byte(short),
+                Word::Byte(stream),
+                Word::Mode(packet),
+                Word::Bit(enhancement),
+                Word::Byte(domain),
+                Word::Hex(bytes),
             ];
-            write_words(out, "app", &words)
+            write_words(alloc, out, "app", &words)
         }
         AppMode::Packet { unit, pid, length } => {
-            let form = String::from_str(alloc, "packet")?;
-            let unit = bit(alloc, unit)?;
-            let pid = number(alloc, u64::from(pid))?;
-            let length = number(alloc, u64::from(length))?;
             let words = [
-                short.as_str(),
-                stream.as_str(),
-                form.as_str(),
-                unit.as_str(),
-                pid.as_str(),
-                enhancement.as_str(),
-                domain.as_str(),
-                length.as_str(),
-                bytes.as_str(),
+                Word::Byte(short),
+                Word::Byte(stream),
+                Word::Mode(packet),
+                Word::Bit(unit),
+                Word::Byte(pid),
+                Word::Bit(enhancement),
+                Word::Byte(domain),
+                Word::Byte(length),
+                Word::Hex(bytes),
             ];
-            write_words(out, "app", &words)
-        }
-    }
-}
-
-// The last words of an audio line: without config bytes there is only the first of them.
-fn coder_and_config(alloc: Global, coder: u8, config: &[u8]) -> Result<String, AllocError>
-    ensures { IfOk result (λ s. string_bytes s ≡ join_with_byte 32 (decimal coder ∷ config_words config.now)) }
-{
-    match config {
-        [] => number(alloc, u64::from(coder)),
-        _ => {
-            let config = hex::encode(alloc, config)?;
-            let text = format!(in alloc; "{coder} {config}")?;
-            Ok(text)
+            write_words(alloc, out, "app", &words)
         }
     }
 }
@@ -152,27 +118,23 @@ fn audio(
 ) -> Result<(), AllocError>
     ensures { OnOk result (out.new.items ≡ out.old.items ++ entity_text false (Body.Audio short stream coding.coding coding.sbr coding.mode coding.rate coding.text coding.enhancement coding.coder false config.now)) }
 {
-    let short = number(alloc, u64::from(short))?;
-    let stream = number(alloc, u64::from(stream))?;
-    let code = number(alloc, u64::from(coding.coding))?;
-    let sbr = bit(alloc, coding.sbr)?;
-    let mode = number(alloc, u64::from(coding.mode))?;
-    let rate = number(alloc, u64::from(coding.rate))?;
-    let text = bit(alloc, coding.text)?;
-    let enhancement = bit(alloc, coding.enhancement)?;
-    let last = coder_and_config(alloc, coding.coder, config)?;
     let words = [
-        short.as_str(),
-        stream.as_str(),
-        code.as_str(),
-        sbr.as_str(),
-        mode.as_str(),
-        rate.as_str(),
-        text.as_str(),
-        enhancement.as_str(),
-        last.as_str(),
+        Word::Byte(short),
+        Word::Byte(stream),
+        Word::Byte(coding.coding),
+        Word::Bit(coding.sbr),
+        Word::Byte(coding.mode),
+        Word::Byte(coding.rate),
+        Word::Bit(coding.text),
+        Word::Bit(coding.enhancement),
+        Word::Byte(coding.coder),
+        Word::Hex(config),
     ];
-    write_words(out, "audio", &words)
+    // Without config bytes there is no last word.
+    match config {
+        [] => write_words(alloc, out, "audio", &words[..9]),
+        _ => write_words(alloc, out, "audio", &words),
+    }
 }
 
 fn language(
@@ -184,11 +146,12 @@ fn language(
 ) -> Result<(), AllocError>
     ensures { OnOk result (out.new.items ≡ out.old.items ++ entity_text false (Body.Language short 0 language country)) }
 {
-    let short = number(alloc, u64::from(short))?;
-    let language = six_digits(alloc, language)?;
-    let country = hex::encode(alloc, &country.to_be_bytes())?;
-    let words = [short.as_str(), language.as_str(), country.as_str()];
-    write_words(out, "language", &words)
+    let words = [
+        Word::Byte(short),
+        Word::SixDigits(language),
+        Word::FourDigits(country),
+    ];
+    write_words(alloc, out, "language", &words)
 }
 
 fn raw(
@@ -201,17 +164,13 @@ fn raw(
 ) -> Result<(), AllocError>
     ensures { OnOk result (out.new.items ≡ out.old.items ++ entity_text version (Body.Raw kind nibble bytes.now)) }
 {
-    let kind = number(alloc, u64::from(kind))?;
-    let version = bit(alloc, version)?;
-    let nibble = number(alloc, u64::from(nibble))?;
-    let bytes = bytes_or_none(alloc, bytes)?;
     let words = [
-        kind.as_str(),
-        version.as_str(),
-        nibble.as_str(),
-        bytes.as_str(),
+        Word::Byte(kind),
+        Word::Bit(version),
+        Word::Byte(nibble),
+        Word::Hex(bytes),
     ];
-    write_words(out, "raw", &words)
+    write_words(alloc, out, "raw", &words)
 }
 
 /// Writes an entity's line.
@@ -285,6 +244,6 @@ pub fn write_entity(alloc: Global, out: &mut Vec<u8>, entity: &Entity) -> Result
             nibble,
             bytes,
         } => raw(alloc, out, entity.version, *kind, *nibble, bytes.as_slice()),
-        _ => write_words(out, "raw", &[]),
+        _ => write_words(alloc, out, "raw", &[]),
     }
 }

@@ -15,6 +15,7 @@
 mod canonical;
 mod entities;
 mod lines;
+mod word;
 mod words_out;
 
 pub use canonical::write_plan;

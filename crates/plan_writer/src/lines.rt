@@ -1,12 +1,13 @@
 //! The canonical lines but those of entities.
 
-ghost use Rattle.std.specs.Prelude.{◌≡◌, ◌++◌, [], OnOk, IfOk, string_bytes};
-ghost use Rattle.dcp_pft.specs.declared.carry.Carry.TheVariants.{Pft};
-ghost use Rattle.drm_schedule.specs.declared.stream.Content.TheVariants.{Fill, File};
+ghost use Rattle.std.specs.Prelude.{◌≡◌, ◌++◌, ◌∷◌, [], codes, decimal, OnOk};
+ghost use Rattle.std.specs.List.{join_with_byte};
 ghost use Rattle.plan_grammar.specs.Said.{line_text, IsSetting, depth_word, kind_word};
+ghost use Rattle.plan_writer.specs.Words.{word_text};
 
 use crate::entities::write_entity;
-use crate::words_out::{bit, number, six_digits, write_words};
+use crate::word::Word;
+use crate::words_out::write_words;
 use drm_fac::Service;
 use drm_schedule::{Carry, Clock, Content, Stream};
 use plan_grammar::{Line, Version};
@@ -24,109 +25,133 @@ fn kind(is_data: bool) -> &'static str
     if is_data { "data" } else { "audio" }
 }
 
-fn pft_line(alloc: Global, m: u8, mtu: u16) -> Result<String, AllocError>
-    ensures { IfOk result (λ s. string_bytes s ≡ line_text (Line.Carry (Pft m mtu))) }
+fn write_version(alloc: Global, out: &mut Vec<u8>, version: Version) -> Result<(), AllocError>
+    ensures { OnOk result (out.new.items ≡ out.old.items ++ line_text (Line.Version version)) }
 {
-    let text = format!(in alloc; "carry pft {m} {mtu}\n")?;
-    Ok(text)
+    match version {
+        Version::One => write_words(alloc, out, "drmplan", &[Word::Text("1")]),
+        Version::Two => write_words(alloc, out, "drmplan", &[Word::Text("2")]),
+    }
 }
 
-fn carry_line(alloc: Global, carry: Carry) -> Result<String, AllocError>
-    ensures { IfOk result (λ s. string_bytes s ≡ line_text (Line.Carry carry)) }
+fn write_carry(alloc: Global, out: &mut Vec<u8>, carry: Carry) -> Result<(), AllocError>
+    ensures { OnOk result (out.new.items ≡ out.old.items ++ line_text (Line.Carry carry)) }
 {
     match carry {
-        Carry::Plain => String::from_str(alloc, "carry plain\n"),
-        Carry::Pft { m, mtu } => pft_line(alloc, m, mtu),
+        Carry::Plain => write_words(alloc, out, "carry", &[Word::Text("plain")]),
+        Carry::Pft { m, mtu } => {
+            let words = [
+                Word::Text("pft"),
+                Word::Byte(m),
+                Word::Number(u32::from(mtu)),
+            ];
+            write_words(alloc, out, "carry", &words)
+        }
     }
 }
 
-fn write_service(alloc: Global, out: &mut Vec<u8>, service: &Service) -> Result<(), AllocError>
-    ensures { OnOk result (out.new.items ≡ out.old.items ++ line_text (Line.Service service.now)) }
-{
-    let id = six_digits(alloc, service.id)?;
-    let short = number(alloc, u64::from(service.short))?;
-    let ca = bit(alloc, service.ca)?;
-    let language = number(alloc, u64::from(service.language))?;
-    let kind = String::from_str(alloc, kind(service.is_data))?;
-    let descriptor = number(alloc, u64::from(service.descriptor))?;
-    let data_ca = bit(alloc, service.data_ca)?;
-    let words = [
-        id.as_str(),
-        short.as_str(),
-        ca.as_str(),
-        language.as_str(),
-        kind.as_str(),
-        descriptor.as_str(),
-        data_ca.as_str(),
-    ];
-    write_words(out, "service", &words)
-}
-
-fn sdc_line(alloc: Global, qam4: bool) -> Result<String, AllocError>
-    ensures { IfOk result (λ s. string_bytes s ≡ line_text (Line.Sdc qam4)) }
-{
-    if qam4 {
-        String::from_str(alloc, "sdc 1\n")
-    } else {
-        String::from_str(alloc, "sdc 0\n")
-    }
-}
-
-fn clock_line(alloc: Global, clock: &Clock) -> Result<String, AllocError>
-    ensures { IfOk result (λ s. string_bytes s ≡ line_text (Line.Clock clock.now)) }
-{
-    let (mjd, hours, minutes) = (clock.mjd, clock.hours, clock.minutes);
-    let text = format!(in alloc; "clock {mjd} {hours} {minutes}\n")?;
-    Ok(text)
-}
-
-// The line of a setting, or of the front of a text.
-fn setting_line(alloc: Global, line: &Line) -> Result<String, AllocError>
-    requires { IsSetting line.now }
-    ensures { IfOk result (λ s. string_bytes s ≡ line_text line.now) }
-{
-    let text = match line {
-        Line::Carry(carry) => carry_line(alloc, *carry)?,
-        Line::First { seq, dlfc } => format!(in alloc; "first {seq} {dlfc}\n")?,
-        Line::Length(n) => format!(in alloc; "length {n}\n")?,
-        Line::Config { start, countdown } => format!(in alloc; "config {start} {countdown}\n")?,
-        Line::Mode(mode) => format!(in alloc; "mode {}\n", mode.letter())?,
-        Line::Occupancy(n) => format!(in alloc; "occupancy {n}\n")?,
-        Line::Depth { short } => format!(in alloc; "depth {}\n", depth(*short))?,
-        Line::Msc(n) => format!(in alloc; "msc {n}\n")?,
-        Line::Sdc { qam4 } => sdc_line(alloc, *qam4)?,
-        Line::Protection { a, b } => format!(in alloc; "protection {a} {b}\n")?,
-        Line::Room(n) => format!(in alloc; "room {n}\n")?,
-        Line::Clock(clock) => clock_line(alloc, clock)?,
-        Line::Block { from } => format!(in alloc; "block {from}\n")?,
-        Line::Version(Version::One) => format!(in alloc; "drmplan 1\n")?,
-        _ => format!(in alloc; "drmplan 2\n")?,
-    };
-    Ok(text)
-}
-
-fn write_fill(alloc: Global, out: &mut Vec<u8>, a: u16, b: u16, byte: u8) -> Result<(), AllocError>
-    ensures { OnOk result (out.new.items ≡ out.old.items ++ line_text (Line.Stream (record { a = a; b = b; content = Fill byte }))) }
-{
-    let byte = hex::encode(alloc, &[byte])?;
-    let text = format!(in alloc; "stream {a} {b} fill {byte}\n")?;
-    out.extend_from_slice(text.as_bytes())
-}
-
-fn write_file(
+/// Writes a service's line.
+pub(crate) fn write_service(
     alloc: Global,
     out: &mut Vec<u8>,
-    a: u16,
-    b: u16,
-    name: &[u8],
+    service: &Service,
 ) -> Result<(), AllocError>
-    ensures { OnOk result (out.new.items ≡ out.old.items ++ line_text (Line.Stream (record { a = a; b = b; content = File name.now [] }))) }
+    ensures { OnOk result (out.new.items ≡ out.old.items ++ line_text (Line.Service service.now)) }
 {
-    let text = format!(in alloc; "stream {a} {b} file ")?;
-    out.extend_from_slice(text.as_bytes())?;
-    out.extend_from_slice(name)?;
-    out.push(b'\n')?;
-    Ok(())
+    let words = [
+        Word::SixDigits(service.id),
+        Word::Byte(service.short),
+        Word::Bit(service.ca),
+        Word::Byte(service.language),
+        Word::Text(kind(service.is_data)),
+        Word::Byte(service.descriptor),
+        Word::Bit(service.data_ca),
+    ];
+    write_words(alloc, out, "service", &words)
+}
+
+/// Writes a clock's line.
+pub(crate) fn write_clock_line(
+    alloc: Global,
+    out: &mut Vec<u8>,
+    clock: &Clock,
+) -> Result<(), AllocError>
+    ensures { OnOk result (out.new.items ≡ out.old.items ++ line_text (Line.Clock clock.now)) }
+{
+    let words = [
+        Word::Number(clock.mjd),
+        Word::Byte(clock.hours),
+        Word::Byte(clock.minutes),
+    ];
+    write_words(alloc, out, "clock", &words)
+}
+
+fn write_number(alloc: Global, out: &mut Vec<u8>, keyword: &str, n: u32) -> Result<(), AllocError>
+    ensures { OnOk result (out.new.items ≡ out.old.items ++ (join_with_byte 32 (keyword.now ∷ decimal n ∷ []) ++ 10 ∷ [])) }
+{
+    write_words(alloc, out, keyword, &[Word::Number(n)])
+}
+
+fn write_numbers(
+    alloc: Global,
+    out: &mut Vec<u8>,
+    keyword: &str,
+    first: u32,
+    second: u32,
+) -> Result<(), AllocError>
+    ensures { OnOk result (out.new.items ≡ out.old.items ++ (join_with_byte 32 (keyword.now ∷ decimal first ∷ decimal second ∷ []) ++ 10 ∷ [])) }
+{
+    let words = [Word::Number(first), Word::Number(second)];
+    write_words(alloc, out, keyword, &words)
+}
+
+// Writes the line of a setting, or of the front of a text.
+fn write_setting(alloc: Global, out: &mut Vec<u8>, line: &Line) -> Result<(), AllocError>
+    requires { IsSetting line.now }
+    ensures { OnOk result (out.new.items ≡ out.old.items ++ line_text line.now) }
+{
+    match line {
+        Line::Carry(carry) => write_carry(alloc, out, *carry),
+        Line::First { seq, dlfc } => write_numbers(alloc, out, "first", u32::from(*seq), *dlfc),
+        Line::Length(n) => write_number(alloc, out, "length", *n),
+        Line::Config { start, countdown } => {
+            write_numbers(alloc, out, "config", *start, u32::from(*countdown))
+        }
+        Line::Mode(mode) => write_words(alloc, out, "mode", &[Word::Text(mode.letter())]),
+        Line::Occupancy(n) => write_number(alloc, out, "occupancy", u32::from(*n)),
+        Line::Depth { short } => write_words(alloc, out, "depth", &[Word::Text(depth(*short))]),
+        Line::Msc(n) => write_number(alloc, out, "msc", u32::from(*n)),
+        Line::Sdc { qam4 } => write_words(alloc, out, "sdc", &[Word::Bit(*qam4)]),
+        Line::Protection { a, b } => {
+            write_numbers(alloc, out, "protection", u32::from(*a), u32::from(*b))
+        }
+        Line::Room(n) => write_number(alloc, out, "room", u32::from(*n)),
+        Line::Clock(clock) => write_clock_line(alloc, out, clock),
+        Line::Block { from } => write_number(alloc, out, "block", *from),
+        Line::Version(version) => write_version(alloc, out, *version),
+        // The others aren't settings.
+        _ => Ok(()),
+    }
+}
+
+// Writes the line of a stream of these bytes in its parts and this content.
+fn write_stream_of<'a>(
+    alloc: Global,
+    out: &mut Vec<u8>,
+    stream: &Stream,
+    kind: &'a str,
+    content: Word<'a>,
+) -> Result<(), AllocError>
+    ensures { OnOk result (out.new.items ≡ out.old.items ++ (join_with_byte 32 (codes "stream" ∷ decimal stream.now.a ∷ decimal stream.now.b ∷ kind.now ∷ word_text content.entry ∷ []) ++ 10 ∷ [])) }
+{
+    let (a, b) = (stream.a, stream.b);
+    let words = [
+        Word::Number(u32::from(a)),
+        Word::Number(u32::from(b)),
+        Word::Text(kind),
+        content,
+    ];
+    write_words(alloc, out, "stream", &words)
 }
 
 /// Writes a stream's line, its file by the name.
@@ -134,8 +159,16 @@ pub fn write_stream(alloc: Global, out: &mut Vec<u8>, stream: &Stream) -> Result
     ensures { OnOk result (out.new.items ≡ out.old.items ++ line_text (Line.Stream stream.now)) }
 {
     match &stream.content {
-        Content::Fill(byte) => write_fill(alloc, out, stream.a, stream.b, *byte),
-        Content::File { name, .. } => write_file(alloc, out, stream.a, stream.b, name.as_slice()),
+        Content::Fill(byte) => write_stream_of(
+            alloc,
+            out,
+            stream,
+            "fill",
+            Word::MaybeByte(Some(*byte)),
+        ),
+        Content::File { name, .. } => {
+            write_stream_of(alloc, out, stream, "file", Word::Plain(name.as_slice()))
+        }
     }
 }
 
@@ -150,12 +183,4 @@ pub fn write_line(alloc: Global, out: &mut Vec<u8>, line: &Line) -> Result<(), A
         Line::Service(service) => write_service(alloc, out, service),
         _ => write_setting(alloc, out, line),
     }
-}
-
-fn write_setting(alloc: Global, out: &mut Vec<u8>, line: &Line) -> Result<(), AllocError>
-    requires { IsSetting line.now }
-    ensures { OnOk result (out.new.items ≡ out.old.items ++ line_text line.now) }
-{
-    let text = setting_line(alloc, line)?;
-    out.extend_from_slice(text.as_bytes())
 }

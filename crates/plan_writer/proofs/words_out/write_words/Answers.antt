@@ -1,10 +1,12 @@
+use Rattle.std.proofs.Common.{ap}
+use Rattle.plan_writer.specs.Words.{word_text}
 use Rattle.plan_writer.proofs.Joining.{word_on, line_ends}
 use Rattle.plan_writer.proofs.words_out.write_words.Goals as goal
 
 pub loop-word-preserved : goal.loop-word-preserved
 loop-word-preserved c =
-    word_on c.args.words.now c.loop-word.word-index _ c.extend_from_slice.new.self.items c.loop-word.out.items c.push.new.self.items c.extend_from_slice-in-loop-word.new.self.items c.as_bytes-in-loop-word.result.now
-    c.loop-word-test.true c.loop-word.invariant c.in_ok-push.ensures.items c.in_ok-extend_from_slice-2.ensures.items c.as_bytes-in-loop-word.ensures.value
+    word_on c.args.words.now c.loop-word.word-index c.word-item.result c.extend_from_slice.new.self.items c.loop-word.out.items c.push.new.self.items c.write_text.new.out.items _
+    c.loop-word-test.true c.loop-word.invariant c.in_ok-push.ensures.items c.in_ok-write_text.ensures (ap word_text c.word-item.is)
 
 pub returns : goal.returns
 returns c =
