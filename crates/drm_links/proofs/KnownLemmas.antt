@@ -1,7 +1,6 @@
 -- What is told, over one call and over several.
 use Rattle.std.proofs.Common.{◌≡◌, ℕ, ◌+◌, ◌<◌, ◌≤◌, List, [], ◌++◌, length, take, Option, None, Some, IsSome, MatchOption, Result, Ok, Err, IsErr, refl, sym, ◌∙◌, ap, subst, arith, append_assoc, length-append}
 use Rattle.std.proofs.lemmas.List.{append-nil, length-take-le}
-use Rattle.drm_links.specs.declared.sink.WriteOut.TheVariants.{Failed}
 use Rattle.drm_links.specs.declared.source.ReadOut.TheVariants as read
 use Rattle.drm_links.specs.Known.{Known, IfBothKnown, CountsCall, IfBoth, CountsOneCall, Throughout, KnownThrough, RisesWhere, one_more}
 use Rattle.drm_links.specs.Sink.{Output, WritesText, OutputsText, FewWrites}
@@ -12,7 +11,6 @@ use Rattle.drm_links.specs.Link.{Traffic}
 use Rattle.drm_links.specs.Dock.{DockContents, LinkStart, DockOpens, start_at, first_traffic}
 use Rattle.drm_links.specs.declared.dock.Address.{Address}
 use Rattle.drm_links.specs.declared.dock.Opened.TheVariants as opened
-use Rattle.std.specs.FinMap as map
 
 -- ---- counts
 

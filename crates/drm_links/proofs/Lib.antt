@@ -1,6 +1,7 @@
 pub mod KnownLemmas
 pub mod TransmissionLemmas
 pub mod MemoryLemmas
+pub mod MemoryCalls
 pub mod LinkLemmas
 pub mod DockLemmas
 pub mod FilesLemmas

@@ -4,7 +4,6 @@ use Rattle.std.proofs.lemmas.List.{append-nil}
 use Rattle.drm_links.specs.Known.{Known}
 use Rattle.drm_links.specs.Link.{Traffic, KeepsAnswers}
 use Rattle.drm_links.specs.Transmission.{LinkTransmits, SendsAll, SendsNoMore, WaitsBetween, TakesSends, fewer, since, still}
-use Rattle.drm_links.specs.declared.link.Sent.TheVariants as send
 use Rattle.drm_links.proofs.KnownLemmas.{Tells-nothing, Tells-then, Tells-weaker, Tells-both}
 
 -- ---- over many calls

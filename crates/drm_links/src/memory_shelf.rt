@@ -103,6 +103,22 @@ impl MemShelf {
             copy_within(alloc, self.files.get(name), limit)
         }
     }
+
+    // Takes one load.
+    fn take_load(&mut self, alloc: Global, name: &str, limit: usize) -> Loaded
+        ensures loads { ShelfLoads result name.now limit (contents_of self.old) }
+        ensures exact { self.new ≡ shelf_after result name.now self.old }
+    {
+        let loaded = self.next_load(alloc, name, limit);
+        self.loads = self.loads.saturating_add(1);
+        if matches!(&loaded, Loaded::NoMemory) || self.note(alloc, name).is_err() {
+            return Loaded::NoMemory;
+        }
+        if matches!(&loaded, Loaded::Failed) {
+            self.faults = self.faults.saturating_add(1);
+        }
+        loaded
+    }
 }
 
 impl Shelf for MemShelf {
@@ -118,15 +134,7 @@ impl Shelf for MemShelf {
         ensures counts_call { CountsCall (λ files. files.loads) (shelf_known self.old) (shelf_known self.new) }
         ensures cause { HasCause (shelf_known self.old) (shelf_known self.new) (result ≡ Loaded.Failed) }
     {
-        let loaded = self.next_load(alloc, name, limit);
-        self.loads = self.loads.saturating_add(1);
-        if matches!(&loaded, Loaded::NoMemory) || self.note(alloc, name).is_err() {
-            return Loaded::NoMemory;
-        }
-        if matches!(&loaded, Loaded::Failed) {
-            self.faults = self.faults.saturating_add(1);
-        }
-        loaded
+        self.take_load(alloc, name, limit)
     }
 }
 

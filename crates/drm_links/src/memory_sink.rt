@@ -75,18 +75,12 @@ impl MemSink {
     {
         &self.written
     }
-}
 
-impl Sink for MemSink {
-    ghost known = { sink_known };
-
-    fn write(&mut self, bytes: &[u8]) -> WriteOut
+    // Takes one write, where there is room.
+    fn write_next(&mut self, bytes: &[u8]) -> WriteOut
         requires { 0 < length bytes.now }
         ensures exact { MemSinkWrites result bytes.now self.old self.new }
         ensures moves_bytes { WritesSome result bytes.now }
-        ensures appended { IfBothKnown (sink_known self.old) (sink_known self.new) (SinkAppends result bytes.now) }
-        ensures counts_call { CountsCall (λ output. output.calls) (sink_known self.old) (sink_known self.new) }
-        ensures cause { HasCause (sink_known self.old) (sink_known self.new) (result ≡ WriteOut.Failed) }
     {
         let call = self.calls;
         self.calls = call.saturating_add(1);
@@ -100,5 +94,20 @@ impl Sink for MemSink {
             unreachable!()
         };
         WriteOut::Wrote(n)
+    }
+}
+
+impl Sink for MemSink {
+    ghost known = { sink_known };
+
+    fn write(&mut self, bytes: &[u8]) -> WriteOut
+        requires { 0 < length bytes.now }
+        ensures exact { MemSinkWrites result bytes.now self.old self.new }
+        ensures moves_bytes { WritesSome result bytes.now }
+        ensures appended { IfBothKnown (sink_known self.old) (sink_known self.new) (SinkAppends result bytes.now) }
+        ensures counts_call { CountsCall (λ output. output.calls) (sink_known self.old) (sink_known self.new) }
+        ensures cause { HasCause (sink_known self.old) (sink_known self.new) (result ≡ WriteOut.Failed) }
+    {
+        self.write_next(bytes)
     }
 }

@@ -69,18 +69,12 @@ impl MemSource {
             faults: 0,
         })
     }
-}
 
-impl Source for MemSource {
-    ghost known = { source_known };
-
-    fn read(&mut self, buf: &mut [u8]) -> ReadOut
+    // Takes one read from what is left.
+    fn read_next(&mut self, buf: &mut [u8]) -> ReadOut
         requires { 0 < length buf.old }
         ensures exact { MemSourceReads result buf.old buf.new self.old self.new }
         ensures moves_bytes { ReadsSome result buf.old }
-        ensures bytes { IfBothKnown (source_known self.old) (source_known self.new) (SourceTakes result buf.new) }
-        ensures counts_call { CountsCall (λ input. input.calls) (source_known self.old) (source_known self.new) }
-        ensures cause { HasCause (source_known self.old) (source_known self.new) (result ≡ ReadOut.Failed) }
     {
         let call = self.calls;
         self.calls = call.saturating_add(1);
@@ -96,5 +90,20 @@ impl Source for MemSource {
         fill_front(buf, &left[..n]);
         self.at += n;
         ReadOut::Got(n)
+    }
+}
+
+impl Source for MemSource {
+    ghost known = { source_known };
+
+    fn read(&mut self, buf: &mut [u8]) -> ReadOut
+        requires { 0 < length buf.old }
+        ensures exact { MemSourceReads result buf.old buf.new self.old self.new }
+        ensures moves_bytes { ReadsSome result buf.old }
+        ensures bytes { IfBothKnown (source_known self.old) (source_known self.new) (SourceTakes result buf.new) }
+        ensures counts_call { CountsCall (λ input. input.calls) (source_known self.old) (source_known self.new) }
+        ensures cause { HasCause (source_known self.old) (source_known self.new) (result ≡ ReadOut.Failed) }
+    {
+        self.read_next(buf)
     }
 }
