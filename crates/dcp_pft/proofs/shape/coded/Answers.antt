@@ -6,7 +6,6 @@ use Rattle.dcp_pft.proofs.Sizes.{Fits, Chunks, fits_is, chunks_are, coded_small,
 use Rattle.dcp_pft.proofs.shape.coded.Goals as goal
 use Rattle.dcp_pft.proofs.shape.coded.Goals.{After-div_ceil-k}
 
-
 -- so many chunks of so many bytes
 record AreChunks (len chunks k : ℕ) : Type 0 where
   pub few : chunks ≤ 159

@@ -18,11 +18,11 @@ in_stream b0 b1 b2 b3 short stream bytes d1 d2 d3 e1 e2 e3 = cc
 pub returns-then-take_flag : goal.returns-then-take_flag
 returns-then-take_flag c =
     let same = in_packets _ _ _ _ _ _ c.args.bytes.now c.take_u8-short.ensures.rest c.take_u8-stream.ensures.rest c.take_flag.ensures.rest
-        c.take_u8-short.ensures.number c.take_u8-stream.ensures.number (sym c.take_flag.ensures.bit ∙ c.if-take_flag.true) in
+    c.take_u8-short.ensures.number c.take_u8-stream.ensures.number (sym c.take_flag.ensures.bit ∙ c.if-take_flag.true) in
     subst (λ (body : Body). IfOk c.read_packet.result (λ b. b ≡ body)) same c.read_packet.ensures
 
 pub returns-else-take_flag : goal.returns-else-take_flag
 returns-else-take_flag c =
     let same = in_stream _ _ _ _ _ _ c.args.bytes.now c.take_u8-short.ensures.rest c.take_u8-stream.ensures.rest c.take_flag.ensures.rest
-        c.take_u8-short.ensures.number c.take_u8-stream.ensures.number (sym c.take_flag.ensures.bit ∙ c.if-take_flag.false) in
+    c.take_u8-short.ensures.number c.take_u8-stream.ensures.number (sym c.take_flag.ensures.bit ∙ c.if-take_flag.false) in
     subst (λ (body : Body). IfOk c.read_sync.result (λ b. b ≡ body)) same c.read_sync.ensures
