@@ -1,6 +1,5 @@
 -- The values at the roots, summed symbol by symbol, and what remains of a word.
-use Rattle.std.proofs.Common.{◌≡◌, ℕ, ◌+◌, ◌-◌, ◌*◌, ◌<◌, ◌≤◌, true, List, ◌++◌, length, take, drop, replicate, map, get_or, refl, sym, subst, ap, ap₂, ◌∙◌, arith, bit_xor, append-nil, inl, inr}
-use Rattle.std.proofs.lemmas.Bool.{cases_lt}
+use Rattle.std.proofs.Common.{[], ◌∷◌, zero, suc, ◌≡◌, ℕ, ◌+◌, ◌-◌, ◌*◌, ◌<◌, ◌≤◌, true, List, ◌++◌, length, take, drop, replicate, map, get_or, refl, sym, ap, ap₂, ◌∙◌, arith, bit_xor, append-nil}
 use Rattle.std.proofs.lemmas.List.{length-take-le, length-drop, take_all, take-append-drop, get_or-replicate}
 use Rattle.std.proofs.lemmas.List.FromFn.{get_or-map-range_with_len}
 use Rattle.std.proofs.lemmas.Simd.{length-chunk}
@@ -20,36 +19,54 @@ use Rattle.rs_erase.proofs.WordValues.{length-add_same, more_symbols, word_value
 
 -- ---- the table of the roots' powers
 
-powers_at : ℕ → List ℕ
-powers_at p = map (λ j. nth_power (power (j + 1)) (47 - p)) (range_with_len 0 48)
+-- the products of elements, place by place
+times_each : List ℕ → List ℕ → List ℕ
+times_each [] ys = []
+times_each (a ∷ xs) [] = []
+times_each (a ∷ xs) (b ∷ ys) = times a b ∷ times_each xs ys
 
-first_rows : each_below 24 (λ p. same (chunk (48 * p) 48 ROOT_POWERS) (powers_at p)) ≡ true
-unfolding same powers_at power times polynomial_product remainder
-first_rows = refl
+times_each_at : (xs ys : List ℕ) (j : ℕ) → j < length xs → j < length ys → get_or (times_each xs ys) j 0 ≡ times (get_or xs j 0) (get_or ys j 0)
+unfolding times_each
+times_each_at [] ys j la lb = absurd (omega arith)
+times_each_at (a ∷ xs) [] j la lb = absurd (omega arith)
+times_each_at (a ∷ xs) (b ∷ ys) zero la lb = refl
+times_each_at (a ∷ xs) (b ∷ ys) (suc j) la lb = times_each_at xs ys j (omega arith) (omega arith)
 
-last_rows : each_below 24 (λ p. same (chunk (48 * (p + 24)) 48 ROOT_POWERS) (powers_at (p + 24))) ≡ true
-unfolding same powers_at power times polynomial_product remainder
-last_rows = refl
+-- The last row has ones, the one before it the roots, and each is the next one times the roots.
+ROOTS : List ℕ
+ROOTS = chunk 2208 48 ROOT_POWERS
 
-row_is : (p : ℕ) → p < 48 → chunk (48 * p) 48 ROOT_POWERS ≡ powers_at p
-row_is p lt =
-    elim (cases_lt p 24) [
-      | inl below ↦
-          same_is (chunk (48 * p) 48 ROOT_POWERS) (powers_at p) (each_at 24 (λ p. same (chunk (48 * p) 48 ROOT_POWERS) (powers_at p)) first_rows p below)
-      | inr above ↦
-          let e : p - 24 + 24 ≡ p = omega arith in
-          subst (λ (q : ℕ). chunk (48 * q) 48 ROOT_POWERS ≡ powers_at q) e
-          (same_is (chunk (48 * (p - 24 + 24)) 48 ROOT_POWERS) (powers_at (p - 24 + 24))
-          (each_at 24 (λ p. same (chunk (48 * (p + 24)) 48 ROOT_POWERS) (powers_at (p + 24))) last_rows (p - 24) (omega arith)))
-    ]
+ones : chunk 2256 48 ROOT_POWERS ≡ replicate 48 1
+ones = refl
 
-pub row_at : (p j : ℕ) → p < 48 → j < 48 → get_or (chunk (48 * p) 48 ROOT_POWERS) j 0 ≡ nth_power (power (j + 1)) (47 - p)
-unfolding powers_at
-row_at p j lp lj =
-    ap (λ (xs : List ℕ). get_or xs j 0) (row_is p lp) ∙ get_or-map-range_with_len (λ j. nth_power (power (j + 1)) (47 - p)) 0 48 j j 0 lj (omega arith)
+roots : ROOTS ≡ map (λ j. power (j + 1)) (range_with_len 0 48)
+unfolding ROOTS power times polynomial_product remainder
+roots = refl
+
+rows : each_below 47 (λ p. same (chunk (48 * p) 48 ROOT_POWERS) (times_each ROOTS (chunk (48 * (p + 1)) 48 ROOT_POWERS))) ≡ true
+unfolding same times_each ROOTS times polynomial_product remainder
+rows = refl
 
 pub row_long : (p : ℕ) → p < 48 → length (chunk (48 * p) 48 ROOT_POWERS) ≡ 48
 row_long p lt = length-chunk (48 * p) 48 ROOT_POWERS (let l : length ROOT_POWERS ≡ 2304 = refl in omega arith)
+
+-- so many rows before the last
+row_before : (d j : ℕ) → d < 48 → j < 48 → get_or (chunk (48 * (47 - d)) 48 ROOT_POWERS) j 0 ≡ nth_power (power (j + 1)) d
+row_before zero j ld lj = ap (λ (xs : List ℕ). get_or xs j 0) ones ∙ get_or-replicate 48 j 1 0 lj
+row_before (suc d) j ld lj =
+    let p = 47 - suc d in
+    let next : p + 1 ≡ 47 - d = omega (arith, ld) in
+    let is = same_is (chunk (48 * p) 48 ROOT_POWERS) (times_each ROOTS (chunk (48 * (p + 1)) 48 ROOT_POWERS))
+    (each_at 47 (λ p. same (chunk (48 * p) 48 ROOT_POWERS) (times_each ROOTS (chunk (48 * (p + 1)) 48 ROOT_POWERS))) rows p (omega (arith, ld))) in
+    let root : get_or ROOTS j 0 ≡ power (j + 1) =
+    ap (λ (xs : List ℕ). get_or xs j 0) roots ∙ get_or-map-range_with_len (λ j. power (j + 1)) 0 48 j j 0 lj (omega arith) in
+    ap (λ (xs : List ℕ). get_or xs j 0) is
+    ∙ times_each_at ROOTS (chunk (48 * (p + 1)) 48 ROOT_POWERS) j (let l = ap length roots in let m = row_long 46 (omega arith) in omega (arith, lj, l, m)) (let l = row_long (p + 1) (omega (arith, ld)) in omega (arith, lj, l))
+    ∙ ap₂ times root (ap (λ q. get_or (chunk (48 * q) 48 ROOT_POWERS) j 0) next ∙ row_before d j (omega (arith, ld)) lj)
+
+pub row_at : (p j : ℕ) → p < 48 → j < 48 → get_or (chunk (48 * p) 48 ROOT_POWERS) j 0 ≡ nth_power (power (j + 1)) (47 - p)
+row_at p j lp lj =
+    ap (λ q. get_or (chunk (48 * q) 48 ROOT_POWERS) j 0) (let e : p ≡ 47 - (47 - p) = omega (arith, lp) in e) ∙ row_before (47 - p) j (omega (arith, lp)) lj
 
 -- ---- the sums
 
