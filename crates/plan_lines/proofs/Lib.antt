@@ -4,3 +4,4 @@ pub mod KeywordLemmas
 pub mod RangeLemmas
 pub mod KindLemmas
 pub mod CleanLemmas
+pub mod Unspelled
