@@ -12,7 +12,7 @@ use crate::names::place_of;
 use dcp_tag::Items;
 
 /// Where the value of an item stands in the payload.
-#[derive(Clone, Copy, Debug, PartialEq, Eq)]
+#[derive(Clone, Copy, PartialEq, Eq)]
 pub(crate) struct ItemSpan {
     /// Its first byte.
     pub at: usize,
