@@ -1,17 +1,19 @@
 //! The command `gate`.
 
+ghost use Rattle.std.specs.Prelude.{◌≡◌, Err};
 ghost use Rattle.dcp_pft.specs.Carrying.{CarryFits};
+ghost use Rattle.drm_links.specs.Known.{HasCause};
 ghost use Rattle.recv_reading.specs.Options.{AreInRange};
 ghost use Rattle.link_group.specs.Listed.{AreListed};
-ghost use Rattle.cmd_gate.specs.Run.{GateCommandRun};
+ghost use Rattle.cmd_gate.specs.Run.{GateCommandRun, WritesTally};
 
 use crate::between::pass_between;
 use crate::line::{is_clean, write_tally};
 use cmd_faults::Fault;
 use dcp_pft::Carry;
 use drm_bits::zeros;
-use drm_gate::Gate;
-use drm_links::{Address, Addresses, Dock, LONGEST_DATAGRAM, Sink};
+use drm_gate::{Gate, Tally};
+use drm_links::{Address, Addresses, Dock, LONGEST_DATAGRAM, LinkFault, Sink};
 use link_group::room_for;
 use recv_reading::ReceiveOptions;
 use std::alloc::Global;
@@ -36,7 +38,16 @@ pub fn gate<D: Dock, O: Sink>(
     let mut gate = Gate::make(alloc, rules.window, rules.reach, rules.first, carry)?;
     let mut buffer = zeros(alloc, LONGEST_DATAGRAM)?;
     let room = room_for(alloc, to)?;
-    let tally = pass_between(&mut gate, rules, from, to, room, &mut buffer, dock)?;
+    let passed = pass_between(&mut gate, rules, from, to, room, &mut buffer, dock);
+    write_passed(out, passed)
+}
+
+// Writes the line of what was counted, unless a link failed.
+fn write_passed<O: Sink>(out: &mut O, passed: Result<Tally, LinkFault>) -> Result<bool, Fault>
+    ensures writes { WritesTally passed result O.known out.old out.new }
+    ensures cause { HasCause (O.known out.old) (O.known out.new) (result ≡ Err Fault.Write) }
+{
+    let tally = passed?;
     write_tally(out, &tally)?;
     Ok(is_clean(&tally))
 }

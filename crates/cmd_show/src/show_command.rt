@@ -1,5 +1,7 @@
 //! The command `show`.
 
+ghost use Rattle.std.specs.Prelude.{◌≡◌};
+ghost use Rattle.capture_reader.specs.Walking.{new_walker};
 ghost use Rattle.report_dump.specs.PacketContent.{PacketBegins};
 ghost use Rattle.report_dump.specs.Shown.{ShowsPacket};
 ghost use Rattle.cmd_show.specs.Show.{ShowRun};
@@ -20,13 +22,30 @@ pub fn show<I: Source, O: Sink>(alloc: Global, input: &mut I, out: &mut O) -> Re
     one_text();
     let mut packets = Packets::make(alloc)?;
     let mut lines = LineBuffer::make(alloc)?;
+    show_packets(alloc, &mut packets, &mut lines, input, out)
+}
+
+// Reads the packets one after another and writes what is in each. The reader of the capture is new.
+fn show_packets<I: Source, O: Sink>(
+    alloc: Global,
+    packets: &mut Packets,
+    lines: &mut LineBuffer,
+    input: &mut I,
+    out: &mut O,
+) -> Result<bool, Fault>
+    requires packets { packets.old ≡ new_walker }
+    ensures { ShowRun result I.known input.old input.new O.known out.old out.new }
+{
+    // For their clauses alone, as in `show`.
+    read_one_way();
+    one_text();
     // How many packets and bytes were shown, and whether none is bad.
     let mut count = 0u64;
     let mut bytes = 0u64;
     let mut clean = true;
     while packets.find(input)? {
         let packet = packets.next();
-        let Ok(bad) = show_packet(alloc, &mut lines, &packet, out) else {
+        let Ok(bad) = show_packet(alloc, lines, &packet, out) else {
             return Err(Fault::Write);
         };
         count += 1;

@@ -87,10 +87,39 @@ pub(crate) fn write_report<F, R: Datagrams<F>, O: Sink>(
 {
     let mut tally = ReportCounts::new(alloc)?;
     let mut lines = LineWriter::make(alloc)?;
+    write_lines(
+        number, bounds, collector, feed, &mut tally, &mut lines, reader, from, out,
+    )
+}
+
+// Reads until it has read enough, and writes the lines of the report, with a new tally and nothing gathered.
+fn write_lines<F, R: Datagrams<F>, O: Sink>(
+    number: u8,
+    bounds: Bounds,
+    collector: &mut Collector,
+    feed: &mut Feed,
+    tally: &mut ReportCounts,
+    lines: &mut LineWriter,
+    reader: &mut R,
+    from: &mut F,
+    out: &mut O,
+) -> Result<bool, ReceiveFault>
+    requires options { AreUsable (options_of collector.old bounds) }
+    requires collector { collector.old ≡ made collector.old.window collector.old.reach collector.old.first }
+    requires feed { feed.old ≡ new_tracker }
+    requires tally { tally.old ≡ new_tally }
+    requires lines { lines.old ≡ [] }
+    requires reader { R.is_ready reader.old }
+    requires nothing_heard { R.so_far from.old reader.old from.old [] }
+    ensures finished { IfOk result (ReportWritten (options_of collector.old bounds) number (R.so_far from.old reader.new from.new) (O.known out.old) (O.known out.new)) }
+    ensures stopped { IfErr result (StopsReport (options_of collector.old bounds) number (R.so_far from.old reader.new from.new)
+        (λ fault. R.until from.old fault from.new) (O.known out.old) (O.known out.new)) }
+    ensures memory { result ≡ Err ReceiveFault.NoMemory → ⊥ }
+    ensures source { RisesWhere (R.faults from.old) (R.faults from.new) (IsCallFailed result) }
+    ensures write { HasCause (O.known out.old) (O.known out.new) (result ≡ Err ReceiveFault.Write) }
+{
     write_feed(out, number)?;
-    let word = read_all(
-        bounds, collector, feed, &mut tally, &mut lines, reader, from, out,
-    )?;
+    let word = read_all(bounds, collector, feed, tally, lines, reader, from, out)?;
     tally.write_refused(out)?;
     tally.write_end(out, word)?;
     Ok(tally.is_clean())

@@ -3,11 +3,11 @@ use Rattle.std.proofs.lemmas.Result.{err_from_is_err_and}
 use Rattle.drm_links.proofs.WritingLemmas.{Writes-done, Writes-front}
 use Rattle.recv_reading.specs.Options.{options_of}
 use Rattle.recv_report.proofs.Reporting.{read_reportable, first_front, stops_report, refused_broken, end_broken, reported}
-use Rattle.recv_report.proofs.reading.write_report.Goals as goal
+use Rattle.recv_report.proofs.reading.write_lines.Goals as goal
 
 pub returns-in_err-write_feed-clause-stopped : goal.returns-in_err-write_feed-clause-stopped
 returns-in_err-write_feed-clause-stopped g c =
-    let p = err_from_is_err_and c.from_residual-in_err-write_feed.result c.from_residual-in_err-write_feed.ensures.1 in
+    let p = err_from_is_err_and c.from_residual.result c.from_residual.ensures.1 in
     rw (p.1 ∙ ap Err p.2)
     (first_front (options_of c.args.collector.now c.args.bounds) c.requires.options.window c.args.number (g.R.Datagrams.so_far c.args.from.now c.args.reader.now c.args.from.now)
     (g.O.Sink.known c.args.out.now) (g.O.Sink.known c.write_feed.new.out) c.requires.nothing_heard (Writes-front c.in_err-write_feed.was c.write_feed.ensures))
