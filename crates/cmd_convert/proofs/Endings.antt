@@ -34,10 +34,3 @@ by_write (Err (unconverted.Stopped (stops.Capture fault))) clean is = absurd (cc
 by_write (Err (unconverted.Stopped stops.TooLong)) clean is = absurd (cc)
 by_write (Err (unconverted.Halted halt.Write)) clean is = refl
 by_write (Err (unconverted.Halted (halt.PacketSize number))) clean is = absurd (cc)
-
--- with what was told in place of the collector and the cutter that were made of it
-pub as_asked : (window reach : ℕ) (first frame_limit : Option ℕ) (carry used : Carry) (c : CollectorState) (ending : Result Bool Fault) (named : Bool) (before after : Known Input) (a b x y : Known Output) → c ≡ made window reach first → used ≡ carry
-    → ConvertEnds (record { window = c.window; reach = c.reach; first = c.first; frame_limit = frame_limit }) used ending named before after a b x y → ConvertEnds (record { window = window; reach = reach; first = first; frame_limit = frame_limit }) carry ending named before after a b x y
-as_asked window reach first frame_limit carry used c ending named before after a b x y is same ends =
-    subst (λ k. ConvertEnds (record { window = window; reach = reach; first = first; frame_limit = frame_limit }) k ending named before after a b x y) same
-    (subst (λ (s : CollectorState). ConvertEnds (record { window = s.window; reach = s.reach; first = s.first; frame_limit = frame_limit }) used ending named before after a b x y) is ends)

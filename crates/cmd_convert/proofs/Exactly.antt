@@ -25,7 +25,8 @@ use Rattle.recv_reading.proofs.BreakingOff.{none_in_front}
 use Rattle.cmd_convert.proofs.Sound.{sound}
 use Rattle.cmd_convert.specs.Converting.{ItemOutput, ConvertsItem, ConvertsAll, IsTooLarge}
 use Rattle.cmd_convert.specs.Run.{IsConversion, IsConversionBroken, ReadsTo, AreFirstOf, LeadsTo, AreSmall, MeetsTooLarge, EndsExactly, ConvertEnds, IsConversionDone, CanEndConversion, ConvertRun}
-use Rattle.recv_reading.specs.Packets.{AreReadBy, BreaksOffBy, ComesTo, HasEnough, NoneShorter, PacketRange}
+use Rattle.recv_reading.specs.Packets.{AreReadBy, BreaksOffBy, ComesTo, HasEnough, NoneShorter}
+use Rattle.recv_reading.specs.declared.options.PacketRange.{PacketRange}
 use Rattle.recv_reading.proofs.Ways.{Starts, Agree, front_of, starts_up_to, starts_more, taken_starts, finished_starts, lacks_before, all_before, both_taken, both_finished, then_finished, finished_then}
 
 -- ---- what is converted isn't too large

@@ -8,7 +8,7 @@ use Rattle.capture_reader.specs.declared.packets.CaptureStop.{CaptureStop}
 use Rattle.capture_reader.specs.declared.packets.CaptureStop.TheVariants as stops
 use Rattle.cmd_faults.specs.declared.fault.Fault.{Fault}
 use Rattle.cmd_faults.proofs.CaptureLemmas.{each_early}
-use Rattle.recv_reading.specs.Packets.{PacketRange}
+use Rattle.recv_reading.specs.declared.options.PacketRange.{PacketRange}
 use Rattle.cmd_convert.specs.Converting.{ItemOutput, ConvertsAll, text_of}
 use Rattle.cmd_convert.specs.Converted.{are_clean}
 use Rattle.cmd_convert.specs.Run.{IsConversion, ConversionEndsEarly, ConvertEnds, CanEndConversion, IsPrefixOfParts, ConvertIsSound}

@@ -12,7 +12,7 @@ use Rattle.cmd_convert.specs.declared.naming.Progress.{Progress}
 use Rattle.cmd_convert.specs.declared.reading.ConvertError.{ConvertError}
 use Rattle.cmd_convert.specs.declared.reading.ConvertError.TheVariants as unconverted
 use Rattle.cmd_convert.specs.Run.{ConvertEnds}
-use Rattle.recv_reading.specs.Packets.{PacketRange}
+use Rattle.recv_reading.specs.declared.options.PacketRange.{PacketRange}
 
 abbrev pub new_progress : Progress
 new_progress = record { given = 0; clean = true; err_ok = true }

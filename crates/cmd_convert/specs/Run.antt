@@ -22,7 +22,8 @@ use Rattle.cmd_convert.specs.Converting.{ItemOutput, ConvertsAll, IsTooLarge, te
 use Rattle.cmd_convert.specs.Naming.{NamesItems}
 use Rattle.cmd_convert.specs.Converted.{are_clean}
 use Rattle.recv_reading.specs.First.{first_of}
-use Rattle.recv_reading.specs.Packets.{PacketRange, HasEnough, NoneShorter, AreEnough, ComesAt, AreReadBy, BreaksOffBy}
+use Rattle.recv_reading.specs.Packets.{HasEnough, NoneShorter, AreEnough, ComesAt, AreReadBy, BreaksOffBy}
+use Rattle.recv_reading.specs.declared.options.PacketRange.{PacketRange}
 use Rattle.recv_reading.specs.State.{is_full}
 
 -- ---- what they become

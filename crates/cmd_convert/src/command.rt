@@ -1,12 +1,12 @@
 //! The command `convert`.
 
-ghost use Rattle.std.specs.Prelude.{◌≡◌, ◌≤◌, [], true, IfSome, IfOk};
+ghost use Rattle.std.specs.Prelude.{◌≡◌, [], true, IfOk};
 ghost use Rattle.dcp_collect.specs.CollectorState.{made};
 ghost use Rattle.capture_reader.specs.Walking.{new_walker};
 ghost use Rattle.dcp_pft.specs.Carrying.{CarryFits};
 ghost use Rattle.cmd_convert.specs.Reading.{ending_of};
 ghost use Rattle.cmd_convert.specs.Run.{ConvertRun};
-ghost use Rattle.recv_reading.specs.Packets.{PacketRange};
+ghost use Rattle.recv_reading.specs.Options.{IsWithinLimits};
 
 use crate::item::ItemError;
 use crate::naming::Progress;
@@ -19,6 +19,7 @@ use dcp_sender::PacketSender;
 use drm_bits::NoMemory;
 use drm_links::{Sink, Source};
 use law_capture::packets_in_front;
+use recv_reading::PacketRange;
 use report_text::LineWriter;
 use std::alloc::Global;
 
@@ -27,29 +28,23 @@ use std::alloc::Global;
 pub fn convert<I: Source, O: Sink, E: Sink>(
     alloc: Global,
     carry: Carry,
-    window: u8,
-    reach: u16,
-    first: Option<u16>,
-    frames: Option<u64>,
+    range: &PacketRange,
     input: &mut I,
     out: &mut O,
     err: &mut E,
     err_ok: &mut bool,
 ) -> Result<bool, Fault>
     requires carry { CarryFits carry }
-    requires window { (1 ≤ window) × (window ≤ 64) }
-    requires frames { IfSome frames (λ n. (1 ≤ n) × (n ≤ 3000000)) }
+    requires range { IsWithinLimits range.now }
     requires err_ok { err_ok.old ≡ true }
-    ensures run { ConvertRun (record { window = window; reach = reach; first = first; frame_limit = frames }) carry result err_ok.new
+    ensures run { ConvertRun range.now carry result err_ok.new
         I.known input.old input.new O.known out.old out.new E.known err.old err.new }
 {
     // For their clauses alone: how bytes are read as a capture. The calls do nothing.
     read_one_way();
     read_some_way();
     packets_in_front();
-    let (mut collector, mut cutter, mut packets, mut lines) = parts(
-        alloc, carry, window, reach, first,
-    )?;
+    let (mut collector, mut cutter, mut packets, mut lines) = parts(alloc, carry, range)?;
     let mut progress = Progress {
         given: 0,
         clean: true,
@@ -59,7 +54,7 @@ pub fn convert<I: Source, O: Sink, E: Sink>(
         &mut collector,
         &mut cutter,
         &mut packets,
-        frames,
+        range,
         &mut progress,
         &mut lines,
         input,
@@ -74,15 +69,14 @@ pub fn convert<I: Source, O: Sink, E: Sink>(
 fn parts(
     alloc: Global,
     carry: Carry,
-    window: u8,
-    reach: u16,
-    first: Option<u16>,
+    range: &PacketRange,
 ) -> Result<(Collector, PacketSender, Packets, LineWriter), NoMemory>
     requires carry { CarryFits carry }
-    requires window { (1 ≤ window) × (window ≤ 64) }
-    ensures { IfOk result (λ parts. (parts.0 ≡ made window reach first) × (parts.1 ≡ carry) × (parts.2 ≡ new_walker) × (parts.3 ≡ [])) }
+    requires range { IsWithinLimits range.now }
+    ensures { IfOk result (λ parts. (parts.0 ≡ made range.now.window range.now.reach range.now.first)
+        × (parts.1 ≡ carry) × (parts.2 ≡ new_walker) × (parts.3 ≡ [])) }
 {
-    let collector = Collector::make(alloc, window, reach, first)?;
+    let collector = Collector::make(alloc, range.window, range.reach, range.first)?;
     let cutter = PacketSender::make(alloc, carry)?;
     let packets = Packets::make(alloc)?;
     let lines = LineWriter::make(alloc)?;

@@ -1,11 +1,11 @@
 //! The packets of an input, converted.
 
-ghost use Rattle.std.specs.Prelude.{◌≡◌, ◌≤◌, Err, IfSome};
+ghost use Rattle.std.specs.Prelude.{◌≡◌, Err};
 ghost use Rattle.drm_links.specs.Known.{HasCause};
 ghost use Rattle.dcp_collect.specs.CollectorState.{made};
 ghost use Rattle.capture_reader.specs.Walking.{new_walker};
 ghost use Rattle.capture_reader.specs.declared.packets.CaptureStop.{CaptureStop};
-ghost use Rattle.recv_reading.specs.Packets.{PacketRange};
+ghost use Rattle.recv_reading.specs.Options.{IsWithinLimits};
 ghost use Rattle.cmd_convert.specs.declared.item.ItemError.{ItemError};
 ghost use Rattle.cmd_convert.specs.Reading.{new_progress, ConversionEndsBy};
 
@@ -15,7 +15,7 @@ use capture_reader::{CaptureStop, Packets};
 use dcp_collect::Collector;
 use dcp_sender::PacketSender;
 use drm_links::{Sink, Source};
-use recv_reading::{Bounds, Reading};
+use recv_reading::{PacketRange, Reading};
 use report_text::LineWriter;
 
 /// Why a conversion isn't whole.
@@ -53,26 +53,23 @@ pub(crate) fn convert_packets<I: Source, O: Sink, E: Sink>(
     collector: &mut Collector,
     cutter: &mut PacketSender,
     packets: &mut Packets,
-    frame_limit: Option<u64>,
+    range: &PacketRange,
     progress: &mut Progress,
     lines: &mut LineWriter,
     input: &mut I,
     out: &mut O,
     err: &mut E,
 ) -> Result<(), ConvertError>
-    requires window { (1 ≤ collector.old.window) × (collector.old.window ≤ 64) }
-    requires collector { collector.old ≡ made collector.old.window collector.old.reach collector.old.first }
+    requires range { IsWithinLimits range.now }
+    requires collector { collector.old ≡ made range.now.window range.now.reach range.now.first }
     requires packets { packets.old ≡ new_walker }
     requires progress { progress.old ≡ new_progress }
-    requires at_least_one { IfSome frame_limit (λ n. 1 ≤ n) }
-    requires within_limit { IfSome frame_limit (λ n. n ≤ 3000000) }
-    ensures ends { ConversionEndsBy result (record { window = collector.old.window; reach = collector.old.reach; first = collector.old.first; frame_limit = frame_limit })
-        cutter.old progress.new (I.known input.old) (I.known input.new) (O.known out.old) (O.known out.new)
-        (E.known err.old) (E.known err.new) }
+    ensures ends { ConversionEndsBy result range.now cutter.old progress.new (I.known input.old) (I.known input.new)
+        (O.known out.old) (O.known out.new) (E.known err.old) (E.known err.new) }
     ensures read { HasCause (I.known input.old) (I.known input.new) (result ≡ Err (ConvertError.Stopped CaptureStop.Read)) }
     ensures write { HasCause (O.known out.old) (O.known out.new) (result ≡ Err (ConvertError.Halted ItemError.Write)) }
 {
-    let mut reading = Reading::new(Bounds::of_capture(frame_limit));
+    let mut reading = Reading::new(range.bounds());
     'packets: loop {
         if reading.gives(collector) {
             convert_next(collector, cutter, progress, lines, out, err)?;

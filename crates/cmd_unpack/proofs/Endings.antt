@@ -13,7 +13,8 @@ use Rattle.cmd_faults.specs.Fault.{UnlessMemory}
 use Rattle.cmd_faults.specs.declared.fault.Fault.{Fault}
 use Rattle.cmd_faults.specs.declared.fault.Fault.TheVariants as faults
 use Rattle.cmd_faults.proofs.CaptureLemmas.{each_early, none_by, fault_by, length_by, done_or}
-use Rattle.recv_reading.specs.Packets.{PacketRange, BreaksOffBy}
+use Rattle.recv_reading.specs.Packets.{BreaksOffBy}
+use Rattle.recv_reading.specs.declared.options.PacketRange.{PacketRange}
 use Rattle.recv_reading.proofs.BreakingOff.{all_unbroken, BreaksBy, until_breaks}
 use Rattle.cmd_unpack.specs.declared.taker.Taker.{Taker}
 use Rattle.cmd_unpack.specs.Streams.{PayloadKind}
@@ -25,9 +26,6 @@ use Rattle.cmd_unpack.proofs.Printing.{printed}
 use Rattle.cmd_unpack.proofs.Sound.{sound}
 
 -- ---- the end of what is printed
-
-pub terms_as : (c : CollectorState) (window reach : ℕ) (first frame_limit : Option ℕ) → c ≡ made window reach first → (let range : PacketRange = record { window = c.window; reach = c.reach; first = c.first; frame_limit = frame_limit } in range ≡ record { window = window; reach = reach; first = first; frame_limit = frame_limit })
-terms_as c window reach first frame_limit is = ap (λ (s : CollectorState). record { window = s.window; reach = s.reach; first = s.first; frame_limit = frame_limit }) is
 
 pub whole_written : {E : Type 0} (range : PacketRange) (what : PayloadKind) (taker ended : Taker) (before after : Known Input) (a b o : Known Output) (result : Result (Unit {0}) E) (done all : Unit {0}) (clean : Bool)
     → TakesAll range what (Ok all) taker before after a b

@@ -15,7 +15,8 @@ use Rattle.mod_feed.specs.Items.{FrameItem, IsItemOf}
 use Rattle.cmd_faults.specs.Captures.{stop_fault}
 use Rattle.cmd_faults.specs.declared.fault.Fault.TheVariants as faults
 use Rattle.recv_reading.specs.Source.{ReadSoFar, HeardUntil}
-use Rattle.recv_reading.specs.Packets.{PacketRange, range_of}
+use Rattle.recv_reading.specs.Packets.{range_of}
+use Rattle.recv_reading.specs.declared.options.PacketRange.{PacketRange}
 use Rattle.recv_reading.proofs.Finishing.{IsOver, finishes}
 use Rattle.recv_reading.proofs.Looping.{Loop, loop_given, loop_on}
 use Rattle.recv_reading.proofs.PacketLemmas.{gives_to, gives_all, gives_until}

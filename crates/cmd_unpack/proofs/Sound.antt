@@ -13,7 +13,7 @@ use Rattle.drm_text.specs.Joining as joining
 use Rattle.cmd_faults.specs.declared.fault.Fault.{Fault}
 use Rattle.cmd_faults.specs.Captures.{EndsEarly}
 use Rattle.cmd_faults.proofs.CaptureLemmas.{each_early}
-use Rattle.recv_reading.specs.Packets.{PacketRange}
+use Rattle.recv_reading.specs.declared.options.PacketRange.{PacketRange}
 use Rattle.cmd_unpack.specs.Streams.{PayloadKind, UnitsOf, TextsOf}
 use Rattle.cmd_unpack.specs.Lines.{cut_line, units_end, texts_end, is_clean}
 use Rattle.cmd_unpack.specs.Printed.{IsPrinted, IsWholeText, unit_counts, text_counts}

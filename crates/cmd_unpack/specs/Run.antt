@@ -12,7 +12,8 @@ use Rattle.cmd_faults.specs.Captures.{EndsEarly, EndsByIt}
 use Rattle.cmd_faults.specs.Fault.{UnlessMemory}
 use Rattle.cmd_faults.specs.declared.fault.Fault.{Fault}
 use Rattle.cmd_faults.specs.declared.fault.Fault.TheVariants as faults
-use Rattle.recv_reading.specs.Packets.{PacketRange, BreaksOffBy}
+use Rattle.recv_reading.specs.Packets.{BreaksOffBy}
+use Rattle.recv_reading.specs.declared.options.PacketRange.{PacketRange}
 use Rattle.recv_reading.specs.Given.{GivesAll, GivesUntil, GivesTo}
 use Rattle.cmd_unpack.specs.Streams.{PayloadKind}
 use Rattle.cmd_unpack.specs.Printed.{AreItems, IsPrinted, IsWholeText}

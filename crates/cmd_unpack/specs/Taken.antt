@@ -8,7 +8,7 @@ use Rattle.drm_links.specs.Source.{Input}
 use Rattle.drm_links.specs.Sink.{Output, OutputsText, WritesWhole}
 use Rattle.dcp_collect.specs.Runs.{CollectorItem as Given}
 use Rattle.cmd_faults.specs.declared.fault.Fault.{Fault}
-use Rattle.recv_reading.specs.Packets.{PacketRange}
+use Rattle.recv_reading.specs.declared.options.PacketRange.{PacketRange}
 use Rattle.recv_reading.specs.Given.{GivesAll}
 use Rattle.mod_feed.specs.Items.{FrameItem}
 use Rattle.drm_data.specs.Joining.{JoinerEvent, JoinerAnswer, Silent, Whole, CutOff, CutWhole, Refuses, made}

@@ -1,7 +1,7 @@
 //! The commands `unpack` and `texts`.
 
-ghost use Rattle.std.specs.Prelude.{◌≡◌, ◌<◌, ◌≤◌, IfSome};
-ghost use Rattle.recv_reading.specs.Packets.{PacketRange};
+ghost use Rattle.std.specs.Prelude.{◌<◌, ◌≤◌};
+ghost use Rattle.recv_reading.specs.Options.{IsWithinLimits};
 ghost use Rattle.cmd_unpack.specs.Streams.{UnitsOf, TextsOf};
 ghost use Rattle.cmd_unpack.specs.Run.{DataRun};
 
@@ -16,6 +16,7 @@ use drm_data::Joiner;
 use drm_links::{Sink, Source};
 use drm_text::TextJoiner;
 use law_capture::packets_in_front;
+use recv_reading::PacketRange;
 use std::alloc::Global;
 
 /// Receives a capture from `input`, and writes the units in a stream of its frames, of this packet id and data length, each
@@ -25,19 +26,15 @@ pub fn unpack<I: Source, O: Sink>(
     stream: u8,
     id: u8,
     length: u8,
-    window: u8,
-    reach: u16,
-    first: Option<u16>,
-    frames: Option<u64>,
+    range: &PacketRange,
     input: &mut I,
     out: &mut O,
 ) -> Result<bool, Fault>
     requires stream { stream < 4 }
     requires id { id < 4 }
     requires length { 1 ≤ length }
-    requires window { (1 ≤ window) × (window ≤ 64) }
-    requires frames { IfSome frames (λ n. (1 ≤ n) × (n ≤ 3000000)) }
-    ensures run { DataRun (record { window = window; reach = reach; first = first; frame_limit = frames }) (UnitsOf stream id length) result
+    requires range { IsWithinLimits range.now }
+    ensures run { DataRun range.now (UnitsOf stream id length) result
         I.known input.old input.new O.known out.old out.new }
 {
     // For their clauses alone: how bytes are read as a capture. The calls do nothing.
@@ -50,7 +47,7 @@ pub fn unpack<I: Source, O: Sink>(
         joiner,
         counts: no_counts(),
     });
-    take_capture(alloc, window, reach, first, frames, &mut taker, input, out)
+    take_capture(alloc, range, &mut taker, input, out)
 }
 
 /// Receives a capture from `input`, and writes the text messages in a stream of its frames, each as it comes. Answers whether
@@ -58,17 +55,13 @@ pub fn unpack<I: Source, O: Sink>(
 pub fn texts<I: Source, O: Sink>(
     alloc: Global,
     stream: u8,
-    window: u8,
-    reach: u16,
-    first: Option<u16>,
-    frames: Option<u64>,
+    range: &PacketRange,
     input: &mut I,
     out: &mut O,
 ) -> Result<bool, Fault>
     requires stream { stream < 4 }
-    requires window { (1 ≤ window) × (window ≤ 64) }
-    requires frames { IfSome frames (λ n. (1 ≤ n) × (n ≤ 3000000)) }
-    ensures run { DataRun (record { window = window; reach = reach; first = first; frame_limit = frames }) (TextsOf stream) result
+    requires range { IsWithinLimits range.now }
+    ensures run { DataRun range.now (TextsOf stream) result
         I.known input.old input.new O.known out.old out.new }
 {
     // For their clauses alone, as in `unpack`.
@@ -79,5 +72,5 @@ pub fn texts<I: Source, O: Sink>(
         joiner: TextJoiner::new(),
         counts: no_counts(),
     });
-    take_capture(alloc, window, reach, first, frames, &mut taker, input, out)
+    take_capture(alloc, range, &mut taker, input, out)
 }

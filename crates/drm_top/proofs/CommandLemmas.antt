@@ -13,7 +13,7 @@ use Rattle.dcp_pft.specs.declared.carry.Carry.{Carry}
 use Rattle.drm_links.specs.Source.{Input}
 use Rattle.drm_links.specs.Sink.{Output}
 use Rattle.cmd_convert.specs.Run as convert
-use Rattle.recv_reading.specs.Packets.{PacketRange}
+use Rattle.recv_reading.specs.declared.options.PacketRange.{PacketRange}
 use Rattle.drm_links.specs.declared.dock.Address.{Address}
 use Rattle.drm_links.specs.declared.link.LinkFault.{LinkFault}
 use Rattle.recv_reading.specs.declared.options.ReceiveOptions.{ReceiveOptions}

@@ -12,8 +12,8 @@ use Rattle.dcp_pft.specs.Carrying.{CarryFits}
 use Rattle.cli_syntax.specs.Carries.{IsCarry}
 use Rattle.drm_links.specs.Dock.{AreDifferent}
 use Rattle.link_group.specs.Listed.{AreListed}
-use Rattle.recv_reading.specs.Options.{AreInRange}
-use Rattle.drm_top.specs.Words.{options_of, IsRequestInRange, IsInStretch}
+use Rattle.recv_reading.specs.Options.{AreInRange, IsWithinLimits}
+use Rattle.drm_top.specs.Words.{options_of, range_of, IsRequestInRange}
 
 within : (default least greatest n : ℕ) (value : Option (List ℕ)) → least ≤ default → default ≤ greatest → IsNumberOr default least greatest value n → (least ≤ n) × (n ≤ greatest)
 within default least greatest n None low high is = (omega (arith, is, low), omega (arith, is, high))
@@ -68,7 +68,7 @@ both : (frames : Option ℕ) → IfSome frames (λ n. 1 ≤ n) → IfSome frames
 both None some few = tt
 both (Some n) some few = (some, few)
 
-in_stretch : (options : CommandOptions) (window reach : ℕ) (first frames : Option ℕ) → IsStretch options window reach first frames → IsInStretch window frames
+in_stretch : (options : CommandOptions) (window reach : ℕ) (first frames : Option ℕ) → IsStretch options window reach first frames → IsWithinLimits (range_of window reach first frames)
 in_stretch options window reach first frames packets =
     let size = within 8 1 64 window _ (omega arith) (omega arith) packets.has_window in
     let some = within_or_none 1 3000000 _ frames packets.has_frames in

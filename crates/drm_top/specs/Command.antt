@@ -26,7 +26,7 @@ use Rattle.cmd_faults.specs.Fault.{done_of, whole_of, report_status, ReportsIf}
 use Rattle.cmd_faults.specs.declared.fault.Fault.{Fault}
 use Rattle.cmd_faults.specs.declared.fault.Fault.TheVariants.{NoMemory}
 use Rattle.drm_top.specs.Outside.{Outside, IsStill}
-use Rattle.drm_top.specs.Words.{options_of}
+use Rattle.drm_top.specs.Words.{options_of, range_of}
 use Rattle.drm_words.specs.declared.request.Request.{Request}
 use Rattle.drm_words.specs.declared.request.Request.TheVariants.{Fac, Check, Serve, Receive, Count, Air, Show, Exercise, Convert, Gate, Pack, Unpack, Texts}
 
@@ -77,16 +77,16 @@ CommandRun Show ending err_ok o =
 CommandRun (Exercise n) ending err_ok o =
     ExerciseRun n ending o.out.known o.out.before o.out.after × IsStill o.shelf × IsStill o.input × IsStill o.dock × IsQuiet err_ok o.err.before o.err.after
 CommandRun (Convert carry window reach first frames) ending err_ok o =
-    ConvertRun (record { window = window; reach = reach; first = first; frame_limit = frames }) carry ending err_ok o.input.known o.input.before o.input.after o.out.known o.out.before o.out.after o.err.known o.err.before o.err.after × IsStill o.shelf × IsStill o.dock
+    ConvertRun (range_of window reach first frames) carry ending err_ok o.input.known o.input.before o.input.after o.out.known o.out.before o.out.after o.err.known o.err.before o.err.after × IsStill o.shelf × IsStill o.dock
 CommandRun (Gate from to carry window reach first frames idle limit) ending err_ok o =
     GateCommandRun (options_of window reach first frames idle limit) carry from to ending o.dock.known o.dock.before o.dock.after o.out.known o.out.before o.out.after × IsStill o.shelf × IsStill o.input × IsQuiet err_ok o.err.before o.err.after
 CommandRun (Pack pid length) ending err_ok o =
     EndsWhole ending (λ done. PackRun pid length done o.input.known o.input.before o.input.after o.out.known o.out.before o.out.after) × IsStill o.shelf × IsStill o.dock × IsQuiet err_ok o.err.before o.err.after
 CommandRun (Unpack stream pid length window reach first frames) ending err_ok o =
-    DataRun (record { window = window; reach = reach; first = first; frame_limit = frames }) (UnitsOf stream pid length) ending o.input.known o.input.before o.input.after o.out.known o.out.before o.out.after
+    DataRun (range_of window reach first frames) (UnitsOf stream pid length) ending o.input.known o.input.before o.input.after o.out.known o.out.before o.out.after
     × IsStill o.shelf × IsStill o.dock × IsQuiet err_ok o.err.before o.err.after
 CommandRun (Texts stream window reach first frames) ending err_ok o =
-    DataRun (record { window = window; reach = reach; first = first; frame_limit = frames }) (TextsOf stream) ending o.input.known o.input.before o.input.after o.out.known o.out.before o.out.after
+    DataRun (range_of window reach first frames) (TextsOf stream) ending o.input.known o.input.before o.input.after o.out.known o.out.before o.out.after
     × IsStill o.shelf × IsStill o.dock × IsQuiet err_ok o.err.before o.err.after
 
 -- nothing of the outside was touched

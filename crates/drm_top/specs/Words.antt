@@ -1,13 +1,14 @@
 -- The command lines, each with its request.
-use Rattle.std.specs.Prelude.{ℕ, ◌≤◌, ◌<◌, List, Option, None, Some, IfSome, IsUtf8}
+use Rattle.std.specs.Prelude.{ℕ, ◌≤◌, ◌<◌, List, Option, None, Some, IsUtf8}
 use Rattle.dcp_pft.specs.Carrying.{CarryFits}
 use Rattle.drm_words.specs.Line.{IsLine}
 use Rattle.drm_words.specs.declared.request.Request.{Request}
 use Rattle.drm_words.specs.declared.request.Request.TheVariants.{Check, Serve, Receive, Count, Air, Exercise, Convert, Gate, Pack, Unpack, Texts}
 use Rattle.drm_links.specs.Dock.{AreDifferent}
 use Rattle.link_group.specs.Listed.{AreListed}
-use Rattle.recv_reading.specs.Options.{AreInRange}
+use Rattle.recv_reading.specs.Options.{AreInRange, IsWithinLimits}
 use Rattle.recv_reading.specs.declared.options.ReceiveOptions.{ReceiveOptions}
+use Rattle.recv_reading.specs.declared.options.PacketRange.{PacketRange}
 
 -- the words are a command line with this request
 abbrev pub AsksFor : Request → List (List ℕ) → Type 0
@@ -21,9 +22,9 @@ AsksForNothing words = (request : Request) → AsksFor request words → ⊥
 abbrev pub options_of : ℕ → ℕ → Option ℕ → Option ℕ → ℕ → ℕ → ReceiveOptions
 options_of window reach first frames idle limit = record { window = window; reach = reach; first = first; frames = frames; idle = idle; limit = limit }
 
--- the window and the number of frames, where it is told, are in their ranges
-abbrev pub IsInStretch : ℕ → Option ℕ → Type 0
-IsInStretch window frames = (1 ≤ window) × (window ≤ 64) × IfSome frames (λ n. (1 ≤ n) × (n ≤ 3000000))
+-- which packets of a capture a request with these numbers receives
+abbrev pub range_of : ℕ → ℕ → Option ℕ → Option ℕ → PacketRange
+range_of window reach first frames = record { window = window; reach = reach; first = first; frame_limit = frames }
 
 -- its names are text, and its numbers are in their ranges
 abbrev pub IsRequestInRange : Request → Type 0
@@ -34,9 +35,9 @@ IsRequestInRange (Receive None window reach first frames idle limit) = AreInRang
 IsRequestInRange (Count address window reach first frames idle limit) = AreInRange (options_of window reach first frames idle limit)
 IsRequestInRange (Air name script window) = IsUtf8 name × IsUtf8 script × (1 ≤ window) × (window ≤ 64)
 IsRequestInRange (Exercise n) = (1 ≤ n) × (n ≤ 1000)
-IsRequestInRange (Convert carry window reach first frames) = CarryFits carry × IsInStretch window frames
+IsRequestInRange (Convert carry window reach first frames) = CarryFits carry × IsWithinLimits (range_of window reach first frames)
 IsRequestInRange (Gate from to carry window reach first frames idle limit) = CarryFits carry × AreInRange (options_of window reach first frames idle limit) × AreListed to
 IsRequestInRange (Pack pid length) = (pid < 4) × (1 ≤ length)
-IsRequestInRange (Unpack stream pid length window reach first frames) = (stream < 4) × (pid < 4) × (1 ≤ length) × IsInStretch window frames
-IsRequestInRange (Texts stream window reach first frames) = (stream < 4) × IsInStretch window frames
+IsRequestInRange (Unpack stream pid length window reach first frames) = (stream < 4) × (pid < 4) × (1 ≤ length) × IsWithinLimits (range_of window reach first frames)
+IsRequestInRange (Texts stream window reach first frames) = (stream < 4) × IsWithinLimits (range_of window reach first frames)
 IsRequestInRange _ = Unit {0}

@@ -12,7 +12,7 @@ ghost use Rattle.drm_top.specs.Outside.{outside};
 ghost use Rattle.drm_top.specs.Words.{AsksFor, AsksForNothing, IsRequestInRange};
 ghost use Rattle.drm_words.specs.declared.request.Request.{Request};
 
-use crate::words::{options_of, text};
+use crate::words::{options_of, range_of, text};
 use cmd_air::air;
 use cmd_convert::convert;
 use cmd_count::{count, count_capture};
@@ -252,9 +252,10 @@ where
             reach,
             first,
             frames,
-        } => convert(
-            alloc, *carry, *window, *reach, *first, *frames, input, out, err, err_ok,
-        ),
+        } => {
+            let range = range_of(*window, *reach, *first, *frames);
+            convert(alloc, *carry, &range, input, out, err, err_ok)
+        }
         Request::Gate {
             from,
             to,
@@ -278,16 +279,20 @@ where
             reach,
             first,
             frames,
-        } => unpack(
-            alloc, *stream, *pid, *length, *window, *reach, *first, *frames, input, out,
-        ),
+        } => {
+            let range = range_of(*window, *reach, *first, *frames);
+            unpack(alloc, *stream, *pid, *length, &range, input, out)
+        }
         Request::Texts {
             stream,
             window,
             reach,
             first,
             frames,
-        } => texts(alloc, *stream, *window, *reach, *first, *frames, input, out),
+        } => {
+            let range = range_of(*window, *reach, *first, *frames);
+            texts(alloc, *stream, &range, input, out)
+        }
     }
 }
 

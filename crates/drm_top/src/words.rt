@@ -4,7 +4,7 @@ ghost use Rattle.std.specs.Prelude.{◌≡◌, IsUtf8};
 ghost use Rattle.drm_top.specs.Words as words;
 
 use drm_bits::Octets;
-use recv_reading::ReceiveOptions;
+use recv_reading::{PacketRange, ReceiveOptions};
 
 /// By what a request with these numbers receives.
 pub(crate) fn options_of(
@@ -24,6 +24,23 @@ pub(crate) fn options_of(
         frames,
         idle,
         limit,
+    }
+}
+
+/// Which packets of a capture a request with these numbers receives.
+pub(crate) fn range_of(
+    window: u8,
+    reach: u16,
+    first: Option<u16>,
+    frames: Option<u64>,
+) -> PacketRange
+    ensures { result ≡ words.range_of window reach first frames }
+{
+    PacketRange {
+        window,
+        reach,
+        first,
+        frame_limit: frames,
     }
 }
 

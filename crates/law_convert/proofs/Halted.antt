@@ -22,7 +22,8 @@ use Rattle.drm_server.proofs.OnePacket.{one_packet}
 use Rattle.law_delivery.specs.Sent.{Arrival, IsDeliveryOf}
 use Rattle.law_delivery.proofs.Configurations.{size_fits}
 use Rattle.law_delivery.proofs.Lengths.{packet_long}
-use Rattle.recv_reading.specs.Packets.{ComesAt, ComesTo, PacketRange}
+use Rattle.recv_reading.specs.Packets.{ComesAt, ComesTo}
+use Rattle.recv_reading.specs.declared.options.PacketRange.{PacketRange}
 use Rattle.recv_reading.specs.State.{is_full}
 use Rattle.recv_reading.specs.First.{first_of}
 use Rattle.cmd_convert.specs.Converting.{ItemOutput, ConvertsAll, text_of, lines_of}

@@ -23,7 +23,8 @@ use Rattle.cmd_convert.specs.Converting.{ItemOutput, text_of, lines_of}
 use Rattle.cmd_convert.specs.Steps.{has_none}
 use Rattle.cmd_convert.specs.Converted.{are_clean}
 use Rattle.cmd_convert.proofs.PartLemmas.{front_of_all, no_lines_before}
-use Rattle.recv_reading.specs.Packets.{AreEnough, AreReadBy, HasEnough, PacketRange}
+use Rattle.recv_reading.specs.Packets.{AreEnough, AreReadBy, HasEnough}
+use Rattle.recv_reading.specs.declared.options.PacketRange.{PacketRange}
 use Rattle.law_convert.specs.Laws.{under, AllInTime, NoneIsTooLarge, ConversionsAreCaptures, IsOfFirstFrames, BrokenConversions, IsOfSomeFrames, HaltedConversions, CapturesAreConverted}
 
 -- ---- what is told of an input

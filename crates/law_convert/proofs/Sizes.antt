@@ -25,7 +25,8 @@ use Rattle.law_delivery.proofs.Lengths.{af_long, packet_long}
 use Rattle.law_delivery.proofs.Packets.{at_number, IsChosen, ArePackets, filler, filler_af, filler_is, chosen_at}
 use Rattle.dcp_sender.specs.CarriesText.{is_too_long}
 use Rattle.cmd_convert.specs.Converting.{IsTooLarge}
-use Rattle.recv_reading.specs.Packets.{ComesAt, ComesTo, PacketRange}
+use Rattle.recv_reading.specs.Packets.{ComesAt, ComesTo}
+use Rattle.recv_reading.specs.declared.options.PacketRange.{PacketRange}
 use Rattle.recv_reading.proofs.Ways.{taken_starts, finished_starts}
 use Rattle.law_convert.specs.Laws.{FitsCarry, NoneIsTooLarge}
 use Rattle.law_convert.proofs.Prefixes.{front_followed}

@@ -20,7 +20,8 @@ use Rattle.capture_reader.specs.Capture.{IsCaptureOf, End}
 use Rattle.cmd_faults.specs.declared.fault.Fault.{Fault}
 use Rattle.cmd_faults.specs.declared.fault.Fault.TheVariants as faults
 use Rattle.cmd_convert.specs.Converting.{ItemOutput, ConvertsAll, IsTooLarge, text_of, lines_of}
-use Rattle.recv_reading.specs.Packets.{ComesAt, HasEnough, PacketRange}
+use Rattle.recv_reading.specs.Packets.{ComesAt, HasEnough}
+use Rattle.recv_reading.specs.declared.options.PacketRange.{PacketRange}
 use Rattle.recv_reading.specs.State.{is_full}
 use Rattle.cmd_convert.specs.Run.{IsConversion, IsConversionBroken, ConvertEnds}
 use Rattle.recv_reading.specs.First.{first_of}

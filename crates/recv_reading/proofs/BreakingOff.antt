@@ -9,7 +9,8 @@ use Rattle.capture_reader.specs.Capture.{IsCaptureOf, CaptureEnding, End}
 use Rattle.capture_reader.specs.Laws.{ReadOneWay}
 use Rattle.law_capture.specs.Laws.{PacketsInFront}
 use Rattle.capture_reader.specs.declared.packets.CaptureStop.{CaptureStop}
-use Rattle.recv_reading.specs.Packets.{PacketRange, HasEnough, NoneShorter, AreEnough, BreaksOffBy}
+use Rattle.recv_reading.specs.Packets.{HasEnough, NoneShorter, AreEnough, BreaksOffBy}
+use Rattle.recv_reading.specs.declared.options.PacketRange.{PacketRange}
 use Rattle.recv_reading.specs.Given.{GivesAll, GivesUntil}
 
 -- fewer packets than these aren't enough, nor are these

@@ -9,7 +9,7 @@ pub use Rattle.dcp_collect.specs.Runs.{CollectorItem, Packet, Lost, Damaged, IsI
 pub use Rattle.law_collect.specs.Laws.{GivesSoFar, CollectorInvariant}
 pub use Rattle.recv_reading.specs.declared.options.ReceiveOptions.{ReceiveOptions}
 pub use Rattle.recv_reading.specs.declared.reason.EndWord.{EndWord}
-pub use Rattle.recv_reading.specs.Options.{options_of, capture_bounds, bounds_of, AreUsable}
+pub use Rattle.recv_reading.specs.Options.{options_of, capture_options, IsWithinLimits, bounds_of, AreUsable}
 pub use Rattle.recv_reading.specs.Ending.{datagrams, CollectorGave, HasGiven, ReadingGoesOn, ReadingEndsBy, IsFinished, IsReadingBroken, HaveEnded}
 pub use Rattle.recv_reading.specs.State.{ReadingState, is_full, has_enough, has_ended, ahead, new_reading, word_of}
 pub use Rattle.recv_reading.specs.ReadingReached.{ReadingReached, ReadingWaits, ReadsOn}

@@ -1,8 +1,10 @@
 -- A loop over a reading, with what its consumer has made of the items that were given.
-use Rattle.std.proofs.Common.{◌≡◌, ℕ, ◌≤◌, Bool, false, List, [], ◌∷◌, ◌++◌, length, Option, None, Some, IfSome, Ok, sym, ◌∙◌, ap, subst, arith}
+use Rattle.std.proofs.Common.{◌≡◌, Bool, false, List, [], ◌∷◌, ◌++◌, length, Option, None, Some, Ok, sym, ◌∙◌, ap, subst, arith}
 use Rattle.std.proofs.lemmas.List.{append-nil}
+use Rattle.std.proofs.lemmas.Option.{IfSome_then}
 use Rattle.recv_reading.proofs.Common.{Answer, Datagram, Taken, CollectorState, made, CollectorItem, ReceiveOptions, AreUsable, bounds_of}
-use Rattle.recv_reading.proofs.Common.{capture_bounds, options_of, ReadingState, new_reading, has_ended, ReadingReached, ReadingWaits, ReadsOn}
+use Rattle.recv_reading.proofs.Common.{capture_options, IsWithinLimits, ReadingState, new_reading, has_ended, ReadingReached, ReadingWaits, ReadsOn}
+use Rattle.recv_reading.specs.declared.options.PacketRange.{PacketRange}
 use Rattle.recv_reading.specs.ReadingReached.{GivesNext}
 use Rattle.recv_reading.proofs.Reaching.{reached_none}
 use Rattle.recv_reading.proofs.Finishing.{IsOver, gives_none, waits_now}
@@ -30,9 +32,10 @@ loop_none options so_far Has r c usable reads is none has = record {
   has = has;
 }
 
--- by what a capture is read, where its reading ends with it or by the number of items
-pub capture_usable : (frame_limit : Option ℕ) (c : CollectorState) → 1 ≤ c.window → IfSome frame_limit (λ n. 1 ≤ n) → IfSome frame_limit (λ n. n ≤ 3000000) → AreUsable (options_of c (capture_bounds frame_limit))
-capture_usable frame_limit c window some few = record { window = window; frames = some; most_frames = few; idle = omega arith; limit = omega arith; most_datagrams = omega arith }
+-- by what a capture is read, where its reading ends with it or by the number of frames
+pub capture_usable : (range : PacketRange) → IsWithinLimits range → AreUsable (capture_options range)
+capture_usable range valid =
+    record { window = valid.0; frames = IfSome_then range.frame_limit valid.2 (λ n both. both.0); most_frames = IfSome_then range.frame_limit valid.2 (λ n both. both.1); idle = omega arith; limit = omega arith; most_datagrams = omega arith }
 
 -- where `gives` gives nothing, the reading is as it was, and waits unless it has ended
 pub rests_over : (b : Bool) (r : ReadingState) (c : CollectorState) (s : ReadingState) → GivesNext b r c s → b ≡ false → IsOver s c

@@ -12,7 +12,8 @@ use Rattle.law_collect.proofs.Runs.{steps_part}
 use Rattle.law_collect.proofs.Unique.{one_giving, one_taking}
 use Rattle.recv_reading.proofs.First.{given_first}
 use Rattle.recv_reading.proofs.Reaching.{one_way}
-use Rattle.recv_reading.specs.Packets.{ComesAt, HasEnough, PacketRange}
+use Rattle.recv_reading.specs.Packets.{ComesAt, HasEnough}
+use Rattle.recv_reading.specs.declared.options.PacketRange.{PacketRange}
 
 -- ---- lists
 

@@ -8,7 +8,8 @@ use Rattle.drm_links.specs.Source.{Input}
 use Rattle.capture_reader.specs.declared.packets.CaptureStop.{CaptureStop}
 use Rattle.capture_reader.specs.Front.{IsWhole}
 use Rattle.capture_reader.specs.Reading.{ReadingStops}
-use Rattle.recv_reading.specs.Packets.{PacketRange, HasEnough, NoneShorter, AreEnough, ComesAt, AreReadBy}
+use Rattle.recv_reading.specs.Packets.{HasEnough, NoneShorter, AreEnough, ComesAt, AreReadBy}
+use Rattle.recv_reading.specs.declared.options.PacketRange.{PacketRange}
 use Rattle.recv_reading.specs.State.{is_full}
 
 -- These are all: those of a whole run, up to the told number.

@@ -1,7 +1,8 @@
 -- The numbers by which packets are received.
-use Rattle.std.specs.Prelude.{◌≤◌, ◌<◌, ◌^◌, ℕ, Option, IfSome}
+use Rattle.std.specs.Prelude.{◌≤◌, ◌<◌, ◌^◌, IfSome}
 use Rattle.dcp_collect.specs.CollectorState.{CollectorState}
 use Rattle.recv_reading.specs.declared.options.ReceiveOptions.{ReceiveOptions}
+use Rattle.recv_reading.specs.declared.options.PacketRange.{PacketRange}
 use Rattle.recv_reading.specs.declared.options.Bounds.{Bounds}
 
 -- each number is in the range that a command line has for it
@@ -33,6 +34,10 @@ bounds_of options = record { frames = options.frames; idle = options.idle; limit
 abbrev pub options_of : CollectorState → Bounds → ReceiveOptions
 options_of c bounds = record { window = c.window; reach = c.reach; first = c.first; frames = bounds.frames; idle = bounds.idle; limit = bounds.limit }
 
--- those of a reading that ends with its capture, which has fewer packets than that, or by the number of items
-abbrev pub capture_bounds : Option ℕ → Bounds
-capture_bounds frames = record { frames = frames; idle = 1; limit = 2 ^ 61 }
+-- the window and the number of frames, where it is given, are in the ranges that a command line has for them
+abbrev pub IsWithinLimits : PacketRange → Type 0
+IsWithinLimits range = (1 ≤ range.window) × (range.window ≤ 64) × IfSome range.frame_limit (λ n. (1 ≤ n) × (n ≤ 3000000))
+
+-- those of a reading that ends with its capture, which has fewer packets than that, or by the number of frames
+abbrev pub capture_options : PacketRange → ReceiveOptions
+capture_options range = record { window = range.window; reach = range.reach; first = range.first; frames = range.frame_limit; idle = 1; limit = 2 ^ 61 }

@@ -1,5 +1,5 @@
 -- Which packets of a capture are read, and what a collector gives of them.
-use Rattle.std.specs.Prelude.{ℕ, ◌≡◌, ◌<◌, ◌⊎◌, true, List, [], ◌∷◌, ◌++◌, length, take, Option}
+use Rattle.std.specs.Prelude.{ℕ, ◌≡◌, ◌<◌, ◌⊎◌, true, List, [], ◌∷◌, ◌++◌, length, take}
 use Rattle.dcp_collect.specs.declared.taken.Taken.{Taken}
 use Rattle.dcp_collect.specs.CollectorState.{CollectorState, made, ready, after_finish}
 use Rattle.dcp_collect.specs.Runs.{CollectorItem, IsItem, CollectorTakes, CollectorSteps}
@@ -10,14 +10,8 @@ use Rattle.capture_reader.specs.Capture.{IsCaptureOf, CaptureEnding, End}
 use Rattle.capture_reader.specs.Walking.{WalkerState}
 use Rattle.capture_reader.specs.Reading.{HasRead}
 use Rattle.recv_reading.specs.declared.options.ReceiveOptions.{ReceiveOptions}
+use Rattle.recv_reading.specs.declared.options.PacketRange.{PacketRange}
 use Rattle.recv_reading.specs.State.{is_full}
-
--- by what a capture is read: the window, the reach, the first sequence number and the number of items, where these are told
-pub record PacketRange : Type 0 where
-  pub window : ℕ
-  pub reach : ℕ
-  pub first : Option ℕ
-  pub frame_limit : Option ℕ
 
 -- those of a reading that ends with its capture, or by the number of items
 abbrev pub range_of : ReceiveOptions → PacketRange

@@ -20,7 +20,7 @@ mod reading;
 mod reason;
 mod source;
 
-pub use options::{Bounds, ReceiveOptions};
+pub use options::{Bounds, PacketRange, ReceiveOptions};
 pub use reading::Reading;
 pub use reason::EndWord;
 pub use source::{Datagrams, ReceiveBuffer, SourceFault};

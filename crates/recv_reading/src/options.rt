@@ -1,7 +1,7 @@
 //! By what packets are received.
 
 ghost use Rattle.std.specs.Prelude.{◌≡◌};
-ghost use Rattle.recv_reading.specs.Options.{bounds_of, capture_bounds};
+ghost use Rattle.recv_reading.specs.Options.{bounds_of, capture_options};
 
 /// Which packets a reading takes and counts, and when it ends.
 #[derive(Clone, Copy, Debug, PartialEq, Eq)]
@@ -20,6 +20,19 @@ pub struct ReceiveOptions {
     pub limit: u32,
 }
 
+/// Which packets of a capture are received.
+#[derive(Clone, Copy, Debug, PartialEq, Eq)]
+pub struct PacketRange {
+    /// In packets, from 1 to 64.
+    pub window: u8,
+    /// How far one may be ahead of the newest packet, from 1 to 32,767.
+    pub reach: u16,
+    /// The first sequence number, where it is given.
+    pub first: Option<u16>,
+    /// The number of frames, where it is given, from 1 to 3,000,000.
+    pub frame_limit: Option<u64>,
+}
+
 /// When a reading ends, unless its input does.
 #[derive(Clone, Copy, Debug, PartialEq, Eq)]
 pub struct Bounds {
@@ -34,13 +47,13 @@ pub struct Bounds {
 /// More datagrams than a capture has.
 const FAR: u64 = 1 << 61;
 
-impl Bounds {
-    /// Those of a reading that ends with its capture, or after so many frames.
-    pub fn of_capture(frames: Option<u64>) -> Bounds
-        ensures { result ≡ capture_bounds frames }
+impl PacketRange {
+    /// When a reading of these ends, unless the capture does before: after so many frames.
+    pub fn bounds(&self) -> Bounds
+        ensures { result ≡ bounds_of (capture_options self.now) }
     {
         Bounds {
-            frames,
+            frames: self.frame_limit,
             idle: 1,
             limit: FAR,
         }

@@ -1,8 +1,9 @@
-use Rattle.std.proofs.Common.{ap, Err, ◌∙◌}
+use Rattle.std.proofs.Common.{ap, subst, Err, ◌∙◌}
 use Rattle.std.proofs.lemmas.Result.{err_from_is_err_and}
 use Rattle.drm_links.proofs.KnownLemmas.{counts_as}
 use Rattle.cmd_convert.specs.Reading.{ending_of}
-use Rattle.cmd_convert.proofs.Endings.{not_memory, by_read, by_write, as_asked}
+use Rattle.cmd_convert.specs.Run.{ConvertEnds}
+use Rattle.cmd_convert.proofs.Endings.{not_memory, by_read, by_write}
 use Rattle.cmd_convert.proofs.Exactly.{convert_run, memory_run}
 use Rattle.cmd_convert.proofs.command.convert.Goals as goal
 
@@ -23,9 +24,9 @@ returns g c =
       run = rw c.ending.ensures
           (convert_run c.read_one_way.ensures c.read_some_way.ensures c.packets_in_front.ensures _ c.args.carry (ending_of run.result clean) run.new.progress.err_ok
           g.I.Source.known c.args.input.now run.new.input g.O.Sink.known c.args.out.now run.new.out g.E.Sink.known c.args.err.now run.new.err
-          (as_asked c.args.window c.args.reach c.args.first c.args.frames c.args.carry c.in_ok-collector.cutter c.in_ok-collector.collector (ending_of run.result clean) run.new.progress.err_ok
-          (g.I.Source.known c.args.input.now) (g.I.Source.known run.new.input) (g.O.Sink.known c.args.out.now) (g.O.Sink.known run.new.out) (g.E.Sink.known c.args.err.now) (g.E.Sink.known run.new.err)
-          c.in_ok-collector.ensures.0 c.in_ok-collector.ensures.1 run.ensures.ends)
+          (subst (λ k. ConvertEnds c.args.range.now k (ending_of run.result clean) run.new.progress.err_ok
+          (g.I.Source.known c.args.input.now) (g.I.Source.known run.new.input) (g.O.Sink.known c.args.out.now) (g.O.Sink.known run.new.out) (g.E.Sink.known c.args.err.now) (g.E.Sink.known run.new.err))
+          c.in_ok-collector.ensures.1 run.ensures.ends)
           (λ is. absurd (not_memory run.result clean is))
           (counts_as (by_read run.result clean) (λ is. ap (λ r. ending_of r clean) is) run.ensures.read)
           (counts_as (by_write run.result clean) (λ is. ap (λ r. ending_of r clean) is) run.ensures.write));

@@ -1,6 +1,6 @@
 use Rattle.std.proofs.Common.{[], ◌∷◌, ◌++◌, Err, ap, refl, sym, subst, ◌∙◌, arith}
 use Rattle.std.proofs.lemmas.Result.{err_from_is_err_and}
-use Rattle.recv_reading.proofs.Common.{capture_bounds, options_of, KeepsFirst, new_reading, ReadingReached}
+use Rattle.recv_reading.proofs.Common.{capture_options, KeepsFirst, new_reading, ReadingReached}
 use Rattle.recv_reading.proofs.Finishing.{gives_so}
 use Rattle.recv_reading.proofs.Looping.{loop_none, capture_usable, rests_over, rests_waiting, loop_rests}
 use Rattle.recv_reading.proofs.Sources.{read_none}
@@ -15,10 +15,10 @@ packets-init g c =
     let out = g.O.Sink.known c.args.out.now in
     let err = g.E.Sink.known c.args.err.now in
     let used = c.args.cutter.now in (
-      loop_none (options_of c.args.collector.now (capture_bounds c.args.frame_limit)) _
+      loop_none (capture_options c.args.range.now) _
           (Converting used c.args.progress.now out out err err) c.new-reading.result c.args.collector.now
-          (capture_usable c.args.frame_limit c.args.collector.now c.requires.window.0 c.requires.at_least_one c.requires.within_limit)
-          (c.new-reading.ensures ∙ ap new_reading c.of_capture.ensures) c.requires.collector
+          (capture_usable c.args.range.now c.requires.range)
+          (c.new-reading.ensures ∙ ap new_reading c.bounds.ensures) c.requires.collector
           (read_none (g.I.Source.known c.args.input.now) c.args.packets.now c.requires.packets)
           (subst (λ q. ConvertedAll used c.args.collector.now [] new_progress q out out err err)
           (sym c.requires.progress) (all_none used c.args.collector.now new_progress out err)),
@@ -47,7 +47,7 @@ returns-in_err-convert_next-clause-ends g c =
 pub packets-preserved-then-gives : goal.packets-preserved-then-gives
 packets-preserved-then-gives g c =
     let i = c.packets.invariant in
-    let options = options_of c.args.collector.now (capture_bounds c.args.frame_limit) in
+    let options = capture_options c.args.range.now in
     let n = c.in_ok-convert_next.ensures.next in (
       one_given _ _ _ _ _ _ _ _ _ _ _ _ i.0 c.packets.cutter c.gives.new.self
           c.convert_next.new.collector c.convert_next.new.progress c.in_ok-convert_next.field-0
@@ -78,7 +78,7 @@ read_packet-requires-clause-waits g c =
 
 pub returns-in_err-read_packet-clause-ends : goal.returns-in_err-read_packet-clause-ends
 returns-in_err-read_packet-clause-ends g c =
-    let options = options_of c.args.collector.now (capture_bounds c.args.frame_limit) in
+    let options = capture_options c.args.range.now in
     let e = err_from_is_err_and c.from_residual-in_err-read_packet.result
     c.from_residual-in_err-read_packet.ensures.1 in
     let here = loop_rests _ _ _ _ _ c.packets.invariant.0 c.gives.result c.gives.new.self c.gives.ensures.gives c.if-gives.false in
@@ -92,7 +92,7 @@ returns-in_err-read_packet-clause-ends g c =
 pub packets-preserved : goal.packets-preserved
 packets-preserved g c =
     let i = c.packets.invariant in
-    let options = options_of c.args.collector.now (capture_bounds c.args.frame_limit) in
+    let options = capture_options c.args.range.now in
     let here = loop_rests _ _ _ _ _ i.0 c.gives.result c.gives.new.self c.gives.ensures.gives c.if-gives.false in (
       one_on _ _ _ _ _ _ _ _ _ _ _ _ here c.read_packet.new.packets
           (g.I.Source.known c.read_packet.new.input) c.in_ok-read_packet.field-0 c.read_packet.new.self

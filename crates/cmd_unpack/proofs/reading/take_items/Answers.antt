@@ -4,7 +4,7 @@ use Rattle.drm_links.proofs.KnownLemmas.{done_counts}
 use Rattle.drm_reconfiguration.specs.Tracker.{TrackerState}
 use Rattle.dcp_collect.specs.View.{item_of as given_of}
 use Rattle.mod_feed.specs.Items.{item_of}
-use Rattle.recv_reading.proofs.Common.{capture_bounds, options_of, CollectorState, new_reading, ReadingReached}
+use Rattle.recv_reading.proofs.Common.{capture_options, CollectorState, new_reading, ReadingReached}
 use Rattle.recv_reading.proofs.Finishing.{gives_so}
 use Rattle.recv_reading.proofs.Looping.{loop_none, capture_usable, rests_over, rests_waiting, loop_rests}
 use Rattle.recv_reading.proofs.Sources.{read_none}
@@ -13,9 +13,9 @@ use Rattle.cmd_unpack.proofs.reading.take_items.Goals as goal
 
 pub items-init : goal.items-init
 items-init g c = (
-  loop_none (options_of c.args.collector.now (capture_bounds c.args.frame_limit)) _ (Taking c.args.taker.now c.args.taker.now c.new-feed.result.calls (g.O.Sink.known c.args.out.now) (g.O.Sink.known c.args.out.now))
-      c.new-reading.result c.args.collector.now (capture_usable c.args.frame_limit c.args.collector.now c.requires.window.0 c.requires.at_least_one c.requires.within_limit)
-      (c.new-reading.ensures ∙ ap new_reading c.of_capture.ensures) c.requires.collector (read_none (g.I.Source.known c.args.input.now) c.args.packets.now c.requires.packets)
+  loop_none (capture_options c.args.range.now) _ (Taking c.args.taker.now c.args.taker.now c.new-feed.result.calls (g.O.Sink.known c.args.out.now) (g.O.Sink.known c.args.out.now))
+      c.new-reading.result c.args.collector.now (capture_usable c.args.range.now c.requires.range)
+      (c.new-reading.ensures ∙ ap new_reading c.bounds.ensures) c.requires.collector (read_none (g.I.Source.known c.args.input.now) c.args.packets.now c.requires.packets)
       (none_taken c.args.taker.now c.new-feed.result.calls c.args.collector.now (g.O.Sink.known c.args.out.now) (ap (λ (s : CollectorState). s.next) c.requires.collector)
       (ap (λ (f : TrackerState). f.calls) c.new-feed.ensures) c.requires.ready c.requires.none),
   refl,
@@ -36,7 +36,7 @@ read_packet-requires-clause-waits g c =
 
 pub returns-in_err-read_packet-clause-takes : goal.returns-in_err-read_packet-clause-takes
 returns-in_err-read_packet-clause-takes g c = λ what new.
-    let options = options_of c.args.collector.now (capture_bounds c.args.frame_limit) in
+    let options = capture_options c.args.range.now in
     let e = err_from_is_err_and c.from_residual-in_err-read_packet.result c.from_residual-in_err-read_packet.ensures.1 in
     let here = loop_rests _ _ _ _ _ c.items.invariant.0 c.gives.result c.gives.new.self c.gives.ensures.gives c.if-gives.false in
     rw (e.1 ∙ ap Err e.2)
@@ -46,7 +46,7 @@ returns-in_err-read_packet-clause-takes g c = λ what new.
 pub items-preserved : goal.items-preserved
 items-preserved g c =
     let i = c.items.invariant in
-    let options = options_of c.args.collector.now (capture_bounds c.args.frame_limit) in
+    let options = capture_options c.args.range.now in
     let here = loop_rests _ _ _ _ _ i.0 c.gives.result c.gives.new.self c.gives.ensures.gives c.if-gives.false in (
       one_on _ _ _ _ _ _ _ _ _ _ _ here c.read_packet.new.packets (g.I.Source.known c.read_packet.new.input) c.in_ok-read_packet.field-0 c.read_packet.new.self c.read_packet.new.collector
           (c.in_ok-read_packet.ensures.reads c.args.input.now options here.answers here.taken here.during here.more here.heard here.reached),
@@ -65,7 +65,7 @@ returns-in_err-take-clause-takes g c = λ what new.
 pub items-preserved-then-gives : goal.items-preserved-then-gives
 items-preserved-then-gives g c =
     let i = c.items.invariant in
-    let options = options_of c.args.collector.now (capture_bounds c.args.frame_limit) in
+    let options = capture_options c.args.range.now in
     let next = given_of c.in-Some.next in
     let (enough, now, small, given) = gives_so c.gives.result c.items.reading c.items.collector c.gives.new.self c.gives.ensures.gives c.if-gives.true in
     let after = after_given c.items.collector c.next.follows.lender-at-none now c.next.follows.holds-at-none in (

@@ -216,17 +216,28 @@ returns-in-Exercise g c =
       dock = λ none. refl;
     }
 
+-- ---- what reads a capture, frame by frame
+
+pub convert-requires-clause-range : goal.convert-requires-clause-range
+convert-requires-clause-range g c = rw c.range_of-range.ensures ((rw c.in-Convert.is at c.requires.range).1)
+
+pub unpack-requires-clause-range : goal.unpack-requires-clause-range
+unpack-requires-clause-range g c = rw c.range_of-range-in-Unpack.ensures ((rw c.in-Unpack.is at c.requires.range).3)
+
+pub texts-requires-clause-range : goal.texts-requires-clause-range
+texts-requires-clause-range g c = rw c.range_of-range-in-Texts.ensures ((rw c.in-Texts.is at c.requires.range).1)
+
 pub returns-in-Convert : goal.returns-in-Convert
 returns-in-Convert g c =
     let run = c.convert.ensures.run in
     record {
-      words = λ e. not_convert (record { window = c.in-Convert.window; reach = c.in-Convert.reach; first = c.in-Convert.first; frame_limit = c.in-Convert.frames }) c.in-Convert.carry _ _ _ _ _ _ _ _ run.ends e;
+      words = λ e. not_convert c.range_of-range.result c.in-Convert.carry _ _ _ _ _ _ _ _ run.ends e;
       memory = λ e. (let none = run.untouched e in (none.0, none.1));
-      run = rw c.in-Convert.is (run, refl, refl);
+      run = rw c.in-Convert.is (rw c.range_of-range.ensures at run, refl, refl);
       read = λ _. one_alone run.read_cause refl;
       write = run.write_cause;
       opening = inl refl;
-      link = λ e. absurd (not_a_link (record { window = c.in-Convert.window; reach = c.in-Convert.reach; first = c.in-Convert.first; frame_limit = c.in-Convert.frames }) c.in-Convert.carry _ _ _ _ _ _ _ _ run.ends e);
+      link = λ e. absurd (not_a_link c.range_of-range.result c.in-Convert.carry _ _ _ _ _ _ _ _ run.ends e);
       lacking = λ e. rw c.in-Convert.is tt;
       unsent = λ e. dock_still (g.D.Dock.known c.args.dock.now);
       dock = λ none. refl;
@@ -277,7 +288,7 @@ returns-in-Unpack g c =
     record {
       words = λ e. run.kind faults.Words e;
       memory = λ e. run.untouched e;
-      run = rw c.in-Unpack.is (run, refl, refl, (c.requires.err_ok, refl));
+      run = rw c.in-Unpack.is (rw c.range_of-range-in-Unpack.ensures at run, refl, refl, (c.requires.err_ok, refl));
       read = λ _. one_alone run.read_cause refl;
       write = run.write_cause;
       opening = inl refl;
@@ -293,7 +304,7 @@ returns-in-Texts g c =
     record {
       words = λ e. run.kind faults.Words e;
       memory = λ e. run.untouched e;
-      run = rw c.in-Texts.is (run, refl, refl, (c.requires.err_ok, refl));
+      run = rw c.in-Texts.is (rw c.range_of-range-in-Texts.ensures at run, refl, refl, (c.requires.err_ok, refl));
       read = λ _. one_alone run.read_cause refl;
       write = run.write_cause;
       opening = inl refl;
