@@ -15,7 +15,7 @@ use Rattle.dcp_collect.specs.Counters.{MarksDescribe}
 use Rattle.dcp_collect.specs.Fragments.{NumberedFragment, has_index}
 use Rattle.dcp_collect.specs.Erasure.{IsFound, erased_positions, position}
 use Rattle.dcp_collect.specs.Multiples.{AreMultiples, IsOneChunk, IsReady}
-use Rattle.dcp_collect.specs.declared.multiples.Multiples.{Multiples}
+use Rattle.dcp_collect.specs.declared.multiples.ChunkMultiples.{ChunkMultiples}
 use Rattle.dcp_collect.proofs.Chunks.{chunk_found}
 use Rattle.dcp_collect.proofs.StoredWords.{word_agrees}
 use Rattle.dcp_collect.proofs.Words.{of_chunk, of_fill, of_parity}
@@ -95,7 +95,7 @@ module _ (one : List ℕ) (is : IsOneChunk one) where
     multiple_position j lt = multiple_at (position 1 j) (position_within 1 j (omega arith) (omega arith)) ∙ ap (times byte) (one_at j lt)
 
 -- The byte that was written is that of a chunk, if the known bytes are those of the multiple by it.
-module _ (count : ℕ) (fs : List NumberedFragment) (marks : List Bool) (m : Multiples) (byte start at : ℕ) (old new : List ℕ) (small : byte < 256)
+module _ (count : ℕ) (fs : List NumberedFragment) (marks : List Bool) (m : ChunkMultiples) (byte start at : ℕ) (old new : List ℕ) (small : byte < 256)
     (ready : IsReady count marks m) (first : m.known.first ≡ start % count) (multiples : AreMultiples byte m.one old start m.known) (room : at + 1 ≤ length old)
     (put : new ≡ take at old ++ (byte ∷ []) ++ drop (at + length (byte ∷ [])) old) where
   found : MarksDescribe count fs marks old start (start + 1 + 48) → IsFound count fs 1 start (take 1 (drop at new))

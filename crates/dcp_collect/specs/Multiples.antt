@@ -4,7 +4,7 @@ use Rattle.gf_field.specs.Field.{times}
 use Rattle.rs_erase.specs.Code.{IsCodeWord, word_of}
 use Rattle.rs_patterns.specs.Marks.{is_marked}
 use Rattle.dcp_collect.specs.declared.multiples.KnownBytes.{KnownBytes}
-use Rattle.dcp_collect.specs.declared.multiples.Multiples.{Multiples}
+use Rattle.dcp_collect.specs.declared.multiples.ChunkMultiples.{ChunkMultiples}
 
 -- the byte 1 with its parity
 pub record IsOneChunk (one : List ℕ) : Type 0 where
@@ -24,7 +24,7 @@ pub record IsKnown (count : ℕ) (marks : List Bool) (known : KnownBytes) : Type
       → (i : ℕ) × (i < known.len) × (slice_index known.places i ≡ j)
 
 -- it solves chunks of a packet with these marks
-pub record IsReady (count : ℕ) (marks : List Bool) (multiples : Multiples) : Type 0 where
+pub record IsReady (count : ℕ) (marks : List Bool) (multiples : ChunkMultiples) : Type 0 where
   pub one : IsOneChunk multiples.one
   pub known : IsKnown count marks multiples.known
 

@@ -19,26 +19,26 @@ pub(crate) struct KnownBytes {
 
 /// What solves the chunks of a packet in which each has one byte.
 #[derive(Drop)]
-pub(crate) struct Multiples {
+pub(crate) struct ChunkMultiples {
     // The byte 1 with its parity.
     pub(crate) one: [u8; 49],
     pub(crate) known: KnownBytes,
 }
 
-impl Multiples {
+impl ChunkMultiples {
     /// Prepares for chunks of k bytes: nothing, unless they have one.
-    pub(crate) fn prepare(marks: &[bool], count: usize, k: usize) -> Multiples
-        requires some { 0 < count }
+    pub(crate) fn prepare(marks: &[bool], count: usize, k: usize) -> ChunkMultiples
+        requires at_least_one { 0 < count }
         requires room { count ≤ length marks.now }
         ensures { k ≡ 1 → IsReady count marks.now result }
     {
         if k == 1 {
-            Multiples {
+            ChunkMultiples {
                 one: one_chunk(),
                 known: known_from(marks, count, 0),
             }
         } else {
-            Multiples {
+            ChunkMultiples {
                 one: [0; 49],
                 known: KnownBytes {
                     first: 0,

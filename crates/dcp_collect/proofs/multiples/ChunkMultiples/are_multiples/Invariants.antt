@@ -1,6 +1,6 @@
 use Rattle.std.proofs.Common.{ℕ, ◌≡◌, ◌+◌, ◌<◌, get_or}
 use Rattle.gf_field.specs.Field.{times}
-use Rattle.dcp_collect.proofs.multiples.Multiples.are_multiples.Given as goal
+use Rattle.dcp_collect.proofs.multiples.ChunkMultiples.are_multiples.Given as goal
 
 -- the first known bytes are
 abbrev pub invariant-loop-i : goal.invariant-loop-i
