@@ -1,15 +1,11 @@
 -- How a run ends, by how its conversion ends.
-use Rattle.std.proofs.Common.{ℕ, ◌≡◌, Bool, Option, Result, Ok, Err, refl, subst}
-use Rattle.dcp_pft.specs.declared.carry.Carry.{Carry}
-use Rattle.recv_reading.proofs.Common.{CollectorState, made, Known, Input, Output}
+use Rattle.std.proofs.Common.{◌≡◌, Bool, Result, Ok, Err, refl}
 use Rattle.capture_reader.specs.declared.packets.CaptureStop.TheVariants as stops
-use Rattle.cmd_faults.specs.declared.fault.Fault.{Fault}
 use Rattle.cmd_faults.specs.declared.fault.Fault.TheVariants as faults
 use Rattle.cmd_convert.specs.declared.item.ItemError.TheVariants as halt
 use Rattle.cmd_convert.specs.declared.reading.ConvertError.{ConvertError}
 use Rattle.cmd_convert.specs.declared.reading.ConvertError.TheVariants as unconverted
 use Rattle.cmd_convert.specs.Reading.{ending_of}
-use Rattle.cmd_convert.specs.Run.{ConvertEnds}
 
 pub not_memory : (result : Result (Unit {0}) ConvertError) (clean : Bool) → ending_of result clean ≡ Err faults.NoMemory → ⊥
 not_memory (Ok done) clean is = cc

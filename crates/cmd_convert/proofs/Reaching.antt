@@ -1,5 +1,5 @@
 -- A conversion of a capture, item by item.
-use Rattle.std.proofs.Common.{◌≡◌, ℕ, ◌+◌, ◌<◌, true, false, List, [], ◌∷◌, ◌++◌, Option, Ok, Err, sym, subst, append_assoc, IfSome}
+use Rattle.std.proofs.Common.{◌≡◌, ℕ, ◌<◌, true, false, List, [], ◌∷◌, ◌++◌, Option, Ok, Err, sym, subst, append_assoc, IfSome}
 use Rattle.std.proofs.lemmas.List.{append-nil}
 use Rattle.recv_reading.proofs.Common.{Known, Input, Output, OutputsText, Taken, CollectorState, ready, CollectorItem, MayBeFirst, KeepsFirst, first_of}
 use Rattle.recv_reading.proofs.Common.{ReadingState, has_enough, has_ended, ReadingReached, ReadsOn}

@@ -9,7 +9,6 @@ use Rattle.drm_links.specs.Known.{Known, HasFailed, HasCause}
 use Rattle.drm_links.specs.Source.{Input, InputsBytes}
 use Rattle.drm_links.specs.Sink.{Output, OutputsText, IsPrefix, IsPrefixBehind}
 use Rattle.capture_reader.specs.Front.{IsWhole}
-use Rattle.capture_reader.specs.Capture as capture
 use Rattle.capture_reader.specs.Capture.{IsCaptureOf, CaptureEnding, End}
 use Rattle.capture_reader.specs.Reading.{ReadingStops}
 use Rattle.capture_reader.specs.declared.packets.CaptureStop.{CaptureStop}

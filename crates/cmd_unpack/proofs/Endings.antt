@@ -1,6 +1,6 @@
 -- How a run ends.
-use Rattle.std.proofs.Common.{ℕ, ◌≡◌, inl, inr, Bool, List, ◌++◌, refl, sym, ap, subst, ◌∙◌, ◌↔◌, Option, Result, Ok, Err}
-use Rattle.recv_reading.proofs.Common.{Known, Input, InputsBytes, Output, CollectorState, made}
+use Rattle.std.proofs.Common.{ℕ, ◌≡◌, inl, inr, Bool, List, ◌++◌, refl, sym, ap, subst, ◌∙◌, ◌↔◌, Result, Ok, Err}
+use Rattle.recv_reading.proofs.Common.{Known, Input, InputsBytes, Output}
 use Rattle.drm_links.specs.Known.{HasCause}
 use Rattle.drm_links.proofs.KnownLemmas.{counts_none, InputsBytes-nothing, InputsBytes-weaker, OutputsText-then}
 use Rattle.drm_links.proofs.WritingLemmas.{Writes-done, Writes-front, front_behind}

@@ -1,7 +1,7 @@
 -- A report grows, call by call.
 use Rattle.std.proofs.Common.{◌≡◌, ℕ, ◌+◌, ◌≤◌, inl, inr, true, List, [], ◌∷◌, ◌++◌, length, Option, None, Some, Ok, Err, refl, sym, ◌∙◌, ap, subst, arith, append_assoc}
 use Rattle.std.proofs.lemmas.List.{append-nil}
-use Rattle.recv_reading.proofs.Common.{Known, Answer, Failed, Output, OutputsText, IsPrefix, IsPrefixBehind, Taken, CollectorState, ready, CollectorItem}
+use Rattle.recv_reading.proofs.Common.{Known, Answer, Failed, Output, OutputsText, IsPrefix, IsPrefixBehind, Taken, CollectorState, CollectorItem}
 use Rattle.recv_reading.proofs.Common.{ReadingState, has_ended, word_of, ReadingReached, ReadingWaits, ReadsOn}
 use Rattle.recv_reading.specs.declared.options.ReceiveOptions.{ReceiveOptions}
 use Rattle.drm_links.proofs.KnownLemmas.{OutputsText-then, OutputsText-nothing, OutputsText-weaker}

@@ -6,7 +6,7 @@ use Rattle.std.proofs.lemmas.List.{append-nil, append_cancel_left, append_cancel
 use Rattle.std.proofs.lemmas.List.Elements.{filter_map-append}
 use Rattle.drm_schedule.specs.declared.plan.Plan.{Plan}
 use Rattle.drm_schedule.specs.Valid.{IsSchedule}
-use Rattle.recv_reading.proofs.Common.{Known, Answer, Failed, datagram_of, Output, OutputsText, Taken, made, CollectorItem as Given, up_to}
+use Rattle.recv_reading.proofs.Common.{Known, Answer, Failed, datagram_of, Output, OutputsText, Taken, made, up_to}
 use Rattle.recv_reading.proofs.Common.{datagrams, HasGiven, ReadingEndsBy, ReadingGoesOn, IsFinished}
 use Rattle.recv_reading.specs.declared.reason.EndWord.{EndWord}
 use Rattle.recv_reading.specs.declared.options.ReceiveOptions.{ReceiveOptions}
@@ -15,7 +15,6 @@ use Rattle.drm_links.specs.Link.{Traffic}
 use Rattle.drm_links.proofs.KnownLemmas.{OutputsText-weaker}
 use Rattle.dcp_collect.specs.declared.taken.Taken.TheVariants.{Kept, Repeated, Late, Refused, Inconsistent}
 use Rattle.drm_reconfiguration.specs.Tracker.{new_tracker}
-use Rattle.mod_feed.specs.Items.{FrameItem}
 use Rattle.mod_feed.specs.Feeding.{FeedStep, FeedAnswers}
 use Rattle.drm_timeline.specs.Numbers.{frame_count}
 use Rattle.law_delivery.specs.Sent.{Arrival, OfSchedule, Foreign, pairs_in, IsDeliveryOf, IsInTime}
