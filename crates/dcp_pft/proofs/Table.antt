@@ -1,5 +1,5 @@
 -- The first row of a table that holds.
-use Rattle.std.proofs.Common.{◌≡◌, ℕ, List, [], ◌∷◌, ◌++◌, ◌⊎◌, inl, inr, refl, sym, subst, ap, ◌∙◌, ◌≤◌, ◌<◌, arith, Option, Some, Result, Err}
+use Rattle.std.proofs.Common.{◌≡◌, None, ℕ, List, [], ◌∷◌, ◌++◌, ◌⊎◌, inl, inr, refl, sym, subst, ap, ◌∙◌, ◌≤◌, ◌<◌, arith, Option, Some, Result, Ok, Err}
 use Rattle.std.specs.Prelude.{IfErr, IsSomeAnd}
 use Rattle.dcp_pft.specs.declared.shape.Rs.{Rs}
 use Rattle.dcp_pft.specs.declared.fault.PftFault.{PftFault}
@@ -35,16 +35,24 @@ handed {T} r e f rows bytes is same h =
     let P : Result T PftFault → Type 0 = λ r. IfErr r (λ fault. IsFirstRow rows fault bytes) in
     subst P (sym (is ∙ ap (λ (x : PftFault). Err x) same)) h
 
+pub none_both : (rows more : List PftFault) (bytes : List ℕ) → NoneOf rows bytes → NoneOf more bytes → NoneOf (rows ++ more) bytes
+none_both [] more bytes none none_more = none_more
+none_both (row ∷ rows) more bytes none none_more = (none.0, none_both rows more bytes none.1 none_more)
+
 -- the fault of a code, where the rows before it don't hold
-pub code_first : (f : PftFault) (rs : Rs) (bytes : List ℕ) → NoneOf (Count ∷ Index ∷ PlenMismatch ∷ []) bytes → code bytes ≡ Some rs → JudgesCode (Err f) rs → IsFirstRow number_rows f bytes
+abbrev KIsWrong : Option Rs → Type 0
+KIsWrong o = IsSomeAnd o (λ rs. (rs.k ≡ 0) ⊎ (207 < rs.k))
+
+abbrev ZIsWrong : Option Rs → Type 0
+ZIsWrong o = IsSomeAnd o (λ rs. rs.k ≤ rs.z)
+
+pub code_first : (f : PftFault) (rs : Option Rs) (bytes : List ℕ) → NoneOf (Count ∷ Index ∷ PlenMismatch ∷ []) bytes → rs ≡ code bytes → JudgesCode (Err f) rs → IsFirstRow number_rows f bytes
 code_first RsK rs bytes none is h =
-    let P : Option Rs → Type 0 = λ o. IsSomeAnd o (λ rs. (rs.k ≡ 0) ⊎ (207 < rs.k)) in
-    first_behind (Count ∷ Index ∷ PlenMismatch ∷ []) (RsK ∷ RsZ ∷ TooMany ∷ TooLarge ∷ Chunks ∷ []) RsK bytes none (inl (subst P (sym is) h, refl))
-code_first RsZ rs bytes none is h =
-    let P : Option Rs → Type 0 = λ o. IsSomeAnd o (λ rs. (rs.k ≡ 0) ⊎ (207 < rs.k)) in
-    let Q : Option Rs → Type 0 = λ o. IsSomeAnd o (λ rs. rs.k ≤ rs.z) in
-    let right : P (Some rs) → ⊥ = λ row. elim row [ inl zero ↦ absurd (omega (arith, h.0, zero)) | inr more ↦ absurd (omega (arith, h.1, more)) ] in
-    first_behind (Count ∷ Index ∷ PlenMismatch ∷ []) (RsK ∷ RsZ ∷ TooMany ∷ TooLarge ∷ Chunks ∷ []) RsZ bytes none (inr (λ row. right (subst P is row), inl (subst Q (sym is) h.2, refl)))
+    first_behind (Count ∷ Index ∷ PlenMismatch ∷ []) (RsK ∷ RsZ ∷ TooMany ∷ TooLarge ∷ Chunks ∷ []) RsK bytes none (inl (subst KIsWrong is h, refl))
+code_first RsZ None bytes none is h = absurd h
+code_first RsZ (Some rs) bytes none is h =
+    let right : KIsWrong (Some rs) → ⊥ = λ row. elim row [ inl zero ↦ absurd (omega (arith, h.0, zero)) | inr more ↦ absurd (omega (arith, h.1, more)) ] in
+    first_behind (Count ∷ Index ∷ PlenMismatch ∷ []) (RsK ∷ RsZ ∷ TooMany ∷ TooLarge ∷ Chunks ∷ []) RsZ bytes none (inr (λ row. right (subst KIsWrong (sym is) row), inl (subst ZIsWrong is h.2, refl)))
 code_first Sync rs bytes none is h = absurd h
 code_first HeadCut rs bytes none is h = absurd h
 code_first HeadCrc rs bytes none is h = absurd h
@@ -54,3 +62,11 @@ code_first PlenMismatch rs bytes none is h = absurd h
 code_first TooMany rs bytes none is h = absurd h
 code_first TooLarge rs bytes none is h = absurd h
 code_first Chunks rs bytes none is h = absurd h
+
+-- a code that is judged well has neither
+pub code_right : (rs : Option Rs) (bytes : List ℕ) → rs ≡ code bytes → JudgesCode (Ok tt) rs → NoneOf (RsK ∷ RsZ ∷ []) bytes
+code_right None bytes is fine = (λ row. subst KIsWrong (sym is) row, (λ row. subst ZIsWrong (sym is) row, tt))
+code_right (Some rs) bytes is fine =
+    let k : KIsWrong (Some rs) → ⊥ = λ row. elim row [ inl zero ↦ absurd (omega (arith, fine.0, zero)) | inr more ↦ absurd (omega (arith, fine.1, more)) ] in
+    let z : ZIsWrong (Some rs) → ⊥ = λ row. absurd (omega (arith, fine.2, row)) in
+    (λ row. k (subst KIsWrong (sym is) row), (λ row. z (subst ZIsWrong (sym is) row), tt))

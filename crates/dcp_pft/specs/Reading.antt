@@ -1,5 +1,5 @@
 -- A fragment as it is read (TS 102 821; how many fragments and bytes are most is this profile's).
-use Rattle.std.specs.Prelude.{ℕ, ◌≡◌, ◌+◌, ◌*◌, ◌^◌, ◌<◌, ◌≤◌, ◌⊎◌, List, [], ◌∷◌, length, IfSome, Result, Ok, Err}
+use Rattle.std.specs.Prelude.{ℕ, ◌≡◌, ◌+◌, ◌*◌, ◌^◌, ◌<◌, ◌≤◌, ◌⊎◌, List, [], ◌∷◌, length, Option, IfSome, IsSomeAnd, Result, Ok, Err}
 use Rattle.dcp_pft.specs.declared.shape.Rs.{Rs}
 use Rattle.dcp_pft.specs.declared.fragment.Fragment.{Fragment}
 use Rattle.dcp_pft.specs.declared.head.PftHead.{PftHead}
@@ -55,9 +55,9 @@ head_rows = Sync ∷ HeadCut ∷ HeadCrc ∷ []
 abbrev pub number_rows : List PftFault
 number_rows = Count ∷ Index ∷ PlenMismatch ∷ RsK ∷ RsZ ∷ TooMany ∷ TooLarge ∷ Chunks ∷ []
 
--- RsK and RsZ for this code
-abbrev pub JudgesCode : Result (Unit {0}) PftFault → Rs → Type 0
-JudgesCode (Ok _) rs = (1 ≤ rs.k) × (rs.k ≤ 207) × (rs.z < rs.k)
-JudgesCode (Err RsK) rs = (rs.k ≡ 0) ⊎ (207 < rs.k)
-JudgesCode (Err RsZ) rs = (1 ≤ rs.k) × (rs.k ≤ 207) × (rs.k ≤ rs.z)
+-- RsK and RsZ for the code, if there is one
+abbrev pub JudgesCode : Result (Unit {0}) PftFault → Option Rs → Type 0
+JudgesCode (Ok _) rs = IfSome rs (λ rs. (1 ≤ rs.k) × (rs.k ≤ 207) × (rs.z < rs.k))
+JudgesCode (Err RsK) rs = IsSomeAnd rs (λ rs. (rs.k ≡ 0) ⊎ (207 < rs.k))
+JudgesCode (Err RsZ) rs = IsSomeAnd rs (λ rs. (1 ≤ rs.k) × (rs.k ≤ 207) × (rs.k ≤ rs.z))
 JudgesCode (Err other) rs = ⊥

@@ -116,9 +116,7 @@ fn judge(head: &PftHead, datagram: &[u8]) -> Result<(), PftFault>
     if usize::from(head.len) != datagram.len() - size_of_head(datagram) {
         return Err(PftFault::PlenMismatch);
     }
-    if let Some(rs) = head.rs {
-        judge_code(rs)?;
-    }
+    judge_code(head.rs)?;
     if head.count > MOST_FRAGMENTS {
         return Err(PftFault::TooMany);
     }
@@ -132,10 +130,13 @@ fn judge(head: &PftHead, datagram: &[u8]) -> Result<(), PftFault>
     Ok(())
 }
 
-// Whether the chunks of this code have a length that is read, and the last one a fill.
-fn judge_code(rs: Rs) -> Result<(), PftFault>
+// Whether the chunks of the code, if there is one, have a length that is read, and the last one a fill.
+fn judge_code(rs: Option<Rs>) -> Result<(), PftFault>
     ensures { JudgesCode result rs }
 {
+    let Some(rs) = rs else {
+        return Ok(());
+    };
     if rs.k == 0 || rs.k > MOST_CHUNK {
         return Err(PftFault::RsK);
     }
