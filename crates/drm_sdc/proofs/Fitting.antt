@@ -1,5 +1,5 @@
 -- Lists of numbers that fit, element by element.
-use Rattle.std.proofs.Common.{◌≡◌, ℕ, zero, suc, ◌<◌, ◌^◌, Bool, true, false, List, [], ◌∷◌, length, get_or, replicate, refl, ◌∙◌, ap, arith}
+use Rattle.std.proofs.Common.{ℕ, zero, suc, ◌<◌, ◌^◌, Bool, true, false, List, [], ◌∷◌, length, get_or, arith}
 use Rattle.std.specs.Int.{from_bool}
 use Rattle.drm_bits.specs.Fields.{AllFit}
 use Rattle.drm_sdc.specs.declared.channels.Channel15.{Channel15}

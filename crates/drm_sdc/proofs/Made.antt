@@ -1,6 +1,6 @@
 -- What is read of a body of the right length is a body with these bits.
-use Rattle.std.proofs.Common.{◌≡◌, ℕ, zero, suc, ◌+◌, ◌-◌, ◌*◌, ◌/◌, ◌%◌, ◌<◌, ◌≤◌, nat_eq, Bool, true, false, List, [], ◌∷◌, ◌++◌, length, take, drop, replicate, is_some, refl, sym, ◌∙◌, ap, subst, arith, length-drop, length-append, inl, inr, ◌⊎◌, ◌||◌}
-use Rattle.std.proofs.lemmas.List.{drop-drop, take_at, drop_at, length-replicate}
+use Rattle.std.proofs.Common.{◌≡◌, ℕ, zero, suc, ◌+◌, ◌-◌, ◌*◌, ◌/◌, ◌%◌, ◌<◌, ◌≤◌, nat_eq, Bool, true, false, List, [], ◌∷◌, ◌++◌, length, drop, is_some, refl, sym, ◌∙◌, ap, subst, arith, length-drop, inl, inr, ◌⊎◌, ◌||◌}
+use Rattle.std.proofs.lemmas.List.{drop-drop}
 use Rattle.std.proofs.lemmas.Bool.{and_parts, or_cases, eqb-true, leb-true, cond_both}
 use Rattle.std.specs.Int.{from_bool}
 use Rattle.std.specs.Str.{IsUtf8}

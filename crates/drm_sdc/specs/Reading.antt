@@ -1,5 +1,5 @@
 -- What stands in the bits of an entity, whatever they are: the numbers of its header and of each body.
-use Rattle.std.specs.Prelude.{ℕ, zero, suc, ◌≡◌, ◌+◌, ◌-◌, ◌/◌, ◌%◌, ◌==◌, ◌&&◌, ◌||◌, nat_le, Bool, true, false, if◌then◌else◌, List, [], ◌∷◌, ◌++◌, length, take, drop, replicate, Option, None, Some, IsUtf8}
+use Rattle.std.specs.Prelude.{ℕ, zero, suc, ◌≡◌, ◌+◌, ◌-◌, ◌/◌, ◌%◌, ◌==◌, ◌&&◌, ◌||◌, nat_le, Bool, true, false, if◌then◌else◌, List, [], ◌∷◌, length, drop, Option, None, Some, IsUtf8}
 use Rattle.std.specs.Int.{from_bool}
 use Rattle.drm_bits.specs.Bits.{bits_of, front, bit}
 use Rattle.drm_bits.specs.Description.{description_from}

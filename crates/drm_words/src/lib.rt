@@ -13,10 +13,14 @@
 //! the words.
 #![tactic(auto)]
 
+mod asked;
 mod commands;
 mod options;
+mod packets;
 mod read;
+mod receiving;
 mod request;
+mod sending;
 
 pub use cli_syntax::WordsFault;
 pub use drm_links::Addresses;

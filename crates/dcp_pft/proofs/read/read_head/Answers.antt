@@ -1,4 +1,4 @@
-use Rattle.std.proofs.Common.{◌++◌, arith}
+use Rattle.std.proofs.Common.{◌++◌}
 use Rattle.std.proofs.lemmas.Result.{err_from_is_err_and}
 use Rattle.dcp_pft.specs.Faults.{IsFault, table}
 use Rattle.dcp_pft.specs.Reading.{size_rows, check_rows, number_rows}

@@ -1,8 +1,8 @@
-use Rattle.std.proofs.Common.{◌≡◌, ℕ, ◌+◌, ◌-◌, ◌*◌, ◌≤◌, ◌<◌, ◌^◌, sym, ◌∙◌, ap, subst, arith}
+use Rattle.std.proofs.Common.{◌≡◌, ℕ, ◌+◌, ◌*◌, ◌≤◌, ◌<◌, ◌∙◌, ap, arith}
 use Rattle.std.specs.Int.{div_ceil}
 use Rattle.dcp_pft.specs.Limits.{longest_packet}
 use Rattle.dcp_pft.specs.Cutting.{chunk_count, chunk_size, coded_size}
-use Rattle.dcp_pft.proofs.Sizes.{Fits, Chunks, fits_is, chunks_are, coded_small, coded_some}
+use Rattle.dcp_pft.proofs.Sizes.{fits_is, chunks_are, coded_small, coded_some}
 use Rattle.dcp_pft.proofs.shape.coded.Goals as goal
 use Rattle.dcp_pft.proofs.shape.coded.Goals.{After-div_ceil-k}
 

@@ -1,4 +1,4 @@
-use Rattle.std.proofs.Common.{◌≤◌, ◌*◌, length, arith}
+use Rattle.std.proofs.Common.{◌≤◌, ◌*◌, arith}
 use Rattle.drm_schedule.proofs.Fitting.{all_fit, total_is_small}
 use Rattle.drm_schedule.proofs.sizes.len_with.Goals as goal
 

@@ -1,6 +1,5 @@
-use Rattle.std.proofs.Common.{◌≡◌, ℕ, ◌+◌, ◌≤◌, ◌<◌, List, length, take, drop, sym, ap, subst, arith, rules}
+use Rattle.std.proofs.Common.{◌≡◌, ℕ, ◌+◌, ◌≤◌, ◌<◌, List, length, take, sym, ap, subst, arith, rules}
 use Rattle.std.proofs.lemmas.List.{take_rest}
-use Rattle.drm_sdc.specs.declared.fault.SdcFault.{SdcFault}
 use Rattle.drm_sdc.specs.Reading.{described_length, IsWellFormedEntity}
 use Rattle.drm_sdc.specs.Field.{IsTail, IsEntityFault, IsNextEntity, first_entity}
 use Rattle.drm_sdc.proofs.next_entity.next_entity.Goals as goal

@@ -1,8 +1,8 @@
-use Rattle.std.proofs.Common.{◌≡◌, ℕ, List, [], ◌∷◌, Option, take, ap, subst, refl, inl, inr, rules}
+use Rattle.std.proofs.Common.{◌≡◌, ℕ, List, take, ap, subst, inl, rules}
 use Rattle.drm_bits.specs.Bits.{bits_of}
 use Rattle.drm_sdc.specs.declared.block.Block.{Block}
 use Rattle.drm_sdc.specs.declared.block.BlockInfo.{BlockInfo}
-use Rattle.drm_sdc.specs.Block.{IsBlock, IsBlockFault, info_of}
+use Rattle.drm_sdc.specs.Block.{IsBlock, info_of}
 use Rattle.mdi_items.specs.declared.known.ItemSpan.{ItemSpan}
 use Rattle.mdi_items.specs.Frame.{bytes_at}
 use Rattle.mdi_items.proofs.block.read_block_span.Goals as goal

@@ -1,4 +1,4 @@
-use Rattle.std.proofs.Common.{◌≡◌, ℕ, List, [], ◌∷◌, subst, refl, inl}
+use Rattle.std.proofs.Common.{ℕ, List, [], ◌∷◌, subst, refl, inl}
 use Rattle.std.proofs.lemmas.Result.{err_from_is_err_and}
 use Rattle.drm_fac.specs.Fault.{IsFault}
 use Rattle.mdi_items.specs.Names.{fac_}

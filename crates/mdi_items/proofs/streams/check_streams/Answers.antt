@@ -1,4 +1,4 @@
-use Rattle.std.proofs.Common.{ℕ, Result, Ok, Err, inl, inr, OnOk, IfErr}
+use Rattle.std.proofs.Common.{Result, Ok, Err, inl, inr, OnOk, IfErr}
 use Rattle.std.proofs.lemmas.Result.{err_from_is_err_and}
 use Rattle.mdi_items.proofs.streams.check_streams.Goals as goal
 
