@@ -1,6 +1,7 @@
 //! The field's own values. Those of the tables are from a program in Python that multiplies polynomials over bits term by
 //! term, divides by the modulus, and looks for an inverse among all elements.
 
+use crate::rows::none_is_wrong;
 use gf_field::{Gf, LOGS, POWERS as POWER_TABLE, mul_lanes};
 use std::simd::prelude::*;
 
@@ -57,50 +58,57 @@ const POWERS: &[(u32, u8)] = &[
     (u32::MAX, 0x01),
 ];
 
-fn is_product(a: u8, b: u8, product: u8) -> bool {
-    Gf(a).mul(Gf(b)).0 == product && Gf(b).mul(Gf(a)).0 == product
+// The first row of each table that doesn't hold.
+fn wrong_product() -> Option<usize> {
+    for (k, row) in PRODUCTS.iter().enumerate() {
+        if Gf(row.0).mul(Gf(row.1)).0 != row.2 || Gf(row.1).mul(Gf(row.0)).0 != row.2 {
+            return Some(k);
+        }
+    }
+    None
 }
 
-fn is_inverse(element: u8, inverse: u8) -> bool {
-    element == 0 || Gf(element).inverse().0 == inverse
+fn wrong_inverse() -> Option<usize> {
+    for (k, row) in INVERSES.iter().enumerate() {
+        if row.0 == 0 || Gf(row.0).inverse().0 != row.1 {
+            return Some(k);
+        }
+    }
+    None
 }
 
-fn is_power(n: u32, power: u8) -> bool {
-    Gf::power(n).0 == power
+fn wrong_power() -> Option<usize> {
+    for (k, row) in POWERS.iter().enumerate() {
+        if Gf::power(row.0).0 != row.1 {
+            return Some(k);
+        }
+    }
+    None
 }
 
 #[test]
 fn products(rt: HostRuntime) {
-    for (k, row) in PRODUCTS.iter().enumerate() {
-        assert!(rt; is_product(row.0, row.1, row.2), "row {k}");
-    }
+    none_is_wrong(&rt, wrong_product());
 }
 
 #[test]
 fn inverses(rt: HostRuntime) {
-    for (k, row) in INVERSES.iter().enumerate() {
-        assert!(rt; is_inverse(row.0, row.1), "row {k}");
-    }
+    none_is_wrong(&rt, wrong_inverse());
 }
 
 #[test]
 fn powers(rt: HostRuntime) {
-    for (k, row) in POWERS.iter().enumerate() {
-        assert!(rt; is_power(row.0, row.1), "row {k}");
-    }
+    none_is_wrong(&rt, wrong_power());
 }
 
 #[test]
 fn sums(rt: HostRuntime) {
-    assert!(rt; Gf(0x53).add(Gf(0xca)).0 == 0x99);
-    assert!(rt; Gf(0xff).add(Gf(0xff)).0 == 0);
+    assert!(rt; Gf(0x53).add(Gf(0xca)).0 == 0x99 && Gf(0xff).add(Gf(0xff)).0 == 0);
 }
 
 #[test]
 fn powers_and_logarithms_by_table(rt: HostRuntime) {
-    assert!(rt; LOGS[29] == 8);
-    assert!(rt; POWER_TABLE[8] == 29);
-    assert!(rt; LOGS[0] == 0);
+    assert!(rt; LOGS[29] == 8 && POWER_TABLE[8] == 29 && LOGS[0] == 0);
 }
 
 #[test]

@@ -1,26 +1,25 @@
 ghost use Rattle.std.specs.Prelude.{◌≤◌};
 
+use crate::rows::none_is_wrong;
 use dcp_pft::{Addr, Fragment, PftFault, Rs, read_fragment};
 
 const MOST: usize = 1300;
 
-// The header, before the bytes that stand there.
-fn put(head: &[u8], into: &mut [u8; MOST]) {
-    for (at, byte) in into.iter_mut().zip(head) {
-        *at = *byte;
-    }
-}
-
-fn end(head: &[u8], len: usize) -> usize
+// Puts the header before the bytes that stand there, and answers where so many of them end.
+fn put(head: &[u8], len: usize, into: &mut [u8; MOST]) -> usize
     ensures { result ≤ 1300 }
 {
+    let front = head.len().min(MOST);
+    into[..front].copy_from_slice(&head[..front]);
     head.len().saturating_add(len).min(MOST)
 }
 
 type Numbers = (u16, u32, u32);
 
 // Headers of a writer in Python, the lengths of their payloads, sequence number, index and count.
-const FRAGMENTS: &[(&[u8], usize, Numbers, Option<Rs>, Option<Addr>)] = &[
+type FragmentCase = (&'static [u8], usize, Numbers, Option<Rs>, Option<Addr>);
+
+const FRAGMENTS: &[FragmentCase] = &[
     (
         b"PF\0\0\0\0\0\0\0\x0a\x80\x10n\0\x9e\xb6",
         16,
@@ -99,9 +98,10 @@ const FRAGMENTS: &[(&[u8], usize, Numbers, Option<Rs>, Option<Addr>)] = &[
     ),
 ];
 
-fn is_read(head: &[u8], len: usize, numbers: Numbers, rs: Option<Rs>, addr: Option<Addr>) -> bool {
+fn is_read(case: &FragmentCase) -> bool {
+    let (head, len, numbers, rs, addr) = *case;
     let mut into = [0x5a; MOST];
-    put(head, &mut into);
+    let end = put(head, len, &mut into);
     let fragment = Fragment {
         seq: numbers.0,
         index: numbers.1,
@@ -110,18 +110,29 @@ fn is_read(head: &[u8], len: usize, numbers: Numbers, rs: Option<Rs>, addr: Opti
         addr,
         payload: &[0x5a; MOST][..len.min(MOST)],
     };
-    read_fragment(&into[..end(head, len)]) == Ok(fragment)
+    read_fragment(&into[..end]) == Ok(fragment)
+}
+
+// The first fragment that isn't read so.
+fn wrong_fragment() -> Option<usize> {
+    for (k, row) in FRAGMENTS.iter().enumerate() {
+        if !is_read(row) {
+            return Some(k);
+        }
+    }
+    None
 }
 
 #[test]
 fn reads_fragments(rt: HostRuntime) {
-    for (k, row) in FRAGMENTS.iter().enumerate() {
-        assert!(rt; is_read(row.0, row.1, row.2, row.3, row.4), "row {k}");
-    }
+    none_is_wrong(&rt, wrong_fragment());
 }
 
+// A header, the length of its payload, and the fault.
+type FaultCase = (&'static [u8], usize, PftFault);
+
 // Check values are from Python.
-const FAULTS: &[(&[u8], usize, PftFault)] = &[
+const FAULTS: &[FaultCase] = &[
     (b"", 0, PftFault::Sync),
     (b"P", 0, PftFault::Sync),
     (
@@ -241,16 +252,16 @@ const FAULTS: &[(&[u8], usize, PftFault)] = &[
     ),
 ];
 
-fn has_fault(head: &[u8], len: usize, fault: PftFault) -> bool {
+fn has_fault(case: &FaultCase) -> bool {
     let mut into = [0x5a; MOST];
-    put(head, &mut into);
-    read_fragment(&into[..end(head, len)]).err() == Some(fault)
+    let end = put(case.0, case.1, &mut into);
+    read_fragment(&into[..end]).err() == Some(case.2)
 }
 
-/// The first row whose fault is another.
-fn wrong_fault(rows: &[(&[u8], usize, PftFault)]) -> Option<usize> {
-    for (k, row) in rows.iter().enumerate() {
-        if !has_fault(row.0, row.1, row.2) {
+// The first fault that isn't named.
+fn wrong_fault(cases: &[FaultCase]) -> Option<usize> {
+    for (k, case) in cases.iter().enumerate() {
+        if !has_fault(case) {
             return Some(k);
         }
     }
@@ -259,12 +270,11 @@ fn wrong_fault(rows: &[(&[u8], usize, PftFault)]) -> Option<usize> {
 
 #[test]
 fn names_the_fault(rt: HostRuntime) {
-    let wrong = wrong_fault(FAULTS);
-    assert!(rt; wrong.is_none(), "{wrong:?}");
+    none_is_wrong(&rt, wrong_fault(FAULTS));
 }
 
 // Of several faults.
-const FIRST_FAULTS: &[(&[u8], usize, PftFault)] = &[
+const FIRST_FAULTS: &[FaultCase] = &[
     (b"PF\0\0\0\0\0\0\0\0\x80\x10\0\0\xf0", 0, PftFault::HeadCut),
     (b"PF\0\0\0\0\0\0\0\0\x80\x10\0\0\xf0<", 0, PftFault::HeadCrc),
     (b"PF\0\0\0\0\0\0\0\0\x80\x10\0\0\xf0=", 0, PftFault::Count),
@@ -307,6 +317,5 @@ const FIRST_FAULTS: &[(&[u8], usize, PftFault)] = &[
 
 #[test]
 fn names_the_first_fault(rt: HostRuntime) {
-    let wrong = wrong_fault(FIRST_FAULTS);
-    assert!(rt; wrong.is_none(), "{wrong:?}");
+    none_is_wrong(&rt, wrong_fault(FIRST_FAULTS));
 }

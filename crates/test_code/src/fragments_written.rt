@@ -5,6 +5,7 @@
 ghost use Rattle.std.specs.Prelude.{◌≡◌, ◌≤◌, length};
 ghost use Rattle.dcp_pft.specs.Limits.{most_parity};
 
+use crate::rows::none_is_wrong;
 use dcp_pft::{MOST_PARITY, chunks, code, shape_for, write_fragment};
 use drm_bits::crc16;
 
@@ -71,23 +72,33 @@ fn has_parity(len: usize, m: u8, expected: &[u8]) -> bool
 // The packet of 209 bytes has two chunks, and the second one is filled with one zero.
 #[test]
 fn writes_parity(rt: HostRuntime) {
-    assert!(rt; has_parity(12, 5, &PARITY_OF_12));
-    assert!(rt; has_parity(209, 5, &PARITY_OF_209));
-    assert!(rt; has_parity(1387, 0, &[]));
+    assert!(rt;
+        has_parity(12, 5, &PARITY_OF_12)
+            && has_parity(209, 5, &PARITY_OF_209)
+            && has_parity(1387, 0, &[])
+    );
 }
 
-fn is_fragment_of_12(index: u32, expected: &[u8]) -> bool {
+fn is_fragment_of_12(row: &(u32, [u8; 24])) -> bool {
     let mut into = [0xee; 1500];
-    let end = datagram(12, 5, 0x1234, index, &mut into);
-    &into[..end] == expected
+    let end = datagram(12, 5, 0x1234, row.0, &mut into);
+    &into[..end] == &row.1[..]
+}
+
+// The first fragment that isn't written so.
+fn wrong_fragment() -> Option<usize> {
+    for (k, row) in FRAGMENTS_OF_12.iter().enumerate() {
+        if !is_fragment_of_12(row) {
+            return Some(k);
+        }
+    }
+    None
 }
 
 // The four places past the coded bytes are zeros, at the ends of the last four fragments.
 #[test]
 fn writes_fragments(rt: HostRuntime) {
-    for (k, row) in FRAGMENTS_OF_12.iter().enumerate() {
-        assert!(rt; is_fragment_of_12(row.0, &row.1), "row {k}");
-    }
+    none_is_wrong(&rt, wrong_fragment());
 }
 
 /// A fragment: the length of its packet, the fragments that may be lost, the numbers of packet and fragment; its length and
@@ -131,11 +142,19 @@ fn is_written(case: &WriteCase) -> bool {
     written == end && crc16(&into[..written]) == check
 }
 
+// The first datagram that isn't written so.
+fn wrong_datagram() -> Option<usize> {
+    for (k, row) in DATAGRAMS.iter().enumerate() {
+        if !is_written(row) {
+            return Some(k);
+        }
+    }
+    None
+}
+
 #[test]
 fn writes_datagrams(rt: HostRuntime) {
-    for (k, case) in DATAGRAMS.iter().enumerate() {
-        assert!(rt; is_written(case), "row {k}");
-    }
+    none_is_wrong(&rt, wrong_datagram());
 }
 
 /// Whether this fragment of a packet has so many bytes, of which these are the first.
@@ -150,9 +169,11 @@ fn begins(len: usize, m: u8, seq: u16, index: u32, end: usize, head: &[u8]) -> b
 
 #[test]
 fn writes_headers(rt: HostRuntime) {
-    assert!(rt; begins(110, 2, 0, 0, 32, HEAD_OF_110));
-    assert!(rt; begins(90, 2, 2, 8, 32, HEAD_OF_90));
-    assert!(rt; begins(1387, 0, 258, 1, 707, HEAD_OF_1387));
+    assert!(rt;
+        begins(110, 2, 0, 0, 32, HEAD_OF_110)
+            && begins(90, 2, 2, 8, 32, HEAD_OF_90)
+            && begins(1387, 0, 258, 1, 707, HEAD_OF_1387)
+    );
 }
 
 const HEAD_OF_110: &[u8] = b"PF\0\0\0\0\0\0\0\x0a\x80\x10\x6e\0\x9e\xb6";

@@ -1,17 +1,16 @@
 //! The crates' bodies beside the plain ones, over all elements and over many pseudo-random words.
 
-ghost use Rattle.std.specs.Prelude.{◌<◌};
-
 use crate::places::are_places;
 use crate::plain;
+use crate::rows::none_is_wrong;
 use gf_field::{Gf, LOGS, POWERS, mul_lanes, scaled};
 use rs_erase::{
     Pattern, SolveFault, SpacedPattern, Spacing, encode, solve, solve_by, solve_spaced, syndromes,
 };
 use std::simd::prelude::*;
 
-/// How many words each test compares.
-const WORDS: u32 = 1000;
+/// How many words a test compares.
+const WORDS: usize = 1000;
 
 /// Pseudo-random numbers: Marsaglia's xorshift with the shifts 13, 7 and 17.
 #[derive(Drop)]
@@ -61,45 +60,61 @@ impl Random {
     }
 }
 
-fn is_product(a: u8, b: u8) -> bool {
-    Gf(a).mul(Gf(b)).0 == plain::product(a, b)
+/// Whether the products of this element and each one are so.
+fn has_its_products(a: u8) -> bool {
+    for b in 0..=255u8 {
+        if Gf(a).mul(Gf(b)).0 != plain::product(a, b) {
+            return false;
+        }
+    }
+    true
+}
+
+/// The first element that isn't so.
+fn wrong_products() -> Option<usize> {
+    for byte in 0..=255u8 {
+        if !has_its_products(byte) {
+            return Some(usize::from(byte));
+        }
+    }
+    None
 }
 
 #[test]
 fn all_products(rt: HostRuntime) {
-    for a in 0..=255u8 {
-        for b in 0..=255u8 {
-            assert!(rt; is_product(a, b), "{a} times {b}");
-        }
-    }
+    none_is_wrong(&rt, wrong_products());
 }
 
-fn is_power(j: u8, power: u8) -> bool
-    requires { j < 255 }
-{
-    POWERS[usize::from(j)] == power && LOGS[usize::from(power)] == j
+/// The first power of 2 that isn't in both tables.
+fn wrong_power() -> Option<usize> {
+    let mut power = 1;
+    for j in 0..255u8 {
+        if POWERS[usize::from(j)] != power || LOGS[usize::from(power)] != j {
+            return Some(usize::from(j));
+        }
+        power = plain::product(2, power);
+    }
+    None
 }
 
 #[test]
 fn all_powers_and_logarithms(rt: HostRuntime) {
-    let mut power = 1;
-    for j in 0..255u8 {
-        assert!(rt; is_power(j, power), "2 to the {j}");
-        power = plain::product(2, power);
-    }
+    none_is_wrong(&rt, wrong_power());
 }
 
-fn has_its_inverse(element: u8) -> bool
-    requires { 0 < element }
-{
-    Gf(element).inverse().0 == plain::power(element, 254)
+/// The first element that hasn't its inverse.
+fn wrong_inverse() -> Option<usize> {
+    for element in 1..=255u8 {
+        if Gf(element).inverse().0 != plain::power(element, 254) {
+            return Some(usize::from(element));
+        }
+    }
+    None
 }
 
 #[test]
 fn all_inverses(rt: HostRuntime) {
-    for element in 1..=255u8 {
-        assert!(rt; has_its_inverse(element), "the inverse of {element}");
-    }
+    none_is_wrong(&rt, wrong_inverse());
 }
 
 /// The products lane by lane.
@@ -122,19 +137,27 @@ fn lanes_agree(random: &mut Random) -> bool {
     found == products(&a, &b) && multiples == products(&a, &[factor; 16])
 }
 
-#[test]
-fn lanes(rt: HostRuntime) {
+/// The first word that isn't so.
+fn wrong_lanes() -> Option<usize> {
     let mut random = Random(88_172_645_463_325_252);
     for i in 0..WORDS {
-        assert!(rt; lanes_agree(&mut random), "word {i}");
+        if !lanes_agree(&mut random) {
+            return Some(i);
+        }
     }
+    None
 }
 
-fn parities_agree(word: &[u8; 255], length: u8, generator: &[u8; 49]) -> bool {
+#[test]
+fn lanes(rt: HostRuntime) {
+    none_is_wrong(&rt, wrong_lanes());
+}
+
+fn parities_agree(word: &[u8; 255], length: u8) -> bool {
     let chunk = &word[..usize::from(length).min(207)];
     let mut parity = [7; 48];
     encode(chunk, &mut parity);
-    parity == plain::parity(chunk, generator)
+    parity == plain::parity(chunk, &plain::generator())
 }
 
 fn syndromes_agree(word: &[u8; 255]) -> bool {
@@ -147,17 +170,25 @@ fn syndromes_agree(word: &[u8; 255]) -> bool {
     true
 }
 
+fn parity_and_syndromes_agree(random: &mut Random) -> bool {
+    let mut word = [0; 255];
+    random.fill(&mut word);
+    parities_agree(&word, random.byte()) && syndromes_agree(&word)
+}
+
+fn wrong_parity() -> Option<usize> {
+    let mut random = Random(2_463_534_242);
+    for i in 0..WORDS {
+        if !parity_and_syndromes_agree(&mut random) {
+            return Some(i);
+        }
+    }
+    None
+}
+
 #[test]
 fn parities_and_syndromes(rt: HostRuntime) {
-    let mut random = Random(2_463_534_242);
-    let generator = plain::generator();
-    for i in 0..WORDS {
-        let mut word = [0; 255];
-        random.fill(&mut word);
-        let length = random.byte();
-        assert!(rt; parities_agree(&word, length, &generator), "word {i}");
-        assert!(rt; syndromes_agree(&word), "word {i}");
-    }
+    none_is_wrong(&rt, wrong_parity());
 }
 
 /// Whether what is made of this word, whose places are erased, is what the equations give.
@@ -185,23 +216,38 @@ fn is_solved_alike(word: &[u8; 255], places: &[u8]) -> bool {
     pattern.is_for(places) && solve_by(&pattern, &mut alike) == result && alike == filled
 }
 
-#[test]
-fn erased_places(rt: HostRuntime) {
+/// Puts other bytes into these places of the word.
+fn erase(random: &mut Random, word: &mut [u8; 255], places: &[u8]) {
+    for place in places {
+        word[usize::from(*place).min(254)] = random.byte();
+    }
+}
+
+fn fills_erased_places(random: &mut Random, i: usize) -> bool {
+    let mut word = random.code_word();
+    let (places, count) = random.places();
+    let places = &places[..count.min(48)];
+    erase(random, &mut word, places);
+    // In every other word one byte more is wrong.
+    if i % 2 == 0 {
+        word[100] ^= 1;
+    }
+    is_solved(&word, places) && is_solved_alike(&word, places)
+}
+
+fn wrong_erased_places() -> Option<usize> {
     let mut random = Random(362_436_069);
     for i in 0..WORDS {
-        let mut word = random.code_word();
-        let (places, count) = random.places();
-        let places = &places[..count.min(48)];
-        for place in places {
-            word[usize::from(*place).min(254)] = random.byte();
+        if !fills_erased_places(&mut random, i) {
+            return Some(i);
         }
-        // In every other word one byte more is wrong.
-        if i % 2 == 0 {
-            word[100] ^= 1;
-        }
-        assert!(rt; is_solved(&word, places), "word {i}");
-        assert!(rt; is_solved_alike(&word, places), "word {i}");
     }
+    None
+}
+
+#[test]
+fn erased_places(rt: HostRuntime) {
+    none_is_wrong(&rt, wrong_erased_places());
 }
 
 /// The places of three fragments out of sixteen that are next to one another, and how many these are.
@@ -239,20 +285,29 @@ fn is_same_message(one: &[u8; 255], other: &[u8; 255]) -> bool {
     one[..207] == other[..207]
 }
 
-#[test]
-fn spaced_places(rt: HostRuntime) {
+fn fills_spaced_places(random: &mut Random, i: usize) -> bool {
+    let mut word = random.code_word();
+    let (places, count) = lost_places(random.byte());
+    let places = &places[..count.min(48)];
+    erase(random, &mut word, places);
+    // In every other word one byte more is wrong.
+    if i % 2 == 0 {
+        word[usize::from(random.byte()).min(254)] ^= 1;
+    }
+    is_message_alike(&word, places)
+}
+
+fn wrong_spaced_places() -> Option<usize> {
     let mut random = Random(521_288_629);
     for i in 0..WORDS {
-        let mut word = random.code_word();
-        let (places, count) = lost_places(random.byte());
-        let places = &places[..count.min(48)];
-        for place in places {
-            word[usize::from(*place).min(254)] = random.byte();
+        if !fills_spaced_places(&mut random, i) {
+            return Some(i);
         }
-        // In every other word one byte more is wrong.
-        if i % 2 == 0 {
-            word[usize::from(random.byte()).min(254)] ^= 1;
-        }
-        assert!(rt; is_message_alike(&word, places), "word {i}");
     }
+    None
+}
+
+#[test]
+fn spaced_places(rt: HostRuntime) {
+    none_is_wrong(&rt, wrong_spaced_places());
 }

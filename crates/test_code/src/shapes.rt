@@ -1,5 +1,6 @@
 //! Shapes of packets, from the formulas in Python.
 
+use crate::rows::none_is_wrong;
 use dcp_pft::{Carry, MOST_FRAGMENTS, Rs, Shape, chunks, most_packet, shape_for};
 
 /// The length of the packet, the fragments that may be lost, the longest datagram; the shape, and the number of chunks.
@@ -39,11 +40,19 @@ fn is_cut_so(case: &ShapeCase) -> bool {
     shape == Shape { count, piece, rs } && chunks(&shape) == made
 }
 
+// The first row of each table that doesn't hold.
+fn wrong_cut() -> Option<usize> {
+    for (k, row) in CASES.iter().enumerate() {
+        if !is_cut_so(row) {
+            return Some(k);
+        }
+    }
+    None
+}
+
 #[test]
 fn cuts_packets(rt: HostRuntime) {
-    for (k, case) in CASES.iter().enumerate() {
-        assert!(rt; is_cut_so(case), "row {k}");
-    }
+    none_is_wrong(&rt, wrong_cut());
 }
 
 // Shapes that are no packet's, as a receiver may see them, and the number of their chunks.
@@ -59,11 +68,18 @@ fn has_chunks(count: u32, piece: u16, rs: Option<Rs>, made: u32) -> bool {
     count <= MOST_FRAGMENTS && chunks(&Shape { count, piece, rs }) == made
 }
 
+fn wrong_count() -> Option<usize> {
+    for (k, row) in OTHERS.iter().enumerate() {
+        if !has_chunks(row.0, row.1, row.2, row.3) {
+            return Some(k);
+        }
+    }
+    None
+}
+
 #[test]
 fn counts_chunks(rt: HostRuntime) {
-    for (k, row) in OTHERS.iter().enumerate() {
-        assert!(rt; has_chunks(row.0, row.1, row.2, row.3), "row {k}");
-    }
+    none_is_wrong(&rt, wrong_count());
 }
 
 // The most bytes of a packet.
@@ -75,9 +91,16 @@ const LIMITS: &[(Carry, usize)] = &[
     (Carry::Pft { m: 5, mtu: 128 }, 8192),
 ];
 
+fn wrong_limit() -> Option<usize> {
+    for (k, row) in LIMITS.iter().enumerate() {
+        if most_packet(row.0) != row.1 {
+            return Some(k);
+        }
+    }
+    None
+}
+
 #[test]
 fn limits_packets(rt: HostRuntime) {
-    for (k, row) in LIMITS.iter().enumerate() {
-        assert!(rt; most_packet(row.0) == row.1, "row {k}");
-    }
+    none_is_wrong(&rt, wrong_limit());
 }

@@ -1,6 +1,7 @@
 //! Words and their parity from another program, and erased places of them.
 
 use crate::places::are_places;
+use crate::rows::none_is_wrong;
 use rs_erase::{SolveFault, encode, solve, syndromes};
 
 /// A chunk, whose bytes begin with `first` and grow by `step` modulo 256, and its parity.
@@ -229,11 +230,19 @@ fn has_its_parity(coded: &Coded) -> bool {
     parity == coded.parity
 }
 
+// The first word that hasn't its parity.
+fn wrong_parity() -> Option<usize> {
+    for (k, coded) in WORDS.iter().enumerate() {
+        if !has_its_parity(coded) {
+            return Some(k);
+        }
+    }
+    None
+}
+
 #[test]
 fn parities(rt: HostRuntime) {
-    for (k, coded) in WORDS.iter().enumerate() {
-        assert!(rt; has_its_parity(coded), "row {k}");
-    }
+    none_is_wrong(&rt, wrong_parity());
 }
 
 #[test]
@@ -284,24 +293,49 @@ fn is_refused(word: &[u8; 255], places: &[u8], fault: SolveFault) -> bool {
     are_places(places) && solve(&mut filled, places) == Err(fault) && filled == *word
 }
 
-#[test]
-fn erased_places(rt: HostRuntime) {
-    for coded in WORDS {
-        let word = word_of(coded);
-        for places in PLACES {
-            assert!(rt; becomes(&zeroed(&word, places), places, &word));
-            assert!(rt; becomes(&changed(&word, places), places, &word));
+fn is_filled(word: &[u8; 255], places: &[u8]) -> bool {
+    becomes(&zeroed(word, places), places, word) && becomes(&changed(word, places), places, word)
+}
+
+fn is_filled_at_all_places(coded: &Coded) -> bool {
+    let word = word_of(coded);
+    for places in PLACES {
+        if !is_filled(&word, places) {
+            return false;
         }
     }
+    true
+}
+
+// The first word that isn't filled.
+fn wrong_word() -> Option<usize> {
+    for (k, coded) in WORDS.iter().enumerate() {
+        if !is_filled_at_all_places(coded) {
+            return Some(k);
+        }
+    }
+    None
+}
+
+#[test]
+fn erased_places(rt: HostRuntime) {
+    none_is_wrong(&rt, wrong_word());
+}
+
+// The first places that aren't refused where one byte more is wrong.
+fn wrong_places() -> Option<usize> {
+    let wrong = changed(&word_of(FIRST_WORD), &[254]);
+    for (k, places) in PLACES.iter().enumerate() {
+        if places[46] < 254 && !is_refused(&wrong, &places[..47], SolveFault::NoCodeWord) {
+            return Some(k);
+        }
+    }
+    None
 }
 
 #[test]
 fn one_more_byte_is_wrong(rt: HostRuntime) {
-    let wrong = changed(&word_of(FIRST_WORD), &[254]);
-    for places in PLACES {
-        let places = &places[..47];
-        assert!(rt; places[46] >= 254 || is_refused(&wrong, places, SolveFault::NoCodeWord));
-    }
+    none_is_wrong(&rt, wrong_places());
 }
 
 #[test]

@@ -1,5 +1,6 @@
 //! Blocks of known bytes, read. The check values were divided out bit by bit by a program in Python.
 
+use crate::rows::none_is_wrong;
 use drm_sdc::{BlockInfo, SdcFault, check_block, read_block};
 use std::alloc::Global;
 
@@ -45,8 +46,10 @@ pub(crate) fn is_no_block(alloc: Global, value: &[u8], bits: u32, fault: SdcFaul
 
 #[test]
 fn reads_blocks_of_both_forms(rt: HostRuntime) {
-    assert!(rt; is_block(rt.alloc(), &FIRST, 92, 9, 1, &[0, 0]));
-    assert!(rt; is_block(rt.alloc(), &SECOND, 96, 9, 1, &[0, 0]));
+    let alloc = rt.alloc();
+    assert!(rt;
+        is_block(alloc, &FIRST, 92, 9, 1, &[0, 0]) && is_block(alloc, &SECOND, 96, 9, 1, &[0, 0])
+    );
 }
 
 #[test]
@@ -74,9 +77,17 @@ const NO_BLOCKS: &[(&[u8], u32, SdcFault)] = &[
     ),
 ];
 
+// The first bits that aren't refused so.
+fn wrong_refusal(alloc: Global) -> Option<usize> {
+    for (k, row) in NO_BLOCKS.iter().enumerate() {
+        if !is_no_block(alloc, row.0, row.1, row.2) {
+            return Some(k);
+        }
+    }
+    None
+}
+
 #[test]
 fn refuses_what_is_no_block(rt: HostRuntime) {
-    for (k, row) in NO_BLOCKS.iter().enumerate() {
-        assert!(rt; is_no_block(rt.alloc(), row.0, row.1, row.2), "row {k}");
-    }
+    none_is_wrong(&rt, wrong_refusal(rt.alloc()));
 }

@@ -3,6 +3,7 @@
 
 ghost use Rattle.std.specs.Prelude.{◌≤◌, ◌<◌, ◌^◌, ◌+◌, length};
 
+use crate::rows::none_is_wrong;
 use drm_sdc::{Block, Body, Entity, MuxDesc, NoRoom, Part, read_entities, write_block};
 use std::alloc::Global;
 
@@ -140,14 +141,19 @@ fn is_written(alloc: Global, field: &[u8], afs: u8, room: usize, block: &[u8]) -
         && into[room + 3] == 0xff
 }
 
+// The first field that isn't written so.
+fn wrong_block(alloc: Global) -> Option<usize> {
+    for (k, row) in BLOCKS.iter().enumerate() {
+        if !is_written(alloc, row.0, row.1, row.2, row.3) {
+            return Some(k);
+        }
+    }
+    None
+}
+
 #[test]
 fn writes_each_body(rt: HostRuntime) {
-    for (k, row) in BLOCKS.iter().enumerate() {
-        assert!(rt;
-            is_written(rt.alloc(), row.0, row.1, row.2, row.3),
-            "row {k}"
-        );
-    }
+    none_is_wrong(&rt, wrong_block(rt.alloc()));
 }
 
 // The tail that was read isn't written.
@@ -181,8 +187,9 @@ fn fits_unless_empty(rt: HostRuntime) {
         language: 0xffffff,
         country: 0xffff,
     };
-    assert!(rt; fits(language));
-    assert!(rt; !fits(description(0)) && fits(description(1)) && !fits(description(4)));
+    assert!(rt;
+        fits(language) && !fits(description(0)) && fits(description(1)) && !fits(description(4))
+    );
 }
 
 fn description(prot_a: u8) -> Body {

@@ -1,5 +1,6 @@
 //! Check values, computed by a long division of bit lists in Python.
 
+use crate::rows::none_is_wrong;
 use drm_bits::{CrcRun, crc8, crc16};
 
 const FAC: [u8; 8] = [0x66, 0x08, 0x01, 0x23, 0x45, 0x60, 0xa1, 0x80];
@@ -14,15 +15,19 @@ const VALUES: &[(&[u8], u8, u16)] = &[
     (&[], 0x00, 0x0000),
 ];
 
-fn has_values(bytes: &[u8], narrow: u8, wide: u16) -> bool {
-    crc8(bytes) == narrow && crc16(bytes) == wide
+// The first list that has another value.
+fn wrong_value() -> Option<usize> {
+    for (k, row) in VALUES.iter().enumerate() {
+        if crc8(row.0) != row.1 || crc16(row.0) != row.2 {
+            return Some(k);
+        }
+    }
+    None
 }
 
 #[test]
 fn lists_have_check_values(rt: HostRuntime) {
-    for (k, row) in VALUES.iter().enumerate() {
-        assert!(rt; has_values(row.0, row.1, row.2), "row {k}");
-    }
+    none_is_wrong(&rt, wrong_value());
 }
 
 // The value after a run over these bytes.
@@ -36,6 +41,7 @@ fn run_over(bytes: &[u8]) -> u16 {
 
 #[test]
 fn runs_have_check_values(rt: HostRuntime) {
-    assert!(rt; run_over(b"") == 0 && run_over(b"\0") == 0x1e0f);
-    assert!(rt; run_over(b"123456789") == 0xd64e);
+    assert!(rt;
+        run_over(b"") == 0 && run_over(b"\0") == 0x1e0f && run_over(b"123456789") == 0xd64e
+    );
 }

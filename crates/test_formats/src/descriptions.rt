@@ -3,6 +3,7 @@
 ghost use Rattle.std.specs.Prelude.{ℕ, ◌<◌, ◌^◌, length};
 ghost use Rattle.drm_bits.specs.Description.{IsDescription, FitsWidths};
 
+use crate::rows::none_is_wrong;
 use drm_mux::{
     MuxDesc, MuxFault, Part, Spans, assemble, check_streams, frame_len, locate, read_sdci, split,
     write_sdci,
@@ -90,18 +91,34 @@ fn is_written_again(rt: &impl Abort, value: &[u8]) -> bool {
     len <= 13 && &into[..len] == value && &into[len..] == &[0xaa; 13][len..]
 }
 
+// The first description that is read otherwise.
+fn wrong_description() -> Option<usize> {
+    for (k, row) in DESCRIPTIONS.iter().enumerate() {
+        if !is_read_as(row.0, row.1) {
+            return Some(k);
+        }
+    }
+    None
+}
+
 #[test]
 fn reads_descriptions(rt: HostRuntime) {
+    none_is_wrong(&rt, wrong_description());
+}
+
+// The first description that is written otherwise.
+fn wrong_bytes(rt: &impl Abort) -> Option<usize> {
     for (k, row) in DESCRIPTIONS.iter().enumerate() {
-        assert!(rt; is_read_as(row.0, row.1), "row {k}");
+        if !is_written_again(rt, row.0) {
+            return Some(k);
+        }
     }
+    None
 }
 
 #[test]
 fn writes_descriptions(rt: HostRuntime) {
-    for (k, row) in DESCRIPTIONS.iter().enumerate() {
-        assert!(rt; is_written_again(&rt, row.0), "row {k}");
-    }
+    none_is_wrong(&rt, wrong_bytes(&rt));
 }
 
 const NO_DESCRIPTIONS: &[(&[u8], u32, MuxFault)] = &[
@@ -116,11 +133,19 @@ fn is_refused(value: &[u8], bits: u32, fault: MuxFault) -> bool {
     bits < 1000 && value.len() == (bits as usize + 7) / 8 && read_sdci(value, bits) == Err(fault)
 }
 
+// The first value that isn't refused so.
+fn wrong_refusal() -> Option<usize> {
+    for (k, row) in NO_DESCRIPTIONS.iter().enumerate() {
+        if !is_refused(row.0, row.1, row.2) {
+            return Some(k);
+        }
+    }
+    None
+}
+
 #[test]
 fn refuses_values(rt: HostRuntime) {
-    for (k, row) in NO_DESCRIPTIONS.iter().enumerate() {
-        assert!(rt; is_refused(row.0, row.1, row.2), "row {k}");
-    }
+    none_is_wrong(&rt, wrong_refusal());
 }
 
 const SIDE_BY_SIDE: [u8; 6] = [0x01, 0x02, 0x03, 0x11, 0x12, 0x13];
@@ -134,10 +159,12 @@ fn assembles(rt: HostRuntime) {
         at: [0, 3, 0, 0],
         len: [3, 3, 0, 0],
     };
-    assert!(rt; frame_len(&desc) == 6);
     let mut frame = [0xaa; 8];
-    assert!(rt; assemble(&desc, &SIDE_BY_SIDE, &spans, &mut frame) == Ok(6));
-    assert!(rt; frame == ASSEMBLED);
+    assert!(rt;
+        frame_len(&desc) == 6
+            && assemble(&desc, &SIDE_BY_SIDE, &spans, &mut frame) == Ok(6)
+            && frame == ASSEMBLED
+    );
 }
 
 #[test]
@@ -148,8 +175,7 @@ fn splits(rt: HostRuntime) {
         at: [0, 3, 6, 6],
         len: [3, 3, 0, 0],
     };
-    assert!(rt; split(&desc, &ASSEMBLED[..6], &mut into) == Ok(spans));
-    assert!(rt; into == SIDE_BY_SIDE);
+    assert!(rt; split(&desc, &ASSEMBLED[..6], &mut into) == Ok(spans) && into == SIDE_BY_SIDE);
 }
 
 const BUFFER: [u8; 11] = [
@@ -169,20 +195,32 @@ const OF_BUFFER: [u8; 11] = [
 fn assembles_each_byte(rt: HostRuntime) {
     let desc = described(&rt, &FOUR_STREAMS);
     let mut frame = [0; 11];
-    assert!(rt; frame_len(&desc) == 11);
-    assert!(rt; assemble(&desc, &BUFFER, &IN_BUFFER, &mut frame) == Ok(11));
-    assert!(rt; frame == OF_BUFFER);
+    assert!(rt;
+        frame_len(&desc) == 11
+            && assemble(&desc, &BUFFER, &IN_BUFFER, &mut frame) == Ok(11)
+            && frame == OF_BUFFER
+    );
+}
+
+const PLACES: &[usize] = &[10, 0, 1, 2, 6, 7, 4, 5, 3, 8, 9];
+
+// The first byte that is located elsewhere.
+fn wrong_place(rt: &impl Abort) -> Option<usize> {
+    let desc = described(rt, &FOUR_STREAMS);
+    if frame_len(&desc) != 11 || check_streams(&desc, &IN_BUFFER).is_err() {
+        return Some(0);
+    }
+    for (k, place) in PLACES.iter().enumerate() {
+        if locate(&desc, &IN_BUFFER, k) != *place {
+            return Some(k);
+        }
+    }
+    None
 }
 
 #[test]
 fn locates_each_byte(rt: HostRuntime) {
-    let desc = described(&rt, &FOUR_STREAMS);
-    assert!(rt; frame_len(&desc) == 11);
-    assert!(rt; check_streams(&desc, &IN_BUFFER).is_ok());
-    let places = [10, 0, 1, 2, 6, 7, 4, 5, 3, 8, 9];
-    for (k, place) in places.iter().enumerate() {
-        assert!(rt; locate(&desc, &IN_BUFFER, k) == *place, "byte {k}");
-    }
+    none_is_wrong(&rt, wrong_place(&rt));
 }
 
 // Lengths of the two streams, which are described as 3 and 3; the first wrong one, and how long it is.
@@ -211,11 +249,19 @@ fn is_first_wrong(rt: &impl Abort, len: [usize; 4], fault: Option<(u8, usize)>) 
     check_streams(&desc, &spans) == wrong(fault)
 }
 
+// The first lengths that have another fault.
+fn wrong_length(rt: &impl Abort) -> Option<usize> {
+    for (k, row) in LENGTHS.iter().enumerate() {
+        if !is_first_wrong(rt, row.0, row.1) {
+            return Some(k);
+        }
+    }
+    None
+}
+
 #[test]
 fn names_the_first_wrong_length(rt: HostRuntime) {
-    for (k, row) in LENGTHS.iter().enumerate() {
-        assert!(rt; is_first_wrong(&rt, row.0, row.1), "row {k}");
-    }
+    none_is_wrong(&rt, wrong_length(&rt));
 }
 
 #[test]

@@ -1,5 +1,6 @@
 //! Data fields of known bytes. The bytes of the bodies were packed by a program in Python.
 
+use crate::rows::none_is_wrong;
 use crate::said::{EntityNumbers, bytes_of, numbers_of};
 use drm_bits::NoMemory;
 use drm_sdc::{Body, Channel15, Channels, Entities, Entity, Octets, SdcFault, read_entities};
@@ -65,11 +66,19 @@ fn has_fault(alloc: Global, field: &[u8], fault: SdcFault) -> bool {
     read_entities(alloc, field).err() == Some(fault)
 }
 
+// The first field that has another fault.
+fn wrong_fault(alloc: Global) -> Option<usize> {
+    for (k, row) in FAULTS.iter().enumerate() {
+        if !has_fault(alloc, row.0, row.1) {
+            return Some(k);
+        }
+    }
+    None
+}
+
 #[test]
 fn names_the_first_fault(rt: HostRuntime) {
-    for (k, row) in FAULTS.iter().enumerate() {
-        assert!(rt; has_fault(rt.alloc(), row.0, row.1), "row {k}");
-    }
+    none_is_wrong(&rt, wrong_fault(rt.alloc()));
 }
 
 // The field has so many entities and this tail.
@@ -89,21 +98,35 @@ const TAILS: &[(&[u8], usize, &[u8])] = &[
     (&[0x00, 0x34, 0x00, 0x03, 0x00], 2, &[0x00]),
 ];
 
+// The first field that isn't so.
+fn wrong_tail(alloc: Global) -> Option<usize> {
+    for (k, row) in TAILS.iter().enumerate() {
+        if !is_field(alloc, row.0, row.1, row.2) {
+            return Some(k);
+        }
+    }
+    None
+}
+
 #[test]
 fn ends_at_the_tail(rt: HostRuntime) {
-    for (k, row) in TAILS.iter().enumerate() {
-        assert!(rt; is_field(rt.alloc(), row.0, row.1, row.2), "row {k}");
+    none_is_wrong(&rt, wrong_tail(rt.alloc()));
+}
+
+fn is_said(entity: &Entity, said: Option<&EntityNumbers>) -> bool {
+    match said {
+        Some((version, numbers, bytes)) => {
+            entity.version == *version
+                && numbers_of(&entity.body).starts_with(numbers)
+                && bytes_of(&entity.body) == *bytes
+        }
+        None => false,
     }
 }
 
-fn is_said(entity: &Entity, said: &EntityNumbers) -> bool {
-    let numbers = numbers_of(&entity.body);
-    entity.version == said.0 && numbers.starts_with(said.1) && bytes_of(&entity.body) == said.2
-}
-
 fn are_said(entities: &[Entity], all_said: &[EntityNumbers]) -> bool {
-    for (entity, said) in entities.iter().zip(all_said) {
-        if !is_said(entity, said) {
+    for (k, entity) in entities.iter().enumerate() {
+        if !is_said(entity, all_said.get(k)) {
             return false;
         }
     }

@@ -1,5 +1,6 @@
 //! The Fast Access Channel, and the order of the services in it.
 
+use crate::rows::none_is_wrong;
 use drm_fac::{
     Channel, Fac, FacFault, Service, Slot, counts, decode, encode, pattern, services_code,
 };
@@ -43,36 +44,34 @@ const FACS: &[([u8; 9], OfChannel, OfService)] = &[
     ),
 ];
 
-fn is_read(bytes: &[u8; 9], fac: &Fac) -> bool {
-    decode(bytes) == Ok(*fac)
+fn is_read_and_written(bytes: &[u8; 9], fac: &Fac) -> bool {
+    decode(bytes) == Ok(*fac) && fac.fits() && encode(fac) == *bytes
 }
 
-fn is_written(bytes: &[u8; 9], fac: &Fac) -> bool {
-    fac.fits() && encode(fac) == *bytes
+// The first FAC that isn't read and written so.
+fn wrong_fac() -> Option<usize> {
+    for (k, row) in FACS.iter().enumerate() {
+        if !is_read_and_written(&row.0, &fac(row.1, row.2)) {
+            return Some(k);
+        }
+    }
+    None
 }
 
 #[test]
 fn reads_and_writes_each_field(rt: HostRuntime) {
-    for (k, row) in FACS.iter().enumerate() {
-        let fac = fac(row.1, row.2);
-        assert!(rt;
-            is_read(&row.0, &fac) && is_written(&row.0, &fac),
-            "row {k}"
-        );
-    }
+    none_is_wrong(&rt, wrong_fac());
 }
 
-fn is_refused(bytes: &[u8; 9], stands: u8, computed: u8) -> bool {
-    decode(bytes) == Err(FacFault::Crc { stands, computed })
+fn is_refused(stands: u8) -> bool {
+    let bytes = [0x66, 0x08, 0x01, 0x23, 0x45, 0x60, 0xa1, 0x80, stands];
+    let computed = 0x6d;
+    decode(&bytes) == Err(FacFault::Crc { stands, computed })
 }
 
 #[test]
 fn names_a_wrong_check_value(rt: HostRuntime) {
-    let mut bytes = [0x66, 0x08, 0x01, 0x23, 0x45, 0x60, 0xa1, 0x80, 0x6d];
-    for stands in [0x6c, 0x00, 0xff, 0x92] {
-        bytes[8] = stands;
-        assert!(rt; is_refused(&bytes, stands, 0x6d), "{stands}");
-    }
+    assert!(rt; is_refused(0x6c) && is_refused(0x00) && is_refused(0xff) && is_refused(0x92));
 }
 
 // The first number that is too great for each field that isn't one bit.
@@ -93,18 +92,30 @@ const TOO_GREAT_SERVICES: &[OfService] = &[
     (0, 0, false, 0, false, 0, false, 64),
 ];
 
-fn fits(channel: OfChannel, service: OfService) -> bool {
-    fac(channel, service).fits()
+// The first channel that fits.
+fn wrong_channel() -> Option<usize> {
+    for (k, channel) in TOO_GREAT_CHANNELS.iter().enumerate() {
+        if fac(*channel, NO_SERVICE).fits() {
+            return Some(k);
+        }
+    }
+    None
+}
+
+// The first service that fits.
+fn wrong_service() -> Option<usize> {
+    for (k, service) in TOO_GREAT_SERVICES.iter().enumerate() {
+        if fac(NO_CHANNEL, *service).fits() {
+            return Some(k);
+        }
+    }
+    None
 }
 
 #[test]
 fn fits_up_to_each_width(rt: HostRuntime) {
-    for (k, channel) in TOO_GREAT_CHANNELS.iter().enumerate() {
-        assert!(rt; !fits(*channel, NO_SERVICE), "channel {k}");
-    }
-    for (k, service) in TOO_GREAT_SERVICES.iter().enumerate() {
-        assert!(rt; !fits(NO_CHANNEL, *service), "service {k}");
-    }
+    none_is_wrong(&rt, wrong_channel());
+    none_is_wrong(&rt, wrong_service());
 }
 
 fn fac(channel: OfChannel, service: OfService) -> Fac {
@@ -154,15 +165,19 @@ const COUNTS: &[Option<(u8, u8)>] = &[
     Some((0, 4)),
 ];
 
-fn has_counts(code: usize, expected: Option<(u8, u8)>) -> bool {
-    code < 16 && counts(code as u8) == expected
+// The first code whose counts are others.
+fn wrong_count() -> Option<usize> {
+    for (code, expected) in COUNTS.iter().enumerate() {
+        if code >= 16 || counts(code as u8) != *expected {
+            return Some(code);
+        }
+    }
+    None
 }
 
 #[test]
 fn counts_services(rt: HostRuntime) {
-    for (code, expected) in COUNTS.iter().enumerate() {
-        assert!(rt; has_counts(code, *expected), "code {code}");
-    }
+    none_is_wrong(&rt, wrong_count());
 }
 
 // How many audio and data services, and their code.
@@ -179,15 +194,19 @@ const CODES: &[((u8, u8), Option<u8>)] = &[
     ((255, 255), None),
 ];
 
-fn has_code(audio: u8, data_count: u8, code: Option<u8>) -> bool {
-    services_code(audio, data_count) == code
+// The first counts that have another code.
+fn wrong_code() -> Option<usize> {
+    for (k, row) in CODES.iter().enumerate() {
+        if services_code(row.0.0, row.0.1) != row.1 {
+            return Some(k);
+        }
+    }
+    None
 }
 
 #[test]
 fn codes_services(rt: HostRuntime) {
-    for (k, row) in CODES.iter().enumerate() {
-        assert!(rt; has_code(row.0.0, row.0.1, row.1), "row {k}");
-    }
+    none_is_wrong(&rt, wrong_code());
 }
 
 const A: Slot = Slot::Audio(0);
@@ -224,9 +243,17 @@ fn take_turns(audio: u8, data_count: u8, order: &[Slot]) -> bool {
     true
 }
 
+// The first services that take other turns.
+fn wrong_order() -> Option<usize> {
+    for (k, row) in ORDERS.iter().enumerate() {
+        if !take_turns(row.0, row.1, row.2) {
+            return Some(k);
+        }
+    }
+    None
+}
+
 #[test]
 fn services_take_turns(rt: HostRuntime) {
-    for (k, row) in ORDERS.iter().enumerate() {
-        assert!(rt; take_turns(row.0, row.1, row.2), "row {k}");
-    }
+    none_is_wrong(&rt, wrong_order());
 }

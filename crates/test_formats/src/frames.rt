@@ -4,6 +4,7 @@ ghost use Rattle.std.specs.Prelude.{◌≡◌, ◌<◌};
 ghost use Rattle.drm_bits.specs.Description.{IsDescription, FitsWidths};
 ghost use Rattle.drm_fac.specs.Fac.{FacFits};
 
+use crate::rows::none_is_wrong;
 use dcp_tag::ValueCut;
 use drm_fac::{Channel, Fac, FacFault, Mode, Service};
 use drm_mux::{MuxDesc, MuxFault, Part, Spans};
@@ -227,20 +228,25 @@ const WRONG_STREAMS: &[FrameEdit] = &[
     (56, 5, MdiFault::Mux(LONGER)),
 ];
 
+// The first edit that comes to something else.
+fn wrong_edit(edits: &[FrameEdit]) -> Option<usize> {
+    for (k, edit) in edits.iter().enumerate() {
+        let mut frame = FRAME;
+        if !comes_to(&mut frame, edit) {
+            return Some(k);
+        }
+    }
+    None
+}
+
 #[test]
 fn names_what_is_wrong_with_an_item(rt: HostRuntime) {
-    for (k, edit) in WRONG_ITEMS.iter().enumerate() {
-        let mut frame = FRAME;
-        assert!(rt; comes_to(&mut frame, edit), "row {k}");
-    }
+    none_is_wrong(&rt, wrong_edit(WRONG_ITEMS));
 }
 
 #[test]
 fn names_what_is_wrong_with_a_stream(rt: HostRuntime) {
-    for (k, edit) in WRONG_STREAMS.iter().enumerate() {
-        let mut frame = FRAME;
-        assert!(rt; comes_to(&mut frame, edit), "row {k}");
-    }
+    none_is_wrong(&rt, wrong_edit(WRONG_STREAMS));
 }
 
 // No bits of a block are as good as none.
@@ -310,12 +316,20 @@ const BLOCK_OUT_OF_PLACE: MdiFault = MdiFault::ItemLength {
     bits: 92,
 };
 
-#[test]
-fn names_what_is_wrong_with_a_block(rt: HostRuntime) {
+// The first edit of a block that comes to something else.
+fn wrong_block_edit() -> Option<usize> {
     for (k, edit) in WRONG_BLOCKS.iter().enumerate() {
         let mut frame = FIRST;
-        assert!(rt; comes_to(&mut frame, edit), "row {k}");
+        if !comes_to(&mut frame, edit) {
+            return Some(k);
+        }
     }
+    None
+}
+
+#[test]
+fn names_what_is_wrong_with_a_block(rt: HostRuntime) {
+    none_is_wrong(&rt, wrong_block_edit());
     let mut frame = FIRST;
     frame[36] = 0x26;
     assert!(rt; comes_to(&mut frame, &(44, 0x33, BLOCK_OUT_OF_PLACE)));
@@ -338,9 +352,9 @@ fn writes_the_first_frame(rt: HostRuntime) {
     let mut writer = MdiWriter::new(&mut into);
     writer.head(0, &fac(3), &mux(), Mode::B);
     writer.block(&FIRST[74..86], 92);
-    assert!(rt; writer.room() == 12);
+    let room = writer.room();
     writer.stream(0, b"UUUU");
-    assert!(rt; writer.end() == 98 && into == FIRST);
+    assert!(rt; room == 12 && writer.end() == 98 && into == FIRST);
 }
 
 #[test]

@@ -4,6 +4,7 @@ use crate::blocks_read::{is_block, is_no_block};
 use crate::blocks_written::written;
 use crate::entities::is_field;
 use drm_sdc::{NoRoom, SdcFault};
+use std::alloc::Global;
 
 // Entities of two bytes, as many as there is room for.
 fn fill(field: &mut [u8], entity: [u8; 2]) {
@@ -35,8 +36,11 @@ fn second_form() -> [u8; 1026] {
 
 #[test]
 fn reads_full_blocks_of_both_forms(rt: HostRuntime) {
-    assert!(rt; is_block(rt.alloc(), &first_form(), 8204, 1023, 511, &[0]));
-    assert!(rt; is_block(rt.alloc(), &second_form(), 8208, 1023, 511, &[0]));
+    let alloc = rt.alloc();
+    assert!(rt;
+        is_block(alloc, &first_form(), 8204, 1023, 511, &[0])
+            && is_block(alloc, &second_form(), 8208, 1023, 511, &[0])
+    );
 }
 
 // Entities of two bytes each, and one byte more.
@@ -59,13 +63,13 @@ fn writes_a_full_field(rt: HostRuntime) {
     assert!(rt; bits == Some(Ok(8204)) && into == first_form());
 }
 
+fn is_too_long(alloc: Global, bits: u32) -> bool {
+    is_no_block(alloc, &[0; 1027], bits, SdcFault::BlockLength { bits })
+}
+
 #[test]
 fn refuses_one_byte_more(rt: HostRuntime) {
-    let value = [0; 1027];
-    for bits in [8212, 8216] {
-        let fault = SdcFault::BlockLength { bits };
-        assert!(rt; is_no_block(rt.alloc(), &value, bits, fault), "{bits} bits");
-    }
+    assert!(rt; is_too_long(rt.alloc(), 8212) && is_too_long(rt.alloc(), 8216));
 }
 
 #[test]

@@ -1,5 +1,6 @@
 //! Bytes with an owner.
 
+use crate::rows::none_is_wrong;
 use drm_bits::{NoMemory, Octets};
 use std::alloc::Global;
 
@@ -20,9 +21,8 @@ fn is_text(alloc: Global, bytes: &[u8], text: Option<&str>) -> bool {
 
 #[test]
 fn keeps_the_bytes(rt: HostRuntime) {
-    assert!(rt; keeps(rt.alloc(), &[]));
-    assert!(rt; keeps(rt.alloc(), &[0]));
-    assert!(rt; keeps(rt.alloc(), &[0x52, 0xff, 0x00, 0x6f]));
+    let alloc = rt.alloc();
+    assert!(rt; keeps(alloc, &[]) && keeps(alloc, &[0]) && keeps(alloc, &[0x52, 0xff, 0x00, 0x6f]));
 }
 
 // A byte that begins no character, one that continues none, a character that is cut, one that is spelled too
@@ -35,11 +35,21 @@ const NO_TEXTS: &[&[u8]] = &[
     b"\xed\xa0\x80",
 ];
 
+// The first of these that is a text.
+fn wrong_text(alloc: Global) -> Option<usize> {
+    for (k, bytes) in NO_TEXTS.iter().enumerate() {
+        if !is_text(alloc, bytes, None) {
+            return Some(k);
+        }
+    }
+    None
+}
+
 #[test]
 fn is_text_where_it_is_utf8(rt: HostRuntime) {
-    assert!(rt; is_text(rt.alloc(), b"Radio \xc3\x85s", Some("Radio Ås")));
-    assert!(rt; is_text(rt.alloc(), &[], Some("")));
-    for (k, bytes) in NO_TEXTS.iter().enumerate() {
-        assert!(rt; is_text(rt.alloc(), bytes, None), "row {k}");
-    }
+    let alloc = rt.alloc();
+    assert!(rt;
+        is_text(alloc, b"Radio \xc3\x85s", Some("Radio Ås")) && is_text(alloc, &[], Some(""))
+    );
+    none_is_wrong(&rt, wrong_text(alloc));
 }

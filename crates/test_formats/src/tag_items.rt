@@ -1,5 +1,6 @@
 //! TAG items, read and written.
 
+use crate::rows::none_is_wrong;
 use dcp_tag::{Item, Items, ValueCut, write_item};
 
 // The payload of a logical frame, by hand after TS 102 820: *ptr, dlfc, fac_, sdci, robm and str0.
@@ -10,7 +11,7 @@ const FRAME: [u8; 78] = [
     0x62, 0x6d, 0, 0, 0, 8, 1, 0x73, 0x74, 0x72, 0x30, 0, 0, 0, 0x20, 0x55, 0x55, 0x55, 0x55,
 ];
 
-const ITEMS: [Item<'static>; 6] = [
+const ITEMS: &[Item<'static>] = &[
     Item {
         name: *b"*ptr",
         bits: 64,
@@ -57,12 +58,20 @@ fn next_is_cut(items: &mut Items<'_>, at: usize) -> bool {
     items.next_item() == Err(ValueCut { at })
 }
 
+// The first item that isn't so.
+fn wrong_item(items: &mut Items<'_>, expected: &[Item<'_>]) -> Option<usize> {
+    for (k, item) in expected.iter().enumerate() {
+        if !next_is(items, Some(*item)) {
+            return Some(k);
+        }
+    }
+    None
+}
+
 #[test]
 fn reads_the_items_of_a_frame(rt: HostRuntime) {
     let mut items = Items::new(&FRAME);
-    for (k, item) in ITEMS.iter().enumerate() {
-        assert!(rt; next_is(&mut items, Some(*item)), "item {k}");
-    }
+    none_is_wrong(&rt, wrong_item(&mut items, ITEMS));
     assert!(rt; next_is(&mut items, None) && next_is(&mut items, None));
 }
 
@@ -70,12 +79,10 @@ fn reads_the_items_of_a_frame(rt: HostRuntime) {
 #[test]
 fn stays_at_a_cut(rt: HostRuntime) {
     let mut items = Items::new(&FRAME[..77]);
-    for (k, item) in ITEMS[..5].iter().enumerate() {
-        assert!(rt; next_is(&mut items, Some(*item)), "item {k}");
-    }
-    for _ in 0..3u8 {
-        assert!(rt; next_is_cut(&mut items, 66));
-    }
+    none_is_wrong(&rt, wrong_item(&mut items, &ITEMS[..5]));
+    assert!(rt;
+        next_is_cut(&mut items, 66) && next_is_cut(&mut items, 66) && next_is_cut(&mut items, 66)
+    );
 }
 
 // The first answer, as a reader written in Python gives it: the bits and the bytes of an item, None, or a cut.
@@ -105,11 +112,19 @@ fn begins_with(payload: &[u8], expected: Option<(u32, &[u8])>) -> bool {
     next_is(&mut Items::new(payload), item)
 }
 
+// The first payload that begins otherwise.
+fn wrong_front() -> Option<usize> {
+    for (k, row) in FRONTS.iter().enumerate() {
+        if !begins_with(row.0, row.1) {
+            return Some(k);
+        }
+    }
+    None
+}
+
 #[test]
 fn answers_at_the_front(rt: HostRuntime) {
-    for (k, row) in FRONTS.iter().enumerate() {
-        assert!(rt; begins_with(row.0, row.1), "row {k}");
-    }
+    none_is_wrong(&rt, wrong_front());
 }
 
 const CUT: &[&[u8]] = &[
@@ -119,11 +134,19 @@ const CUT: &[&[u8]] = &[
     b"ABCD\xff\xff\xff\xf9\x55\x55\x55\x55",
 ];
 
+// The first payload that isn't cut.
+fn wrong_cut() -> Option<usize> {
+    for (k, payload) in CUT.iter().enumerate() {
+        if !next_is_cut(&mut Items::new(payload), 0) {
+            return Some(k);
+        }
+    }
+    None
+}
+
 #[test]
 fn names_a_cut_at_the_front(rt: HostRuntime) {
-    for (k, payload) in CUT.iter().enumerate() {
-        assert!(rt; next_is_cut(&mut Items::new(payload), 0), "row {k}");
-    }
+    none_is_wrong(&rt, wrong_cut());
 }
 
 // The bytes are those of a writer in Python. What stands before and behind stays.
@@ -135,7 +158,6 @@ fn writes_one_item_after_another(rt: HostRuntime) {
     let place = write_item(&mut into, 9, *b"sdci", 12, b"\x01\x50");
     assert!(rt; place == 19);
     let place = write_item(&mut into, 19, *b"bit1", 1, b"\x80");
-    assert!(rt; place == 28);
     let expected = b"\xeefac_\0\0\0\0sdci\0\0\0\x0c\x01\x50bit1\0\0\0\x01\x80\xee";
-    assert!(rt; into == *expected);
+    assert!(rt; place == 28 && into == *expected);
 }

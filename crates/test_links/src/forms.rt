@@ -136,17 +136,24 @@ fn loaded_rows(alloc: Global, shelf: &mut MemShelf) -> usize {
             return k;
         }
     }
-    named_rows(shelf)
+    if are_named(shelf) { LOADS.len() } else { 0 }
 }
 
-// How many of the loads are told in their order, and no more.
-fn named_rows(shelf: &MemShelf) -> usize {
-    for (k, (name, row)) in shelf.names().iter().zip(LOADS).enumerate() {
-        if name.as_slice() != row.0.as_bytes() {
-            return k;
+fn is_named(k: usize, name: &[u8]) -> bool {
+    match LOADS.get(k) {
+        Some(row) => name == row.0.as_bytes(),
+        None => false,
+    }
+}
+
+// Whether the loads are told in their order, and no more.
+fn are_named(shelf: &MemShelf) -> bool {
+    for (k, name) in shelf.names().iter().enumerate() {
+        if !is_named(k, name.as_slice()) {
+            return false;
         }
     }
-    shelf.names().len()
+    shelf.names().len() == 8
 }
 
 fn gives_what_was_added(alloc: Global) -> usize {

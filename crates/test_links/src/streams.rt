@@ -36,22 +36,30 @@ impl Write for Broken {
     }
 }
 
+fn gives<S: Source>(source: &mut S) -> bool {
+    let mut buf = [0u8; 3];
+    source.read(&mut buf) == ReadOut::Got(3)
+        && buf == *b"abc"
+        && source.read(&mut buf) == ReadOut::Got(2)
+        && buf == *b"dec"
+        && source.read(&mut buf) == ReadOut::End
+}
+
 #[test]
 fn a_source_passes_on_what_a_stream_gives(rt: HostRuntime) {
     let mut source = StreamSource::new(&rt, b"abcde".as_slice());
-    let mut buf = [0u8; 3];
-    assert!(rt; source.read(&mut buf) == ReadOut::Got(3) && buf == *b"abc");
-    assert!(rt; source.read(&mut buf) == ReadOut::Got(2) && buf == *b"dec");
-    assert!(rt; source.read(&mut buf) == ReadOut::End);
+    assert!(rt; gives(&mut source));
+}
+
+fn takes<S: Sink>(sink: &mut S) -> bool {
+    sink.write(b"abc") == WriteOut::Wrote(3) && sink.write(b"de") == WriteOut::Wrote(2)
 }
 
 #[test]
 fn a_sink_passes_on_what_is_written(rt: HostRuntime) {
     let mut written = Vec::new(rt.alloc());
-    let mut sink = StreamSink::new(&rt, &mut written);
-    let wrote = (sink.write(b"abc"), sink.write(b"de"));
-    assert!(rt; wrote == (WriteOut::Wrote(3), WriteOut::Wrote(2)));
-    assert!(rt; written.as_slice() == b"abcde".as_slice());
+    let takes = takes(&mut StreamSink::new(&rt, &mut written));
+    assert!(rt; takes && written.as_slice() == b"abcde".as_slice());
 }
 
 // Whether a stream that isn't ready for a while is waited for, and fails once it is broken.
@@ -61,6 +69,6 @@ fn streams_that_are_not_ready_are_waited_for(rt: HostRuntime) {
     let mut buf = [0u8; 3];
     let read = StreamSource::new(&rt, &mut from).read(&mut buf);
     let wrote = StreamSink::new(&rt, &mut to).write(b"abc");
-    assert!(rt; read == ReadOut::Failed && wrote == WriteOut::Failed);
-    assert!(rt; from.waits == 0 && to.waits == 0);
+    let failed = read == ReadOut::Failed && wrote == WriteOut::Failed;
+    assert!(rt; failed && from.waits == 0 && to.waits == 0);
 }
