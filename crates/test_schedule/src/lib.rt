@@ -18,6 +18,8 @@ mod frames;
 #[cfg(test)]
 mod lines;
 #[cfg(test)]
+mod rows;
+#[cfg(test)]
 mod schedules;
 #[cfg(test)]
 mod scripts;

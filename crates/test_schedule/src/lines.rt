@@ -1,24 +1,23 @@
 //! Texts as lines, lines as words, words as numbers and bytes.
 
+use crate::rows::none_is_wrong;
 use drm_bits::NoMemory;
 use std::alloc::Global;
 use text_lines::*;
 
-// Each piece, with a `|` behind it.
-fn shown(alloc: Global, pieces: &[&str]) -> Result<String, NoMemory> {
-    let mut text = String::new(alloc);
+// Puts each piece behind the text, with a `|` behind it.
+fn show(text: &mut String, pieces: &[&str]) -> bool {
     for piece in pieces {
-        text.push_str(piece)?;
-        text.push_str("|")?;
+        if text.push_str(piece).is_err() || text.push('|').is_err() {
+            return false;
+        }
     }
-    Ok(text)
+    true
 }
 
 fn is_shown(alloc: Global, pieces: &[&str], expected: &str) -> bool {
-    match shown(alloc, pieces) {
-        Ok(text) => text.as_str() == expected,
-        Err(NoMemory) => false,
-    }
+    let mut text = String::new(alloc);
+    show(&mut text, pieces) && text.as_str() == expected
 }
 
 // A text, and its lines.
@@ -39,11 +38,19 @@ fn has_lines(alloc: Global, text: &str, expected: &str) -> bool {
     }
 }
 
+// The first text with other lines.
+fn wrong_lines(alloc: Global) -> Option<usize> {
+    for (k, row) in TEXTS.iter().enumerate() {
+        if !has_lines(alloc, row.0, row.1) {
+            return Some(k);
+        }
+    }
+    None
+}
+
 #[test]
 fn cuts_a_text_into_lines(rt: HostRuntime) {
-    for (k, row) in TEXTS.iter().enumerate() {
-        assert!(rt; has_lines(rt.alloc(), row.0, row.1), "row {k}");
-    }
+    none_is_wrong(&rt, wrong_lines(rt.alloc()));
 }
 
 // A line, and its words.
@@ -64,11 +71,19 @@ fn has_words(alloc: Global, line: &str, expected: &str) -> bool {
     }
 }
 
+// The first line with other words.
+fn wrong_words(alloc: Global) -> Option<usize> {
+    for (k, row) in LINES.iter().enumerate() {
+        if !has_words(alloc, row.0, row.1) {
+            return Some(k);
+        }
+    }
+    None
+}
+
 #[test]
 fn cuts_a_line_into_words(rt: HostRuntime) {
-    for (k, row) in LINES.iter().enumerate() {
-        assert!(rt; has_words(rt.alloc(), row.0, row.1), "row {k}");
-    }
+    none_is_wrong(&rt, wrong_words(rt.alloc()));
 }
 
 // A line, and what stands behind two words.
@@ -83,15 +98,19 @@ const BEHIND: &[(&str, &str)] = &[
     ("label 0\ta b", "b"),
 ];
 
-fn is_behind(line: &str, expected: &str) -> bool {
-    behind_two_words(line) == expected
+// The first line with something else behind its words.
+fn wrong_behind() -> Option<usize> {
+    for (k, row) in BEHIND.iter().enumerate() {
+        if behind_two_words(row.0) != row.1 {
+            return Some(k);
+        }
+    }
+    None
 }
 
 #[test]
 fn keeps_what_stands_behind_two_words(rt: HostRuntime) {
-    for (k, row) in BEHIND.iter().enumerate() {
-        assert!(rt; is_behind(row.0, row.1), "row {k}");
-    }
+    none_is_wrong(&rt, wrong_behind());
 }
 
 const NUMBERS: &[(&str, Option<u64>)] = &[
@@ -108,15 +127,19 @@ const NUMBERS: &[(&str, Option<u64>)] = &[
     ("٣", None),
 ];
 
-fn is_number(word: &str, expected: Option<u64>) -> bool {
-    number(word) == expected
+// The first word that is another number.
+fn wrong_number() -> Option<usize> {
+    for (k, row) in NUMBERS.iter().enumerate() {
+        if number(row.0) != row.1 {
+            return Some(k);
+        }
+    }
+    None
 }
 
 #[test]
 fn reads_numbers(rt: HostRuntime) {
-    for (k, row) in NUMBERS.iter().enumerate() {
-        assert!(rt; is_number(row.0, row.1), "row {k}");
-    }
+    none_is_wrong(&rt, wrong_number());
 }
 
 const THREE_BYTES: &[(&str, Option<[u8; 3]>)] = &[
@@ -130,20 +153,29 @@ const THREE_BYTES: &[(&str, Option<[u8; 3]>)] = &[
     ("+a0b0c", None),
 ];
 
-fn are_three(word: &str, expected: Option<[u8; 3]>) -> bool {
-    hex::<3>(word) == expected
+// The first word that is other bytes.
+fn wrong_three() -> Option<usize> {
+    for (k, row) in THREE_BYTES.iter().enumerate() {
+        if hex::<3>(row.0) != row.1 {
+            return Some(k);
+        }
+    }
+    None
 }
 
 #[test]
 fn reads_so_many_bytes(rt: HostRuntime) {
-    for (k, row) in THREE_BYTES.iter().enumerate() {
-        assert!(rt; are_three(row.0, row.1), "row {k}");
-    }
+    none_is_wrong(&rt, wrong_three());
 }
 
-const ANY_BYTES: &[(&str, &[u8])] = &[("", &[]), ("aB", &[0xab]), ("00ff10", &[0, 255, 16])];
-
-const NO_BYTES: &[&str] = &["a", "0g", "-"];
+const ANY_BYTES: &[(&str, Option<&[u8]>)] = &[
+    ("", Some(&[])),
+    ("aB", Some(&[0xab])),
+    ("00ff10", Some(&[0, 255, 16])),
+    ("a", None),
+    ("0g", None),
+    ("-", None),
+];
 
 fn are_bytes(alloc: Global, word: &str, expected: Option<&[u8]>) -> bool {
     match bytes(alloc, word) {
@@ -153,14 +185,19 @@ fn are_bytes(alloc: Global, word: &str, expected: Option<&[u8]>) -> bool {
     }
 }
 
+// The first word that is other bytes, or that is some where it should be none.
+fn wrong_bytes(alloc: Global) -> Option<usize> {
+    for (k, row) in ANY_BYTES.iter().enumerate() {
+        if !are_bytes(alloc, row.0, row.1) {
+            return Some(k);
+        }
+    }
+    None
+}
+
 #[test]
 fn reads_any_bytes(rt: HostRuntime) {
-    for (k, row) in ANY_BYTES.iter().enumerate() {
-        assert!(rt; are_bytes(rt.alloc(), row.0, Some(row.1)), "row {k}");
-    }
-    for (k, word) in NO_BYTES.iter().enumerate() {
-        assert!(rt; are_bytes(rt.alloc(), word, None), "word {k}");
-    }
+    none_is_wrong(&rt, wrong_bytes(rt.alloc()));
 }
 
 const TEXTS_OF_BYTES: &[(&[u8], Result<&str, u32>)] = &[
@@ -176,9 +213,17 @@ fn is_text(bytes: &[u8], expected: Result<&str, u32>) -> bool {
     bytes.len() < 1000 && bad_line(bytes) == expected
 }
 
+// The first bytes that are another text.
+fn wrong_text() -> Option<usize> {
+    for (k, row) in TEXTS_OF_BYTES.iter().enumerate() {
+        if !is_text(row.0, row.1) {
+            return Some(k);
+        }
+    }
+    None
+}
+
 #[test]
 fn names_the_line_that_is_no_text(rt: HostRuntime) {
-    for (k, row) in TEXTS_OF_BYTES.iter().enumerate() {
-        assert!(rt; is_text(row.0, row.1), "row {k}");
-    }
+    none_is_wrong(&rt, wrong_text());
 }

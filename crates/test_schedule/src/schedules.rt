@@ -4,6 +4,7 @@ ghost use Rattle.std.specs.Prelude.{◌≡◌, ◌<◌, length, slice_get, slice
 ghost use Rattle.drm_schedule.specs.declared.stream.Stream.{Stream as StreamRecord};
 ghost use Rattle.drm_schedule.specs.declared.stream.Content.TheVariants.{Fill};
 
+use crate::rows::none_is_wrong;
 use drm_schedule::{
     Carry, Content, Schedule, Spot, Stream, Streams, can_be_packed, entities_can_be_written,
 };
@@ -58,11 +59,19 @@ const PACKED: &[(&[u16], &[u16], bool)] = &[
     (&[65535], &[65535, 1], false),
 ];
 
+// The first entities whose packing is otherwise.
+fn wrong_packing() -> Option<usize> {
+    for (k, row) in PACKED.iter().enumerate() {
+        if can_be_packed(row.0, row.1) != row.2 {
+            return Some(k);
+        }
+    }
+    None
+}
+
 #[test]
 fn packs_in_order(rt: HostRuntime) {
-    for (k, row) in PACKED.iter().enumerate() {
-        assert!(rt; can_be_packed(row.0, row.1) == row.2, "row {k}");
-    }
+    none_is_wrong(&rt, wrong_packing());
 }
 
 #[test]

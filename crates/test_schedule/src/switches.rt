@@ -210,8 +210,10 @@ fn signatures_leave_out_place_and_index(rt: HostRuntime) {
         occupancy: 2,
         ..CHANNEL
     };
-    assert!(rt; Signature::new(Mode::B, later, mux(4)) == first);
-    assert!(rt; Signature::new(Mode::C, CHANNEL, mux(4)) != first);
-    assert!(rt; Signature::new(Mode::B, narrow, mux(4)) != first);
-    assert!(rt; Signature::new(Mode::B, CHANNEL, mux(5)) != first);
+    assert!(rt;
+        Signature::new(Mode::B, later, mux(4)) == first
+            && Signature::new(Mode::C, CHANNEL, mux(4)) != first
+            && Signature::new(Mode::B, narrow, mux(4)) != first
+            && Signature::new(Mode::B, CHANNEL, mux(5)) != first
+    );
 }
