@@ -1,5 +1,5 @@
 -- What a call answers of what the lines say, and the checks of a line as the calls make them.
-use Rattle.std.specs.Prelude.{ℕ, ◌≡◌, ◌+◌, ◌||◌, Bool, Option, Some, None, Result, Ok, Err, if◌then◌else◌}
+use Rattle.std.specs.Prelude.{ℕ, ◌+◌, ◌||◌, Bool, Option, Some, None, Result, Ok, Err, if◌then◌else◌}
 use Rattle.drm_schedule.specs.declared.invalid.Reason.{Reason}
 use Rattle.drm_schedule.specs.declared.invalid.Reason.TheVariants.{Word, Order, Twice, TooLong, Missing}
 use Rattle.plan_grammar.specs.declared.version.Version.{Version}
