@@ -19,6 +19,8 @@ mod receiver_tests;
 #[cfg(test)]
 mod report_tests;
 #[cfg(test)]
+mod rows;
+#[cfg(test)]
 mod server_tests;
 #[cfg(test)]
 mod side_by_side_tests;
