@@ -1,5 +1,7 @@
 -- The tables of multiples of what remains of single powers.
-use Rattle.std.proofs.Common.{◌≡◌, ℕ, ◌+◌, ◌-◌, ◌*◌, ◌<◌, ◌≤◌, Bool, true, List, length, refl, ap, ◌∙◌, arith}
+use Rattle.std.proofs.Common.{◌≡◌, ℕ, zero, suc, ◌+◌, ◌-◌, ◌*◌, ◌<◌, ◌≤◌, ◌&&◌, Bool, true, inl, inr, List, drop, length, take, refl, subst, sym, ap, ◌∙◌, arith}
+use Rattle.std.proofs.lemmas.Bool.{and_parts, cases_lt}
+use Rattle.std.proofs.lemmas.List.{drop-drop}
 use lib.Lanes.{chunk}
 use Rattle.gf_field.specs.Field.{power, times, polynomial_product, remainder}
 use Rattle.gf_field.proofs.EachBelow.{each_at, each_below}
@@ -21,21 +23,46 @@ one table i = chunk (48 * (32 * i + 1)) 48 table
 ones_are : ℕ → List ℕ → Bool
 ones_are top table = each_below 4 (λ i. same (one table i) (nexts (top - i)))
 
+-- so many rows are the multiples from the n-th on
+rows_are : (ℕ → ℕ) → List ℕ → ℕ → ℕ → List ℕ → Bool
+rows_are by power zero n rows = true
+rows_are by power (suc left) n rows = same (take 48 rows) (scale (by n) power) && rows_are by power left (suc n) (drop 48 rows)
+
 -- sixteen rows of each power, from one of its rows on
 multiples_are : (ℕ → ℕ) → ℕ → List ℕ → Bool
-multiples_are by from table = each_below 4 (λ i. each_below 16 (λ n. same (chunk (48 * (32 * i + from + n)) 48 table) (scale (by n) (one table i))))
+multiples_are by from table = each_below 4 (λ i. rows_are by (one table i) 16 0 (drop (48 * (32 * i + from)) table))
 
 one_is : (top : ℕ) (table : List ℕ) → ones_are top table ≡ true → (i : ℕ) → i < 4 → one table i ≡ nexts (top - i)
 unfolding ones_are
 one_is top table h i lt = same_is (one table i) (nexts (top - i)) (each_at 4 (λ i. same (one table i) (nexts (top - i))) h i lt)
 
+rows_at : (by : ℕ → ℕ) (power : List ℕ) (left n : ℕ) (rows : List ℕ) → rows_are by power left n rows ≡ true → (k : ℕ) → k < left
+    → take 48 (drop (48 * k) rows) ≡ scale (by (n + k)) power
+unfolding rows_are
+rows_at by power zero n rows h k lt = absurd (omega arith)
+rows_at by power (suc left) n rows h k lt =
+    let both = and_parts (same (take 48 rows) (scale (by n) power)) (rows_are by power left (suc n) (drop 48 rows)) h in
+    elim (cases_lt k 1) [
+      | inl first ↦
+          let e : 0 ≡ k = omega arith in
+          subst (λ k. take 48 (drop (48 * k) rows) ≡ scale (by (n + k)) power) e
+          (same_is (take 48 rows) (scale (by n) power) both.0 ∙ ap (λ m. scale (by m) power) (let z : n ≡ n + 0 = omega arith in z))
+      | inr later ↦
+          let e : 48 + 48 * (k - 1) ≡ 48 * k = omega (arith, later) in
+          ap (λ (xs : List ℕ). take 48 xs) (ap (λ a. drop a rows) (sym e) ∙ sym (drop-drop (48 * (k - 1)) 48 rows))
+          ∙ rows_at by power left (suc n) (drop 48 rows) both.1 (k - 1) (omega (arith, lt, later))
+          ∙ ap (λ m. scale (by m) power) (let f : suc n + (k - 1) ≡ n + k = omega (arith, later) in f)
+    ]
+
 multiple_is : (by : ℕ → ℕ) (from : ℕ) (table : List ℕ) → multiples_are by from table ≡ true → (i n : ℕ) → i < 4 → n < 16
     → chunk (48 * (32 * i + from + n)) 48 table ≡ scale (by n) (one table i)
 unfolding multiples_are
 multiple_is by from table h i n li ln =
-    let row : ℕ → Bool = λ n. same (chunk (48 * (32 * i + from + n)) 48 table) (scale (by n) (one table i)) in
-    same_is (chunk (48 * (32 * i + from + n)) 48 table) (scale (by n) (one table i))
-    (each_at 16 row (each_at 4 (λ i. each_below 16 (λ n. same (chunk (48 * (32 * i + from + n)) 48 table) (scale (by n) (one table i)))) h i li) n ln)
+    let start = 48 * (32 * i + from) in
+    let place : start + 48 * n ≡ 48 * (32 * i + from + n) = omega arith in
+    ap (λ (xs : List ℕ). take 48 xs) (ap (λ a. drop a table) (sym place) ∙ sym (drop-drop (48 * n) start table))
+    ∙ rows_at by (one table i) 16 0 (drop start table) (each_at 4 (λ i. rows_are by (one table i) 16 0 (drop (48 * (32 * i + from)) table)) h i li) n ln
+    ∙ ap (λ m. scale (by m) (one table i)) (let z : 0 + n ≡ n = omega arith in z)
 
 scaled_is_multiple : (factor top i : ℕ) (row : List ℕ) → i < 4 → 3 ≤ top → row ≡ scale factor (nexts (top - i)) → IsMultipleRemainder factor (48 + top - i) row
 scaled_is_multiple factor top i row lt le is = record {
@@ -62,11 +89,11 @@ unfolding ones_are one same next nexts times polynomial_product remainder
 ones_63 = refl
 
 lows_63 : multiples_are (λ n. n) 0 MULTIPLES_63.bytes ≡ true
-unfolding multiples_are one same times polynomial_product remainder
+unfolding multiples_are rows_are one same times polynomial_product remainder
 lows_63 = refl
 
 highs_63 : multiples_are (λ n. 16 * n) 16 MULTIPLES_63.bytes ≡ true
-unfolding multiples_are one same times polynomial_product remainder
+unfolding multiples_are rows_are one same times polynomial_product remainder
 highs_63 = refl
 
 pub multiples_63 : AreMultiples 63 MULTIPLES_63.bytes
@@ -77,11 +104,11 @@ unfolding ones_are one same next nexts times polynomial_product remainder
 ones_59 = refl
 
 lows_59 : multiples_are (λ n. n) 0 MULTIPLES_59.bytes ≡ true
-unfolding multiples_are one same times polynomial_product remainder
+unfolding multiples_are rows_are one same times polynomial_product remainder
 lows_59 = refl
 
 highs_59 : multiples_are (λ n. 16 * n) 16 MULTIPLES_59.bytes ≡ true
-unfolding multiples_are one same times polynomial_product remainder
+unfolding multiples_are rows_are one same times polynomial_product remainder
 highs_59 = refl
 
 pub multiples_59 : AreMultiples 59 MULTIPLES_59.bytes
@@ -92,11 +119,11 @@ unfolding ones_are one same next nexts times polynomial_product remainder
 ones_55 = refl
 
 lows_55 : multiples_are (λ n. n) 0 MULTIPLES_55.bytes ≡ true
-unfolding multiples_are one same times polynomial_product remainder
+unfolding multiples_are rows_are one same times polynomial_product remainder
 lows_55 = refl
 
 highs_55 : multiples_are (λ n. 16 * n) 16 MULTIPLES_55.bytes ≡ true
-unfolding multiples_are one same times polynomial_product remainder
+unfolding multiples_are rows_are one same times polynomial_product remainder
 highs_55 = refl
 
 pub multiples_55 : AreMultiples 55 MULTIPLES_55.bytes
@@ -107,11 +134,11 @@ unfolding ones_are one same next nexts times polynomial_product remainder
 ones_51 = refl
 
 lows_51 : multiples_are (λ n. n) 0 MULTIPLES_51.bytes ≡ true
-unfolding multiples_are one same times polynomial_product remainder
+unfolding multiples_are rows_are one same times polynomial_product remainder
 lows_51 = refl
 
 highs_51 : multiples_are (λ n. 16 * n) 16 MULTIPLES_51.bytes ≡ true
-unfolding multiples_are one same times polynomial_product remainder
+unfolding multiples_are rows_are one same times polynomial_product remainder
 highs_51 = refl
 
 pub multiples_51 : AreMultiples 51 MULTIPLES_51.bytes

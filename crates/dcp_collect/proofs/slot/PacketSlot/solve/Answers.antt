@@ -1,7 +1,7 @@
 use Rattle.std.proofs.Common.{ℕ, ◌≡◌, ◌+◌, ◌-◌, ◌*◌, ◌/◌, ◌∙◌, List, length, take, sym, ap, subst, rules}
 use Rattle.dcp_collect.specs.Decoding.{IsDecoded}
 use Rattle.dcp_collect.specs.Slots.{joined_to, slot_fragments}
-use Rattle.dcp_collect.proofs.SlotKeep.{whole_items}
+use Rattle.dcp_collect.proofs.SlotKeep.{used_with, whole_items}
 use Rattle.dcp_collect.proofs.SlotSolved.{made_by, lacks_by, stand_by, len_small, slot_count, slot_had, slot_whole, slot_alone}
 use Rattle.dcp_collect.proofs.Joining.{joined_decoded, all_there}
 use Rattle.dcp_collect.specs.Sizes.{most_bytes}
@@ -68,3 +68,18 @@ returns-in-None-clause-made c =
       slot_whole s c.requires.used,
       slot_alone s c.requires.used,
     )
+
+pub returns-then-solve_chunks-clause-used : goal.returns-then-solve_chunks-clause-used
+returns-then-solve_chunks-clause-used c =
+    used_with c.args.self.now c.solve_chunks.new.bytes (c.solve_chunks.ensures.same_length ∙ c.deref_mut.ensures.len)
+    (c.solve_chunks.ensures.same_length ∙ ap length c.deref_mut.ensures.value ∙ c.requires.used.filled.slot.bytes) c.requires.used
+
+pub returns-else-solve_chunks-clause-used : goal.returns-else-solve_chunks-clause-used
+returns-else-solve_chunks-clause-used c =
+    used_with c.args.self.now c.solve_chunks.new.bytes (c.solve_chunks.ensures.same_length ∙ c.deref_mut.ensures.len)
+    (c.solve_chunks.ensures.same_length ∙ ap length c.deref_mut.ensures.value ∙ c.requires.used.filled.slot.bytes) c.requires.used
+
+pub returns-in-None-clause-used : goal.returns-in-None-clause-used
+returns-in-None-clause-used c =
+    used_with c.args.self.now c.join.new.bytes (c.join.ensures.same_length ∙ c.deref_mut-in-None.ensures.len)
+    (c.join.ensures.same_length ∙ ap length c.deref_mut-in-None.ensures.value ∙ c.requires.used.filled.slot.bytes) c.requires.used
