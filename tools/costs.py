@@ -17,8 +17,9 @@ MOST_PACKET, MOST_RECEIVED = 65_536, 49_152
 HEAD_BYTES, CHECK_BYTES, ITEM_BYTES = 10, 2, 8
 # So many items have as much text as is written at once, and some less.
 FEW_ITEMS = 2_000
-# One fragment that has a byte of each chunk, of as many chunks as a packet may have of one byte and its parity.
-FRAGMENT_COUNT, CHUNKS = 49, MOST_RECEIVED // 49
+# A fragment that suffices has as many bytes as a packet may have chunks of one byte and its parity.
+PARITY_BYTES = 48
+FRAGMENT_BYTES = MOST_RECEIVED // (1 + PARITY_BYTES)
 HEAD = (
     "| what | bytes of a datagram | usual before, µs | hostile before, µs | times | usual now, µs | hostile now, µs | times "
     "| such lines in a usual report, µs (bytes) | times both |\n|---|---|---|---|---|---|---|---|---|---|"
@@ -64,20 +65,22 @@ def far_ahead(words, count):
     return Case(f"`{' '.join(words)}`, {count} datagram{'s' if count > 1 else ''} with a number far ahead", words, [packet(0)], hostile, usual, lined)
 
 
-def fragment(number):
-    """A fragment with one byte of each chunk of a packet, where a chunk has one byte and its parity."""
-    head = b"PF" + number.to_bytes(2, "big") + (number % FRAGMENT_COUNT).to_bytes(3, "big") + FRAGMENT_COUNT.to_bytes(3, "big")
-    head += (1 << 15 | CHUNKS).to_bytes(2, "big") + bytes([1, 0])
-    return head + check_value(head) + bytes((number + 7 * i) % 256 for i in range(CHUNKS))
+def fragment(number, k):
+    """A fragment with k bytes of each chunk of a packet, where a chunk has k bytes and its parity; k divides 48."""
+    count, size = 1 + PARITY_BYTES // k, k * (FRAGMENT_BYTES // k)
+    head = b"PF" + number.to_bytes(2, "big") + (number % count).to_bytes(3, "big") + count.to_bytes(3, "big")
+    head += (1 << 15 | size).to_bytes(2, "big") + bytes([k, 0])
+    return head + check_value(head) + bytes((number + 7 * i) % 256 for i in range(size))
 
 
-def small_chunks(program, folder):
-    """Fragments of chunks with one byte beside those that are served."""
+def small_chunks(program, folder, k):
+    """Fragments of chunks with k bytes beside those that are served."""
     pathlib.Path(folder, "usual.plan").write_text(schedule("pft 2 1400", 100), encoding="ascii")
     served = subprocess.run([program, "serve", "usual.plan"], cwd=folder, stdout=subprocess.PIPE, check=True).stdout
     usual = [part for part, _, _ in datagrams(served)]
     words = ("receive", "--first", "0")
-    return Case("`receive` of one fragment with one byte a chunk", words, [], [fragment(i) for i in range(FRAGMENTS)], usual, [])
+    what = f"`receive` of one fragment with {'one byte' if k == 1 else f'{k} bytes'} a chunk"
+    return Case(what, words, [], [fragment(i, k) for i in range(FRAGMENTS)], usual, [])
 
 
 def cases(program, folder):
@@ -87,7 +90,8 @@ def cases(program, folder):
             yield far_ahead(words, count)
     yield many_items(("show",), MOST_PACKET)
     yield many_items(receive, MOST_RECEIVED)
-    yield small_chunks(program, folder)
+    for k in (1, 2, 8):
+        yield small_chunks(program, folder, k)
 
 
 class Cost(NamedTuple):

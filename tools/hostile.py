@@ -12,7 +12,7 @@ sanitizer takes its own). Then as many datagrams of this kind as are told go to 
 output calls for. What ends otherwise is named and its capture is kept in the current folder; the status is 1 then.
 
 With --costs it measures instead what the dearest datagrams cost, in processor time beside a usual datagram of their bytes: one whose
-number is far ahead, a packet with as many items as it can have, and a fragment of chunks with one byte. What as many
+number is far ahead, a packet with as many items as it can have, and fragments of chunks with one, two or eight bytes. What as many
 bytes of report lines cost in a usual report is told apart, and how many times the usual datagram and these lines the hostile one
 costs. With --before the program before runs by turns with it.
 """
