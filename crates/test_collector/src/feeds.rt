@@ -206,11 +206,13 @@ fn switches_at(bytes: &[u8], item: FeedItem<'_>) -> bool {
 fn tells_the_switch_that_a_frame_names(rt: HostRuntime) {
     let (index, had, of) = (1, 2, 7);
     let lost = Out::Lost { index: 1, had, of };
-    assert!(rt; switches(lost, FeedItem::Missing { index, had, of }));
-    assert!(rt; switches(Out::Damaged { index: 1 }, bad(1, BadFault::Code).item));
-    assert!(rt; switches_at(BROKEN, bad(1, BROKEN_CHECK).item));
-    assert!(rt; switches_at(NO_ITEMS, bad(1, ABSENT).item));
-    assert!(rt; switches_at(SECOND_BYTES, frame(1, SHOWN_SECOND, SECOND_BYTES).item));
+    assert!(rt;
+        switches(lost, FeedItem::Missing { index, had, of })
+            && switches(Out::Damaged { index: 1 }, bad(1, BadFault::Code).item)
+            && switches_at(BROKEN, bad(1, BROKEN_CHECK).item)
+            && switches_at(NO_ITEMS, bad(1, ABSENT).item)
+            && switches_at(SECOND_BYTES, frame(1, SHOWN_SECOND, SECOND_BYTES).item)
+    );
 }
 
 // A frame of mode C after one of mode B, and one that is lost. The second frame of mode C is no news.
@@ -254,30 +256,36 @@ fn tells_a_resumption(rt: HostRuntime) {
     assert!(rt; resumes(&changed, &shown));
 }
 
-// In the second packet a bit of the block's check value is another.
-#[test]
-fn gives_a_block(rt: HostRuntime) {
+const BROKEN_BLOCK: BadFault = BadFault::Mdi(MdiFault::Sdc(SdcFault::Crc {
+    stands: 0x6bf6,
+    computed: 0x6be6,
+}));
+
+// A frame with a block, and then one with a broken block.
+fn gives_blocks(broken: &[u8]) -> bool {
     let mut feed = Feed::new();
     let first = Out::Packet {
         index: 0,
         bytes: FIRST_BYTES,
         whole: false,
     };
-    assert!(rt; feed.step(first) == frame(0, SHOWN_FIRST, FIRST_BYTES));
+    let second = Out::Packet {
+        index: 1,
+        bytes: broken,
+        whole: false,
+    };
+    feed.step(first) == frame(0, SHOWN_FIRST, FIRST_BYTES)
+        && feed.step(second) == bad(1, BROKEN_BLOCK)
+}
+
+// In the second packet a bit of the block's check value is another.
+#[test]
+fn gives_a_block(rt: HostRuntime) {
     let mut broken = FIRST;
     broken[94] = 0xbf;
     broken[108] = 0x82;
     broken[109] = 0x38;
-    let fault = BadFault::Mdi(MdiFault::Sdc(SdcFault::Crc {
-        stands: 0x6bf6,
-        computed: 0x6be6,
-    }));
-    let second = Out::Packet {
-        index: 1,
-        bytes: &broken,
-        whole: false,
-    };
-    assert!(rt; feed.step(second) == bad(1, fault));
+    assert!(rt; gives_blocks(&broken));
 }
 
 #[test]

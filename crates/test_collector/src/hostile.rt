@@ -77,6 +77,7 @@ const GIVEN_BEFORE: &[CollectorCall<'static>] = &[
 
 #[test]
 fn nothing_is_left_of_what_was_given(rt: HostRuntime) {
-    run(&rt, rt.alloc(), (1, Some(1)), GIVEN_BEFORE, None, &[]);
-    run(&rt, rt.alloc(), (64, Some(1)), GIVEN_BEFORE, None, &[]);
+    let steps = GIVEN_BEFORE;
+    run(&rt, rt.alloc(), (1, Some(1)), steps, None, &[]);
+    run(&rt, rt.alloc(), (64, Some(1)), steps, None, &[]);
 }

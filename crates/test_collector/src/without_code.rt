@@ -3,6 +3,8 @@
 use crate::runs::{CollectorCall, ExpectedItem, SentDatagram, run};
 use dcp_collect::Head;
 use dcp_collect::Taken::{Inconsistent, Kept, Late, Repeated};
+use std::alloc::Global;
+use std::process::Abort;
 
 // A packet with sequence number 1, in two pieces of five bytes and a last one of three.
 pub(crate) const FIRST: &[u8] = b"PF\0\x01\0\0\0\0\0\x03\0\x05\xc6\xe1Radio";
@@ -51,14 +53,16 @@ fn join<'a>(first: &'a [u8], second: &'a [u8], third: &'a [u8]) -> [CollectorCal
     ]
 }
 
+fn run_joined(rt: &impl Abort, alloc: Global, first: &[u8], second: &[u8], third: &[u8]) {
+    let steps = join(first, second, third);
+    run(rt, alloc, (1, None), &steps, None, &[]);
+}
+
 #[test]
 fn joins_pieces(rt: HostRuntime) {
-    let steps = join(FIRST, SECOND, LAST);
-    run(&rt, rt.alloc(), (1, None), &steps, None, &[]);
-    let steps = join(LAST, SECOND, FIRST);
-    run(&rt, rt.alloc(), (1, None), &steps, None, &[]);
-    let steps = join(SECOND, LAST, FIRST);
-    run(&rt, rt.alloc(), (1, None), &steps, None, &[]);
+    run_joined(&rt, rt.alloc(), FIRST, SECOND, LAST);
+    run_joined(&rt, rt.alloc(), LAST, SECOND, FIRST);
+    run_joined(&rt, rt.alloc(), SECOND, LAST, FIRST);
 }
 
 #[test]
