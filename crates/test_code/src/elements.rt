@@ -1,7 +1,7 @@
 //! The field's own values. Those of the tables are from a program in Python that multiplies polynomials over bits term by
 //! term, divides by the modulus, and looks for an inverse among all elements.
 
-use crate::rows::none_is_wrong;
+use crate::wrong::has_none;
 use gf_field::{Gf, LOGS, POWERS as POWER_TABLE, mul_lanes};
 use std::simd::prelude::*;
 
@@ -88,17 +88,17 @@ fn wrong_power() -> Option<usize> {
 
 #[test]
 fn products(rt: HostRuntime) {
-    none_is_wrong(&rt, wrong_product());
+    has_none(&rt, wrong_product());
 }
 
 #[test]
 fn inverses(rt: HostRuntime) {
-    none_is_wrong(&rt, wrong_inverse());
+    has_none(&rt, wrong_inverse());
 }
 
 #[test]
 fn powers(rt: HostRuntime) {
-    none_is_wrong(&rt, wrong_power());
+    has_none(&rt, wrong_power());
 }
 
 #[test]

@@ -1,6 +1,6 @@
 ghost use Rattle.std.specs.Prelude.{◌≤◌};
 
-use crate::rows::none_is_wrong;
+use crate::wrong::has_none;
 use dcp_pft::{Addr, Fragment, PftFault, Rs, read_fragment};
 
 const MOST: usize = 1300;
@@ -125,7 +125,7 @@ fn wrong_fragment() -> Option<usize> {
 
 #[test]
 fn reads_fragments(rt: HostRuntime) {
-    none_is_wrong(&rt, wrong_fragment());
+    has_none(&rt, wrong_fragment());
 }
 
 // A header, the length of its payload, and the fault.
@@ -270,7 +270,7 @@ fn wrong_fault(cases: &[FaultCase]) -> Option<usize> {
 
 #[test]
 fn names_the_fault(rt: HostRuntime) {
-    none_is_wrong(&rt, wrong_fault(FAULTS));
+    has_none(&rt, wrong_fault(FAULTS));
 }
 
 // Of several faults.
@@ -317,5 +317,5 @@ const FIRST_FAULTS: &[FaultCase] = &[
 
 #[test]
 fn names_the_first_fault(rt: HostRuntime) {
-    none_is_wrong(&rt, wrong_fault(FIRST_FAULTS));
+    has_none(&rt, wrong_fault(FIRST_FAULTS));
 }

@@ -5,7 +5,7 @@
 ghost use Rattle.std.specs.Prelude.{◌≡◌, ◌≤◌, length};
 ghost use Rattle.dcp_pft.specs.Limits.{most_parity};
 
-use crate::rows::none_is_wrong;
+use crate::wrong::has_none;
 use dcp_pft::{MOST_PARITY, chunks, code, shape_for, write_fragment};
 use drm_bits::crc16;
 
@@ -98,7 +98,7 @@ fn wrong_fragment() -> Option<usize> {
 // The four places past the coded bytes are zeros, at the ends of the last four fragments.
 #[test]
 fn writes_fragments(rt: HostRuntime) {
-    none_is_wrong(&rt, wrong_fragment());
+    has_none(&rt, wrong_fragment());
 }
 
 /// A fragment: the length of its packet, the fragments that may be lost, the numbers of packet and fragment; its length and
@@ -154,7 +154,7 @@ fn wrong_datagram() -> Option<usize> {
 
 #[test]
 fn writes_datagrams(rt: HostRuntime) {
-    none_is_wrong(&rt, wrong_datagram());
+    has_none(&rt, wrong_datagram());
 }
 
 /// Whether this fragment of a packet has so many bytes, of which these are the first.

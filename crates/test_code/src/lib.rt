@@ -25,8 +25,8 @@ mod plain;
 #[cfg(test)]
 mod random_words;
 #[cfg(test)]
-mod rows;
-#[cfg(test)]
 mod shapes;
 #[cfg(test)]
 mod words;
+#[cfg(test)]
+mod wrong;

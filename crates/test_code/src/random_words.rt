@@ -2,7 +2,7 @@
 
 use crate::places::are_places;
 use crate::plain;
-use crate::rows::none_is_wrong;
+use crate::wrong::has_none;
 use gf_field::{Gf, LOGS, POWERS, mul_lanes, scaled};
 use rs_erase::{
     Pattern, SolveFault, SpacedPattern, Spacing, encode, solve, solve_by, solve_spaced, syndromes,
@@ -82,7 +82,7 @@ fn wrong_products() -> Option<usize> {
 
 #[test]
 fn all_products(rt: HostRuntime) {
-    none_is_wrong(&rt, wrong_products());
+    has_none(&rt, wrong_products());
 }
 
 /// The first power of 2 that isn't in both tables.
@@ -99,7 +99,7 @@ fn wrong_power() -> Option<usize> {
 
 #[test]
 fn all_powers_and_logarithms(rt: HostRuntime) {
-    none_is_wrong(&rt, wrong_power());
+    has_none(&rt, wrong_power());
 }
 
 /// The first element that hasn't its inverse.
@@ -114,7 +114,7 @@ fn wrong_inverse() -> Option<usize> {
 
 #[test]
 fn all_inverses(rt: HostRuntime) {
-    none_is_wrong(&rt, wrong_inverse());
+    has_none(&rt, wrong_inverse());
 }
 
 /// The products lane by lane.
@@ -150,7 +150,7 @@ fn wrong_lanes() -> Option<usize> {
 
 #[test]
 fn lanes(rt: HostRuntime) {
-    none_is_wrong(&rt, wrong_lanes());
+    has_none(&rt, wrong_lanes());
 }
 
 fn parities_agree(word: &[u8; 255], length: u8) -> bool {
@@ -188,7 +188,7 @@ fn wrong_parity() -> Option<usize> {
 
 #[test]
 fn parities_and_syndromes(rt: HostRuntime) {
-    none_is_wrong(&rt, wrong_parity());
+    has_none(&rt, wrong_parity());
 }
 
 /// Whether what is made of this word, whose places are erased, is what the equations give.
@@ -247,7 +247,7 @@ fn wrong_erased_places() -> Option<usize> {
 
 #[test]
 fn erased_places(rt: HostRuntime) {
-    none_is_wrong(&rt, wrong_erased_places());
+    has_none(&rt, wrong_erased_places());
 }
 
 /// The places of three fragments out of sixteen that are next to one another, and how many these are.
@@ -309,5 +309,5 @@ fn wrong_spaced_places() -> Option<usize> {
 
 #[test]
 fn spaced_places(rt: HostRuntime) {
-    none_is_wrong(&rt, wrong_spaced_places());
+    has_none(&rt, wrong_spaced_places());
 }

@@ -1,6 +1,6 @@
 //! Shapes of packets, from the formulas in Python.
 
-use crate::rows::none_is_wrong;
+use crate::wrong::has_none;
 use dcp_pft::{Carry, MOST_FRAGMENTS, Rs, Shape, chunks, most_packet, shape_for};
 
 /// The length of the packet, the fragments that may be lost, the longest datagram; the shape, and the number of chunks.
@@ -52,7 +52,7 @@ fn wrong_cut() -> Option<usize> {
 
 #[test]
 fn cuts_packets(rt: HostRuntime) {
-    none_is_wrong(&rt, wrong_cut());
+    has_none(&rt, wrong_cut());
 }
 
 // Shapes that are no packet's, as a receiver may see them, and the number of their chunks.
@@ -79,7 +79,7 @@ fn wrong_count() -> Option<usize> {
 
 #[test]
 fn counts_chunks(rt: HostRuntime) {
-    none_is_wrong(&rt, wrong_count());
+    has_none(&rt, wrong_count());
 }
 
 // The most bytes of a packet.
@@ -102,5 +102,5 @@ fn wrong_limit() -> Option<usize> {
 
 #[test]
 fn limits_packets(rt: HostRuntime) {
-    none_is_wrong(&rt, wrong_limit());
+    has_none(&rt, wrong_limit());
 }

@@ -1,7 +1,7 @@
 //! Words and their parity from another program, and erased places of them.
 
 use crate::places::are_places;
-use crate::rows::none_is_wrong;
+use crate::wrong::has_none;
 use rs_erase::{SolveFault, encode, solve, syndromes};
 
 /// A chunk, whose bytes begin with `first` and grow by `step` modulo 256, and its parity.
@@ -242,7 +242,7 @@ fn wrong_parity() -> Option<usize> {
 
 #[test]
 fn parities(rt: HostRuntime) {
-    none_is_wrong(&rt, wrong_parity());
+    has_none(&rt, wrong_parity());
 }
 
 #[test]
@@ -319,7 +319,7 @@ fn wrong_word() -> Option<usize> {
 
 #[test]
 fn erased_places(rt: HostRuntime) {
-    none_is_wrong(&rt, wrong_word());
+    has_none(&rt, wrong_word());
 }
 
 // The first places that aren't refused where one byte more is wrong.
@@ -335,7 +335,7 @@ fn wrong_places() -> Option<usize> {
 
 #[test]
 fn one_more_byte_is_wrong(rt: HostRuntime) {
-    none_is_wrong(&rt, wrong_places());
+    has_none(&rt, wrong_places());
 }
 
 #[test]

@@ -1,6 +1,6 @@
 //! Blocks of known bytes, read. The check values were divided out bit by bit by a program in Python.
 
-use crate::rows::none_is_wrong;
+use crate::wrong::has_none;
 use drm_sdc::{BlockInfo, SdcFault, check_block, read_block};
 use std::alloc::Global;
 
@@ -89,5 +89,5 @@ fn wrong_refusal(alloc: Global) -> Option<usize> {
 
 #[test]
 fn refuses_what_is_no_block(rt: HostRuntime) {
-    none_is_wrong(&rt, wrong_refusal(rt.alloc()));
+    has_none(&rt, wrong_refusal(rt.alloc()));
 }

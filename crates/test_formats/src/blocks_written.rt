@@ -3,7 +3,7 @@
 
 ghost use Rattle.std.specs.Prelude.{◌≤◌, ◌<◌, ◌^◌, ◌+◌, length};
 
-use crate::rows::none_is_wrong;
+use crate::wrong::has_none;
 use drm_sdc::{Block, Body, Entity, MuxDesc, NoRoom, Part, read_entities, write_block};
 use std::alloc::Global;
 
@@ -153,7 +153,7 @@ fn wrong_block(alloc: Global) -> Option<usize> {
 
 #[test]
 fn writes_each_body(rt: HostRuntime) {
-    none_is_wrong(&rt, wrong_block(rt.alloc()));
+    has_none(&rt, wrong_block(rt.alloc()));
 }
 
 // The tail that was read isn't written.

@@ -1,6 +1,6 @@
 //! Check values, computed by a long division of bit lists in Python.
 
-use crate::rows::none_is_wrong;
+use crate::wrong::has_none;
 use drm_bits::{CrcRun, crc8, crc16};
 
 const FAC: [u8; 8] = [0x66, 0x08, 0x01, 0x23, 0x45, 0x60, 0xa1, 0x80];
@@ -27,7 +27,7 @@ fn wrong_value() -> Option<usize> {
 
 #[test]
 fn lists_have_check_values(rt: HostRuntime) {
-    none_is_wrong(&rt, wrong_value());
+    has_none(&rt, wrong_value());
 }
 
 // The value after a run over these bytes.

@@ -3,7 +3,7 @@
 ghost use Rattle.std.specs.Prelude.{ℕ, ◌<◌, ◌^◌, length};
 ghost use Rattle.drm_bits.specs.Description.{IsDescription, FitsWidths};
 
-use crate::rows::none_is_wrong;
+use crate::wrong::has_none;
 use drm_mux::{
     MuxDesc, MuxFault, Part, Spans, assemble, check_streams, frame_len, locate, read_sdci, split,
     write_sdci,
@@ -103,7 +103,7 @@ fn wrong_description() -> Option<usize> {
 
 #[test]
 fn reads_descriptions(rt: HostRuntime) {
-    none_is_wrong(&rt, wrong_description());
+    has_none(&rt, wrong_description());
 }
 
 // The first description that is written otherwise.
@@ -118,7 +118,7 @@ fn wrong_bytes(rt: &impl Abort) -> Option<usize> {
 
 #[test]
 fn writes_descriptions(rt: HostRuntime) {
-    none_is_wrong(&rt, wrong_bytes(&rt));
+    has_none(&rt, wrong_bytes(&rt));
 }
 
 const NO_DESCRIPTIONS: &[(&[u8], u32, MuxFault)] = &[
@@ -145,7 +145,7 @@ fn wrong_refusal() -> Option<usize> {
 
 #[test]
 fn refuses_values(rt: HostRuntime) {
-    none_is_wrong(&rt, wrong_refusal());
+    has_none(&rt, wrong_refusal());
 }
 
 const SIDE_BY_SIDE: [u8; 6] = [0x01, 0x02, 0x03, 0x11, 0x12, 0x13];
@@ -220,7 +220,7 @@ fn wrong_place(rt: &impl Abort) -> Option<usize> {
 
 #[test]
 fn locates_each_byte(rt: HostRuntime) {
-    none_is_wrong(&rt, wrong_place(&rt));
+    has_none(&rt, wrong_place(&rt));
 }
 
 // Lengths of the two streams, which are described as 3 and 3; the first wrong one, and how long it is.
@@ -261,7 +261,7 @@ fn wrong_length(rt: &impl Abort) -> Option<usize> {
 
 #[test]
 fn names_the_first_wrong_length(rt: HostRuntime) {
-    none_is_wrong(&rt, wrong_length(&rt));
+    has_none(&rt, wrong_length(&rt));
 }
 
 #[test]

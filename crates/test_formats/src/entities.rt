@@ -1,7 +1,7 @@
 //! Data fields of known bytes. The bytes of the bodies were packed by a program in Python.
 
-use crate::rows::none_is_wrong;
 use crate::said::{EntityNumbers, bytes_of, numbers_of};
+use crate::wrong::has_none;
 use drm_bits::NoMemory;
 use drm_sdc::{Body, Channel15, Channels, Entities, Entity, Octets, SdcFault, read_entities};
 use std::alloc::Global;
@@ -78,7 +78,7 @@ fn wrong_fault(alloc: Global) -> Option<usize> {
 
 #[test]
 fn names_the_first_fault(rt: HostRuntime) {
-    none_is_wrong(&rt, wrong_fault(rt.alloc()));
+    has_none(&rt, wrong_fault(rt.alloc()));
 }
 
 // The field has so many entities and this tail.
@@ -110,7 +110,7 @@ fn wrong_tail(alloc: Global) -> Option<usize> {
 
 #[test]
 fn ends_at_the_tail(rt: HostRuntime) {
-    none_is_wrong(&rt, wrong_tail(rt.alloc()));
+    has_none(&rt, wrong_tail(rt.alloc()));
 }
 
 fn is_said(entity: &Entity, said: Option<&EntityNumbers>) -> bool {

@@ -1,6 +1,6 @@
 //! The Fast Access Channel, and the order of the services in it.
 
-use crate::rows::none_is_wrong;
+use crate::wrong::has_none;
 use drm_fac::{
     Channel, Fac, FacFault, Service, Slot, counts, decode, encode, pattern, services_code,
 };
@@ -60,7 +60,7 @@ fn wrong_fac() -> Option<usize> {
 
 #[test]
 fn reads_and_writes_each_field(rt: HostRuntime) {
-    none_is_wrong(&rt, wrong_fac());
+    has_none(&rt, wrong_fac());
 }
 
 fn is_refused(stands: u8) -> bool {
@@ -114,8 +114,8 @@ fn wrong_service() -> Option<usize> {
 
 #[test]
 fn fits_up_to_each_width(rt: HostRuntime) {
-    none_is_wrong(&rt, wrong_channel());
-    none_is_wrong(&rt, wrong_service());
+    has_none(&rt, wrong_channel());
+    has_none(&rt, wrong_service());
 }
 
 fn fac(channel: OfChannel, service: OfService) -> Fac {
@@ -177,7 +177,7 @@ fn wrong_count() -> Option<usize> {
 
 #[test]
 fn counts_services(rt: HostRuntime) {
-    none_is_wrong(&rt, wrong_count());
+    has_none(&rt, wrong_count());
 }
 
 // How many audio and data services, and their code.
@@ -206,7 +206,7 @@ fn wrong_code() -> Option<usize> {
 
 #[test]
 fn codes_services(rt: HostRuntime) {
-    none_is_wrong(&rt, wrong_code());
+    has_none(&rt, wrong_code());
 }
 
 const A: Slot = Slot::Audio(0);
@@ -255,5 +255,5 @@ fn wrong_order() -> Option<usize> {
 
 #[test]
 fn services_take_turns(rt: HostRuntime) {
-    none_is_wrong(&rt, wrong_order());
+    has_none(&rt, wrong_order());
 }

@@ -4,7 +4,7 @@ ghost use Rattle.std.specs.Prelude.{◌≡◌, ◌<◌};
 ghost use Rattle.drm_bits.specs.Description.{IsDescription, FitsWidths};
 ghost use Rattle.drm_fac.specs.Fac.{FacFits};
 
-use crate::rows::none_is_wrong;
+use crate::wrong::has_none;
 use dcp_tag::ValueCut;
 use drm_fac::{Channel, Fac, FacFault, Mode, Service};
 use drm_mux::{MuxDesc, MuxFault, Part, Spans};
@@ -115,8 +115,8 @@ fn has_fault(payload: &[u8], fault: MdiFault) -> bool {
 
 #[test]
 fn reads_a_frame(rt: HostRuntime) {
-    assert!(rt; is_read_as(&FRAME, second_frame(&FRAME, Mode::B)));
     let mut frame = FRAME;
+    assert!(rt; is_read_as(&frame, second_frame(&frame, Mode::B)));
     frame[65] = 2;
     assert!(rt; is_read_as(&frame, second_frame(&frame, Mode::C)));
 }
@@ -241,12 +241,12 @@ fn wrong_edit(edits: &[FrameEdit]) -> Option<usize> {
 
 #[test]
 fn names_what_is_wrong_with_an_item(rt: HostRuntime) {
-    none_is_wrong(&rt, wrong_edit(WRONG_ITEMS));
+    has_none(&rt, wrong_edit(WRONG_ITEMS));
 }
 
 #[test]
 fn names_what_is_wrong_with_a_stream(rt: HostRuntime) {
-    none_is_wrong(&rt, wrong_edit(WRONG_STREAMS));
+    has_none(&rt, wrong_edit(WRONG_STREAMS));
 }
 
 // No bits of a block are as good as none.
@@ -329,7 +329,7 @@ fn wrong_block_edit() -> Option<usize> {
 
 #[test]
 fn names_what_is_wrong_with_a_block(rt: HostRuntime) {
-    none_is_wrong(&rt, wrong_block_edit());
+    has_none(&rt, wrong_block_edit());
     let mut frame = FIRST;
     frame[36] = 0x26;
     assert!(rt; comes_to(&mut frame, &(44, 0x33, BLOCK_OUT_OF_PLACE)));
@@ -338,12 +338,15 @@ fn names_what_is_wrong_with_a_block(rt: HostRuntime) {
 // A cut item and a second one are found where they stand.
 #[test]
 fn names_what_stands_first(rt: HostRuntime) {
-    assert!(rt; has_fault(&FRAME[..77], MdiFault::Tag(ValueCut { at: 66 })));
     let mut twice = [0; 156];
     twice[..78].copy_from_slice(&FRAME);
-    twice[78..].copy_from_slice(&FRAME);
+    twice.copy_within(..78, 78);
     let second = MdiFault::Twice { name: *b"*ptr" };
-    assert!(rt; has_fault(&twice, second) && has_fault(&twice[..155], second));
+    assert!(rt;
+        has_fault(&twice[..77], MdiFault::Tag(ValueCut { at: 66 }))
+            && has_fault(&twice, second)
+            && has_fault(&twice[..155], second)
+    );
 }
 
 #[test]

@@ -35,8 +35,8 @@ mod octets;
 #[cfg(test)]
 mod packets;
 #[cfg(test)]
-mod rows;
-#[cfg(test)]
 mod said;
 #[cfg(test)]
 mod tag_items;
+#[cfg(test)]
+mod wrong;

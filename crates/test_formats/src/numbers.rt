@@ -3,7 +3,7 @@
 ghost use Rattle.std.specs.Prelude.{◌≡◌};
 ghost use Rattle.drm_bits.specs.Sink.{lender};
 
-use crate::rows::none_is_wrong;
+use crate::wrong::has_none;
 use drm_bits::{BitSink, Bits, Short};
 
 // How many bits, their number, and how many are left.
@@ -41,7 +41,7 @@ fn wrong_bits(bits: &mut Bits<'_>) -> Option<usize> {
 #[test]
 fn takes_from_the_front(rt: HostRuntime) {
     let mut bits = Bits::new(&[0xa5, 0x3c, 0xff], 24);
-    none_is_wrong(&rt, wrong_bits(&mut bits));
+    has_none(&rt, wrong_bits(&mut bits));
     assert!(rt; takes_no(&mut bits, 1, 0) && takes(&mut bits, &(0, 0, 0)));
 }
 

@@ -1,6 +1,6 @@
 //! Bytes with an owner.
 
-use crate::rows::none_is_wrong;
+use crate::wrong::has_none;
 use drm_bits::{NoMemory, Octets};
 use std::alloc::Global;
 
@@ -51,5 +51,5 @@ fn is_text_where_it_is_utf8(rt: HostRuntime) {
     assert!(rt;
         is_text(alloc, b"Radio \xc3\x85s", Some("Radio Ås")) && is_text(alloc, &[], Some(""))
     );
-    none_is_wrong(&rt, wrong_text(alloc));
+    has_none(&rt, wrong_text(alloc));
 }

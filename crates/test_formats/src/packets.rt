@@ -1,6 +1,6 @@
 //! AF packets, read and written.
 
-use crate::rows::none_is_wrong;
+use crate::wrong::has_none;
 use dcp_af::{Af, AfFault, read_af, write_af};
 
 // The packet with sequence number 0 and no payload. Its check value is that of a long division in Python.
@@ -41,7 +41,7 @@ fn wrong_packet() -> Option<usize> {
 
 #[test]
 fn reads_packets(rt: HostRuntime) {
-    none_is_wrong(&rt, wrong_packet());
+    has_none(&rt, wrong_packet());
 }
 
 // The last ones have several faults, of which the first is answered. Check values are from Python.
@@ -112,7 +112,7 @@ fn wrong_fault() -> Option<usize> {
 
 #[test]
 fn names_the_first_fault(rt: HostRuntime) {
-    none_is_wrong(&rt, wrong_fault());
+    has_none(&rt, wrong_fault());
 }
 
 const WRITTEN: [u8; 22] = *b"AF\0\0\0\x09\x124\x90T123456789V?\xee";

@@ -1,6 +1,6 @@
 //! TAG items, read and written.
 
-use crate::rows::none_is_wrong;
+use crate::wrong::has_none;
 use dcp_tag::{Item, Items, ValueCut, write_item};
 
 // The payload of a logical frame, by hand after TS 102 820: *ptr, dlfc, fac_, sdci, robm and str0.
@@ -71,7 +71,7 @@ fn wrong_item(items: &mut Items<'_>, expected: &[Item<'_>]) -> Option<usize> {
 #[test]
 fn reads_the_items_of_a_frame(rt: HostRuntime) {
     let mut items = Items::new(&FRAME);
-    none_is_wrong(&rt, wrong_item(&mut items, ITEMS));
+    has_none(&rt, wrong_item(&mut items, ITEMS));
     assert!(rt; next_is(&mut items, None) && next_is(&mut items, None));
 }
 
@@ -79,7 +79,7 @@ fn reads_the_items_of_a_frame(rt: HostRuntime) {
 #[test]
 fn stays_at_a_cut(rt: HostRuntime) {
     let mut items = Items::new(&FRAME[..77]);
-    none_is_wrong(&rt, wrong_item(&mut items, &ITEMS[..5]));
+    has_none(&rt, wrong_item(&mut items, &ITEMS[..5]));
     assert!(rt;
         next_is_cut(&mut items, 66) && next_is_cut(&mut items, 66) && next_is_cut(&mut items, 66)
     );
@@ -124,7 +124,7 @@ fn wrong_front() -> Option<usize> {
 
 #[test]
 fn answers_at_the_front(rt: HostRuntime) {
-    none_is_wrong(&rt, wrong_front());
+    has_none(&rt, wrong_front());
 }
 
 const CUT: &[&[u8]] = &[
@@ -146,7 +146,7 @@ fn wrong_cut() -> Option<usize> {
 
 #[test]
 fn names_a_cut_at_the_front(rt: HostRuntime) {
-    none_is_wrong(&rt, wrong_cut());
+    has_none(&rt, wrong_cut());
 }
 
 // The bytes are those of a writer in Python. What stands before and behind stays.

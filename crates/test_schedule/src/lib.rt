@@ -18,8 +18,6 @@ mod frames;
 #[cfg(test)]
 mod lines;
 #[cfg(test)]
-mod rows;
-#[cfg(test)]
 mod schedules;
 #[cfg(test)]
 mod scripts;
@@ -27,3 +25,5 @@ mod scripts;
 mod switches;
 #[cfg(test)]
 mod words;
+#[cfg(test)]
+mod wrong;

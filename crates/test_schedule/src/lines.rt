@@ -1,6 +1,6 @@
 //! Texts as lines, lines as words, words as numbers and bytes.
 
-use crate::rows::none_is_wrong;
+use crate::wrong::has_none;
 use drm_bits::NoMemory;
 use std::alloc::Global;
 use text_lines::*;
@@ -50,7 +50,7 @@ fn wrong_lines(alloc: Global) -> Option<usize> {
 
 #[test]
 fn cuts_a_text_into_lines(rt: HostRuntime) {
-    none_is_wrong(&rt, wrong_lines(rt.alloc()));
+    has_none(&rt, wrong_lines(rt.alloc()));
 }
 
 // A line, and its words.
@@ -83,7 +83,7 @@ fn wrong_words(alloc: Global) -> Option<usize> {
 
 #[test]
 fn cuts_a_line_into_words(rt: HostRuntime) {
-    none_is_wrong(&rt, wrong_words(rt.alloc()));
+    has_none(&rt, wrong_words(rt.alloc()));
 }
 
 // A line, and what stands behind two words.
@@ -110,7 +110,7 @@ fn wrong_behind() -> Option<usize> {
 
 #[test]
 fn keeps_what_stands_behind_two_words(rt: HostRuntime) {
-    none_is_wrong(&rt, wrong_behind());
+    has_none(&rt, wrong_behind());
 }
 
 const NUMBERS: &[(&str, Option<u64>)] = &[
@@ -139,7 +139,7 @@ fn wrong_number() -> Option<usize> {
 
 #[test]
 fn reads_numbers(rt: HostRuntime) {
-    none_is_wrong(&rt, wrong_number());
+    has_none(&rt, wrong_number());
 }
 
 const THREE_BYTES: &[(&str, Option<[u8; 3]>)] = &[
@@ -165,7 +165,7 @@ fn wrong_three() -> Option<usize> {
 
 #[test]
 fn reads_so_many_bytes(rt: HostRuntime) {
-    none_is_wrong(&rt, wrong_three());
+    has_none(&rt, wrong_three());
 }
 
 const ANY_BYTES: &[(&str, Option<&[u8]>)] = &[
@@ -197,7 +197,7 @@ fn wrong_bytes(alloc: Global) -> Option<usize> {
 
 #[test]
 fn reads_any_bytes(rt: HostRuntime) {
-    none_is_wrong(&rt, wrong_bytes(rt.alloc()));
+    has_none(&rt, wrong_bytes(rt.alloc()));
 }
 
 const TEXTS_OF_BYTES: &[(&[u8], Result<&str, u32>)] = &[
@@ -225,5 +225,5 @@ fn wrong_text() -> Option<usize> {
 
 #[test]
 fn names_the_line_that_is_no_text(rt: HostRuntime) {
-    none_is_wrong(&rt, wrong_text());
+    has_none(&rt, wrong_text());
 }

@@ -4,7 +4,7 @@ ghost use Rattle.std.specs.Prelude.{◌≡◌, ◌<◌, length, slice_get, slice
 ghost use Rattle.drm_schedule.specs.declared.stream.Stream.{Stream as StreamRecord};
 ghost use Rattle.drm_schedule.specs.declared.stream.Content.TheVariants.{Fill};
 
-use crate::rows::none_is_wrong;
+use crate::wrong::has_none;
 use drm_schedule::{
     Carry, Content, Schedule, Spot, Stream, Streams, can_be_packed, entities_can_be_written,
 };
@@ -71,7 +71,7 @@ fn wrong_packing() -> Option<usize> {
 
 #[test]
 fn packs_in_order(rt: HostRuntime) {
-    none_is_wrong(&rt, wrong_packing());
+    has_none(&rt, wrong_packing());
 }
 
 #[test]

@@ -1,6 +1,6 @@
 //! What words ask for.
 
-use crate::rows::none_is_wrong;
+use crate::wrong::has_none;
 use drm_bits::Octets;
 use drm_links::Address;
 use drm_schedule::{Carry, Live};
@@ -364,7 +364,7 @@ fn wrong_line(alloc: Global, lines: &str) -> Option<usize> {
 
 #[test]
 fn reads_what_words_ask_for(rt: HostRuntime) {
-    none_is_wrong(&rt, wrong_line(rt.alloc(), ASKED));
+    has_none(&rt, wrong_line(rt.alloc(), ASKED));
     // A schedule without a name.
     assert!(rt; ask(rt.alloc(), "|check|", "check "));
 }

@@ -19,8 +19,6 @@ mod receiver_tests;
 #[cfg(test)]
 mod report_tests;
 #[cfg(test)]
-mod rows;
-#[cfg(test)]
 mod server_tests;
 #[cfg(test)]
 mod side_by_side_tests;
@@ -28,3 +26,5 @@ mod side_by_side_tests;
 mod small;
 #[cfg(test)]
 mod socket_tests;
+#[cfg(test)]
+mod wrong;

@@ -1,6 +1,6 @@
 //! A receiver whose link or sink fails in the middle.
 
-use crate::rows::none_is_wrong;
+use crate::wrong::has_none;
 use dcp_collect::Collector;
 use drm_bits::{NoMemory, zeros};
 use drm_links::{LONGEST_DATAGRAM, MemLink, MemSink};
@@ -110,5 +110,5 @@ fn wrong_receiver(alloc: Global) -> Option<usize> {
 
 #[test]
 fn stops_where_the_outside_fails(rt: HostRuntime) {
-    none_is_wrong(&rt, wrong_receiver(rt.alloc()));
+    has_none(&rt, wrong_receiver(rt.alloc()));
 }
