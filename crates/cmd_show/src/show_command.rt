@@ -50,7 +50,7 @@ fn show_packets<I: Source, O: Sink>(
         };
         count += 1;
         bytes += packet.bytes.len() as u64;
-        clean = clean && !bad;
+        clean &= !bad;
     }
     write_end_packets(out, count, bytes)?;
     Ok(clean)

@@ -49,26 +49,6 @@ returns-in_default g c =
     (counts_none write_no_read (found_counts c.in_ok-find.was c.find.ensures.cause ∙ i.2))
     (counts_one refl (once_then i.3 (shown.cause.once (failed c.show_packet.result c.in_default.not-Ok))))
 
-pub loop-packets-preserved-then-clean : goal.loop-packets-preserved-then-clean
-loop-packets-preserved-then-clean g c =
-    let i = c.loop-packets.invariant in
-    let before = g.I.Source.known c.args.input.now in
-    let after = g.I.Source.known c.find.new.input in
-    let shown = c.show_packet.ensures in
-    let bytes : List ℕ = c.next.result.bytes.now in
-    let read = c.find.ensures.more i.0.packets before i.0.read (not_stopped c.find.result c.in_ok-find.field-0 c.in_ok-find.was) in
-    let next = shows_next i.0 read (c.next.follows.holds-at-none.reads i.0.packets before after read) c.next.ensures.at shown in
-    let whole = was_shown c.show_packet.result c.in-Ok.bad _ c.in-Ok.is shown.whole in
-    let some = (packet_size bytes (length bytes) c.next.ensures.whole).0 in
-    let few = i.1 in (
-      subst (HasShown c.next.follows.lender-at-none before after (g.O.Sink.known c.args.out.now) (g.O.Sink.known c.show_packet.new.out) (c.loop-packets.count + 1) (c.loop-packets.bytes + length bytes))
-          (ap (λ b. b && not shown.bad) c.if-clean.true ∙ ap not (sym whole.0))
-          (shown_more c.next.follows.lender-at-none before after (g.O.Sink.known c.args.out.now) (g.O.Sink.known c.loop-packets.out) (g.O.Sink.known c.show_packet.new.out) c.loop-packets.count c.loop-packets.bytes c.loop-packets.clean bytes shown.text shown.bad next whole.1),
-      omega (arith, some, few),
-      found_counts c.in_ok-find.was c.find.ensures.cause ∙ i.2,
-      done_counts c.in-Ok.is shown.cause ∙ i.3,
-    )
-
 pub loop-packets-preserved : goal.loop-packets-preserved
 loop-packets-preserved g c =
     let i = c.loop-packets.invariant in
@@ -82,7 +62,7 @@ loop-packets-preserved g c =
     let some = (packet_size bytes (length bytes) c.next.ensures.whole).0 in
     let few = i.1 in (
       subst (HasShown c.next.follows.lender-at-none before after (g.O.Sink.known c.args.out.now) (g.O.Sink.known c.show_packet.new.out) (c.loop-packets.count + 1) (c.loop-packets.bytes + length bytes))
-          (ap (λ b. b && not shown.bad) c.if-clean.false ∙ sym c.if-clean.false)
+          (ap (λ b. c.loop-packets.clean && not b) (sym whole.0))
           (shown_more c.next.follows.lender-at-none before after (g.O.Sink.known c.args.out.now) (g.O.Sink.known c.loop-packets.out) (g.O.Sink.known c.show_packet.new.out) c.loop-packets.count c.loop-packets.bytes c.loop-packets.clean bytes shown.text shown.bad next whole.1),
       omega (arith, some, few),
       found_counts c.in_ok-find.was c.find.ensures.cause ∙ i.2,
