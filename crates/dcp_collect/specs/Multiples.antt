@@ -28,6 +28,10 @@ pub record IsReady (count : ℕ) (marks : List Bool) (multiples : ChunkMultiples
   pub one : IsOneChunk multiples.one
   pub known : IsKnown count marks multiples.known
 
+-- its chunks of k bytes
+abbrev pub IsReadyFor : ℕ → ℕ → List Bool → ChunkMultiples → Type 0
+IsReadyFor count k marks multiples = (k ≡ 1) × IsReady count marks multiples
+
 -- the known bytes of the chunk that starts at a place are those of the multiple by this byte
 abbrev pub AreMultiples : ℕ → List ℕ → List ℕ → ℕ → KnownBytes → Type 0
 AreMultiples byte one bytes start known =

@@ -1,7 +1,7 @@
 //! Chunks of one byte. Their code words are the multiples of one, so any byte of such a chunk that is known gives the others.
 
 ghost use Rattle.std.specs.Prelude.{ℕ, ◌≡◌, ◌+◌, ◌<◌, ◌≤◌, true, length, IfSome};
-ghost use Rattle.dcp_collect.specs.Multiples.{AreMultiples, HasPlaces, IsKnown, IsOneChunk, IsReady};
+ghost use Rattle.dcp_collect.specs.Multiples.{AreMultiples, HasPlaces, IsKnown, IsOneChunk, IsReady, IsReadyFor};
 
 use crate::sizes::PARITY_BYTES;
 use drm_bits::put_at;
@@ -9,44 +9,39 @@ use gf_field::Gf;
 use rs_erase::encode;
 use rs_patterns::next_index;
 
+/// The bytes of such a chunk with its parity.
+const ONE_BYTE_CHUNK: usize = 1 + PARITY_BYTES;
+
 /// Which bytes are known of the chunks that begin with one fragment.
 #[derive(Drop)]
 pub(crate) struct KnownBytes {
     pub(crate) first: usize,
     pub(crate) len: usize,
-    pub(crate) places: [u8; 49],
+    pub(crate) places: [u8; ONE_BYTE_CHUNK],
 }
 
 /// What solves the chunks of a packet in which each has one byte.
 #[derive(Drop)]
 pub(crate) struct ChunkMultiples {
     // The byte 1 with its parity.
-    pub(crate) one: [u8; 49],
+    pub(crate) one: [u8; ONE_BYTE_CHUNK],
     pub(crate) known: KnownBytes,
 }
 
 impl ChunkMultiples {
-    /// Prepares for chunks of k bytes: nothing, unless they have one.
-    pub(crate) fn prepare(marks: &[bool], count: usize, k: usize) -> ChunkMultiples
+    /// Prepares for chunks of k bytes, if they have one.
+    pub(crate) fn prepare(marks: &[bool], count: usize, k: usize) -> Option<ChunkMultiples>
         requires at_least_one { 0 < count }
         requires room { count ≤ length marks.now }
-        ensures { k ≡ 1 → IsReady count marks.now result }
+        ensures { IfSome result (IsReadyFor count k marks.now) }
     {
-        if k == 1 {
-            ChunkMultiples {
-                one: one_chunk(),
-                known: known_from(marks, count, 0),
-            }
-        } else {
-            ChunkMultiples {
-                one: [0; 49],
-                known: KnownBytes {
-                    first: 0,
-                    len: 0,
-                    places: [0; 49],
-                },
-            }
+        if k != 1 {
+            return None;
         }
+        Some(ChunkMultiples {
+            one: one_chunk(),
+            known: known_from(marks, count, 0),
+        })
     }
 
     /// Goes over to the chunks that begin with a fragment.
@@ -109,12 +104,12 @@ impl ChunkMultiples {
 }
 
 // The byte 1 with its parity.
-fn one_chunk() -> [u8; 49]
+fn one_chunk() -> [u8; ONE_BYTE_CHUNK]
     ensures { IsOneChunk result }
 {
     let mut parity = [0; PARITY_BYTES];
     encode(&[1], &mut parity);
-    let mut one = [1; 49];
+    let mut one = [1; ONE_BYTE_CHUNK];
     put_at(&mut one, 1, &parity);
     one
 }
@@ -126,10 +121,10 @@ fn known_from(marks: &[bool], count: usize, first: usize) -> KnownBytes
     ensures known { IsKnown count marks.now result }
     ensures first { result.first ≡ first }
 {
-    let mut places = [0; 49];
+    let mut places = [0; ONE_BYTE_CHUNK];
     let mut len = 0;
     let mut index = first;
-    for j in 0..49usize {
+    for j in 0..ONE_BYTE_CHUNK {
         if marks[index] {
             places[len] = j as u8;
             len += 1;
