@@ -11,6 +11,7 @@ use Rattle.drm_links.specs.Sink.{Output}
 use Rattle.drm_timeline.specs.Numbers.{frame_count}
 use Rattle.law_delivery.specs.Sent.{AreSent, Arrival, OfSchedule, IsDeliveryOf, IsInTime}
 use Rattle.recv_reading.specs.declared.options.ReceiveOptions.{ReceiveOptions}
+use Rattle.recv_reading.specs.Values.{receive_options}
 use Rattle.recv_report.specs.Headline.{ReportsDelivery, ReportsAllFrames}
 use Rattle.cmd_receive.specs.Receive.{WritesReports, WroteReports}
 use Rattle.report_text.specs.Reports.{Report}
@@ -26,7 +27,7 @@ use Rattle.cmd_faults.specs.declared.fault.Fault.TheVariants as faults
 
 -- A feed is read by the greatest reach, the schedule's first sequence number and all its frames, and ends where nothing is left.
 abbrev pub air_rules : Plan → ℕ → ReceiveOptions
-air_rules plan window = record { window = window; reach = 32767; first = Some plan.seq; frames = Some (frame_count plan); idle = 1; limit = 4294967295 }
+air_rules plan window = receive_options window 32767 (Some plan.seq) (Some (frame_count plan)) 1 4294967295
 
 -- the pairs that a feed delivers
 abbrev pub pairs_of : List Delivery → List (ℕ × ℕ)

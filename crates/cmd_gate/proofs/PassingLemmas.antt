@@ -45,7 +45,7 @@ use Rattle.cmd_gate.specs.Run.{RelaysOverLinks}
 
 pub rules_same : (c : CollectorState) (options : GateOptions) (rules : ReceiveOptions) → c.window ≡ rules.window → c.reach ≡ rules.reach → c.first ≡ rules.first → options ≡ options_of rules → rules_of c options ≡ rules
 rules_same c options rules window reach first is =
-    λ i. record { window = window i; reach = reach i; first = first i; frames = (is i).frames; idle = (is i).idle; limit = (is i).limit }
+    λ i. record (rules_of c (is i)) { window = window i; reach = reach i; first = first i }
 
 -- ---- what is told, and when
 

@@ -9,12 +9,14 @@ use Rattle.cmd_faults.specs.Causes.{OpeningFailed}
 use Rattle.cmd_faults.specs.Fault.{WritesLine}
 use Rattle.cli_paths.specs.declared.request.PathsRequest.{PathsRequest}
 use Rattle.cli_paths.specs.Line.{IsPathsLine}
-use Rattle.report_journal.specs.declared.options.JournalOptions.{JournalOptions}
-use Rattle.report_journal.specs.Journal.{JournalState, AreInRange, datagrams}
+use Rattle.recv_reading.specs.declared.options.PacketRange.{PacketRange}
+use Rattle.recv_reading.specs.Options.{IsWithinLimits}
+use Rattle.report_journal.specs.Journal.{JournalState, datagrams}
 use Rattle.report_journal.specs.Report.{IsReportOf}
 use Rattle.report_text.specs.Reports.{Report}
 use Rattle.drm_paths.specs.declared.run.PathOptions.{PathOptions}
-use Rattle.drm_paths.specs.State.{PathState, settings_of}
+use Rattle.recv_reading.specs.Values.{packet_range}
+use Rattle.drm_paths.specs.State.{PathState}
 use Rattle.drm_paths.specs.declared.run.PathEnded.TheVariants.{Idle, Limit, LinkFailed, NoMemory}
 use Rattle.drm_paths.specs.Reading.{AreReasonable, PathEnds}
 use Rattle.drm_paths.specs.Closing.{of_path, BookCloses}
@@ -27,8 +29,8 @@ use Rattle.cmd_paths.specs.declared.fault.PathsFault.{PathsFault}
 use Rattle.cmd_paths.specs.declared.fault.PathsFault.TheVariants as faults
 
 -- by what the report of a request is made
-abbrev pub settings_in : PathsRequest → JournalOptions
-settings_in request = settings_of request.window request.reach request.first request.frames
+abbrev pub settings_in : PathsRequest → PacketRange
+settings_in request = packet_range request.window request.reach request.first request.frames
 
 -- when each path has read enough
 abbrev pub options_in : PathsRequest → PathOptions
@@ -36,7 +38,7 @@ options_in request = record { idle = request.idle; limit = request.limit }
 
 -- each number is in its range, and the addresses are two to four different ones
 pub record IsPathsRequestInRange (request : PathsRequest) : Type 0 where
-  pub journal : AreInRange (settings_in request)
+  pub journal : IsWithinLimits (settings_in request)
   pub options : AreReasonable (options_in request)
   pub few_idles : request.idle ≤ 1000000
   pub some_paths : 2 ≤ length request.addresses
@@ -77,7 +79,7 @@ pub record DiffersAt (request : PathsRequest) (contents : DockContents) (path at
   pub at_is : at ≡ difference.at
 
 -- What is written: the report of such entries; after a failed write a front of it; after another fault nothing.
-abbrev pub WritesReport : {O : Type 0} → JournalOptions → (List (ℕ × List ℕ) → Type 0) → Result Bool PathsFault → (O → Known Output) → O → O → Type 0
+abbrev pub WritesReport : {O : Type 0} → PacketRange → (List (ℕ × List ℕ) → Type 0) → Result Bool PathsFault → (O → Known Output) → O → O → Type 0
 WritesReport by are (Ok clean) known out out' =
     (entries : List (ℕ × List ℕ)) × are entries × (r : Report) × IsReportOf by (datagrams entries) r.text r.clean
     × OutputsText (known out) (known out') (λ text. text ≡ r.text) × (clean ≡ r.clean)
@@ -87,7 +89,7 @@ WritesReport by are (Err faults.Write) known out out' =
 WritesReport by are (Err fault) known out out' = out' ≡ out
 
 -- The run is done, and the report is written.
-abbrev pub WroteReport : {O : Type 0} → JournalOptions → (List (ℕ × List ℕ) → Type 0) → Result Bool PathsFault → (O → Known Output) → O → O → Type 0
+abbrev pub WroteReport : {O : Type 0} → PacketRange → (List (ℕ × List ℕ) → Type 0) → Result Bool PathsFault → (O → Known Output) → O → O → Type 0
 WroteReport by are ending known out out' = (clean : Bool) × (ending ≡ Ok clean) × WritesReport by are (Ok clean) known out out'
 
 -- it ends by a difference

@@ -2,7 +2,7 @@
 
 ghost use Rattle.std.specs.Prelude.{◌≡◌, ◌⊎◌, ◌<◌, ◌≤◌, All, map, length, string_bytes, vec_len, Bool, Result, Err};
 ghost use Rattle.drm_links.specs.Known.{HasCause};
-ghost use Rattle.drm_paths.specs.State.{settings_of};
+ghost use Rattle.recv_reading.specs.Values.{packet_range};
 ghost use Rattle.cli_paths.specs.declared.request.PathsRequest.{PathsRequest};
 ghost use Rattle.cli_paths.specs.Line.{IsPathsLine};
 ghost use Rattle.cmd_paths.specs.declared.fault.PathsFault.{PathsFault};
@@ -19,7 +19,8 @@ use cli_paths::{PathsRequest, read_paths};
 use cli_syntax::WordsFault;
 use drm_links::{Dock, Link, Sink, Status};
 use drm_paths::{Closed, PathOptions, Road, Shared, close_paths, open_paths};
-use report_journal::{Ending, JournalOptions};
+use recv_reading::PacketRange;
+use report_journal::Ending;
 use std::alloc::Global;
 use std::marker::Brand;
 use std::sync::Wait;
@@ -123,15 +124,15 @@ fn run_links<G: Road + Send + Sync, R: Threads + Wait + Sync, D: Dock>(
 where
     D::L: Link + Send,
     requires blank { (blank.name ≡ G.name) × (blank.parts ≡ G.parts) × (G.parts ≡ length request.now.addresses) }
-    requires journal { settings_in request.now ≡ settings_of G.window G.reach G.first G.frames }
+    requires journal { settings_in request.now ≡ packet_range G.window G.reach G.first G.frames }
     requires range { IsPathsRequestInRange request.now }
     ensures { RunsLinks request.now D.L.known result (D.known dock.old) (D.known dock.new) }
 {
-    let journal = JournalOptions {
+    let journal = PacketRange {
         window: request.window,
         reach: request.reach,
         first: request.first,
-        frames: request.frames,
+        frame_limit: request.frames,
     };
     let (shared, paths) = open_paths::<G>(alloc, blank, journal, request.addresses.len() as u8)?;
     let seats = seats_of(alloc, paths)?;
@@ -153,7 +154,7 @@ fn read_links<G: Road + Send + Sync, R: Threads + Wait + Sync, D: Dock>(
 ) -> Result<Ending, PathsFault>
 where
     D::L: Link + Send,
-    requires journal { settings_in request.now ≡ settings_of G.window G.reach G.first G.frames }
+    requires journal { settings_in request.now ≡ packet_range G.window G.reach G.first G.frames }
     requires range { IsPathsRequestInRange request.now }
     requires new { HaveNewPaths receivers.items }
     requires buffers { All (λ receiver. vec_len receiver.buffer ≡ 65536) receivers.items }

@@ -1,6 +1,6 @@
 -- From the receiver of a capture that ended to what was written.
 use Rattle.std.proofs.Common.{◌≡◌, ℕ, ◌≤◌, ◌⊎◌, inl, inr, Bool, List, [], ◌∷◌, ◌++◌, map, length, Result, Ok, Err, refl, sym, subst, arith}
-use Rattle.std.specs.Prelude.{All}
+use Rattle.std.specs.Prelude.{All, IfOk}
 use Rattle.std.specs.List.{concat}
 use Rattle.drm_links.specs.Known.{Known}
 use Rattle.drm_links.specs.Link.{Answer, Datagram, End}
@@ -19,8 +19,10 @@ use Rattle.recv_report.specs.declared.capture.CaptureReportError.TheVariants as 
 use Rattle.drm_links.specs.Hearing.{AreNext}
 use Rattle.recv_reading.specs.Ending.{most_answers}
 use Rattle.recv_reading.specs.Options.{AreInRange}
-use Rattle.recv_report.specs.Received.{ReportWritten, ReportBroken, ReportStopped}
+use Rattle.recv_report.specs.Received.{ReportWritten, ReportCounted, ReportBroken, ReportStopped}
 use Rattle.recv_report.specs.Captures.{EndsReceiving}
+use Rattle.report_text.specs.Totals.{are_clean}
+use Rattle.report_text.specs.declared.totals.Totals.{Totals}
 use Rattle.recv_reading.specs.Source.{answers_of, BytesBring, HeardOf, HeardUntil}
 use Rattle.recv_report.specs.Following.{HeadlinesFollow, CompletesFollow}
 use Rattle.recv_report.proofs.ReceiverLemmas.{report_ahead}
@@ -29,7 +31,7 @@ use Rattle.cmd_faults.specs.declared.fault.Fault.TheVariants as faults
 use Rattle.cmd_faults.specs.Captures.{EndsEarly}
 use Rattle.cmd_faults.proofs.CauseLemmas.{inner_fault}
 use Rattle.cmd_receive.specs.Capture.{BreaksOffBy, CaptureReportEnds, WritesReport}
-use Rattle.cmd_receive.specs.Stopping.{ending_captured}
+use Rattle.cmd_receive.specs.Stopping.{captured_totals, clean_ending}
 use Rattle.law_capture.proofs.CapturePrefixes.{packets_front}
 use Rattle.cmd_receive.proofs.CaptureStatus.{Says}
 use Rattle.cmd_receive.proofs.ReceiveLemmas.{no_fault}
@@ -117,7 +119,7 @@ module _ {O : Type 0} (rules : ReceiveOptions) (valid : AreInRange rules) (headl
   }
 
   broken : (stop : CaptureStop) → ReportBroken rules 1 (HeardUntil stop before after) (known out) (known out')
-      → InputsBytes before after (λ left rest. Says rules left (ending_captured (Err (unfinished.Stopped stop))) known out out')
+      → InputsBytes before after (λ left rest. Says rules left (clean_ending (captured_totals (Err (unfinished.Stopped stop)))) known out out')
   broken stops.Read r = InputsBytes-weaker (ReadingBreaks r.heard.0) (λ left rest. Unit {0}) before after r.heard.2 (λ left rest is. tt)
   broken (stops.Capture fault) r =
       InputsBytes-weaker (λ left rest. capture.IsCaptureOf left r.heard.0 (capture.Fault fault)) (λ left rest. BreaksOffBy rules left (capture.Fault fault)) before after r.heard.2
@@ -126,9 +128,9 @@ module _ {O : Type 0} (rules : ReceiveOptions) (valid : AreInRange rules) (headl
       InputsBytes-weaker (λ left rest. capture.IsCaptureOf left r.heard.0 capture.TooLong) (λ left rest. BreaksOffBy rules left capture.TooLong) before after r.heard.2
       (λ left rest is. breaks stops.TooLong capture.TooLong left r is (sym r.heard.3))
 
-  pub written : (result : Result Bool CaptureReportError) → EndsReceiving rules before after (known out) (known out') result
-      → InputsBytes before after (λ left rest. Says rules left (ending_captured result) known out out')
-  written (Ok clean) ends = reported clean ends
+  pub written : (result : Result Totals CaptureReportError) → EndsReceiving rules before after (known out) (known out') result
+      → InputsBytes before after (λ left rest. Says rules left (clean_ending (captured_totals result)) known out out')
+  written (Ok totals) ends = reported (are_clean totals) ends.written
   written (Err (unfinished.Stopped stop)) ends = broken stop ends
   written (Err unfinished.Write) ends = stopped ends
   written (Err unfinished.NoMemory) ends =
@@ -136,42 +138,50 @@ module _ {O : Type 0} (rules : ReceiveOptions) (valid : AreInRange rules) (headl
 
 -- ---- by what it ended
 
-pub ended_as : (rules : ReceiveOptions) (before after : Known Input) (a b : Known Output) (received : Result Bool CaptureReportError) → EndsReceiving rules before after a b received → CaptureReportEnds rules (ending_captured received) before after a b
-ended_as rules before after a b (Ok clean) ends = ends
+pub ended_as : (rules : ReceiveOptions) (before after : Known Input) (a b : Known Output) (received : Result Totals CaptureReportError) → EndsReceiving rules before after a b received → CaptureReportEnds rules (clean_ending (captured_totals received)) before after a b
+ended_as rules before after a b (Ok totals) ends = ends.written
 ended_as rules before after a b (Err (unfinished.Stopped stops.Read)) ends = ends
 ended_as rules before after a b (Err (unfinished.Stopped (stops.Capture why))) ends = ends
 ended_as rules before after a b (Err (unfinished.Stopped stops.TooLong)) ends = ends
 ended_as rules before after a b (Err unfinished.Write) ends = ends
 ended_as rules before after a b (Err unfinished.NoMemory) ends = ends
 
-pub ended_early : (received : Result Bool CaptureReportError) (fault : Fault) → ending_captured received ≡ Err fault → EndsEarly fault
-ended_early (Ok clean) fault is = absurd (no_fault clean fault is)
+pub ended_early : (received : Result Totals CaptureReportError) (fault : Fault) → clean_ending (captured_totals received) ≡ Err fault → EndsEarly fault
+ended_early (Ok totals) fault is = absurd (no_fault (are_clean totals) fault is)
 ended_early (Err (unfinished.Stopped stops.Read)) fault is = subst EndsEarly (inner_fault faults.Read fault is) tt
 ended_early (Err (unfinished.Stopped (stops.Capture why))) fault is = subst EndsEarly (inner_fault (faults.Capture why) fault is) tt
 ended_early (Err (unfinished.Stopped stops.TooLong)) fault is = subst EndsEarly (inner_fault faults.CaptureTooLong fault is) tt
 ended_early (Err unfinished.Write) fault is = subst EndsEarly (inner_fault faults.Write fault is) tt
 ended_early (Err unfinished.NoMemory) fault is = subst EndsEarly (inner_fault faults.NoMemory fault is) tt
 
-pub ended_memory : (received : Result Bool CaptureReportError) → ending_captured received ≡ Err faults.NoMemory → received ≡ Err unfinished.NoMemory
-ended_memory (Ok clean) is = absurd (no_fault clean faults.NoMemory is)
+pub ended_memory : (received : Result Totals CaptureReportError) → clean_ending (captured_totals received) ≡ Err faults.NoMemory → received ≡ Err unfinished.NoMemory
+ended_memory (Ok totals) is = absurd (no_fault (are_clean totals) faults.NoMemory is)
 ended_memory (Err (unfinished.Stopped stops.Read)) is = absurd (let one : faults.Read ≡ faults.NoMemory = inner_fault faults.Read faults.NoMemory is in cc)
 ended_memory (Err (unfinished.Stopped (stops.Capture why))) is = absurd (let one : faults.Capture why ≡ faults.NoMemory = inner_fault (faults.Capture why) faults.NoMemory is in cc)
 ended_memory (Err (unfinished.Stopped stops.TooLong)) is = absurd (let one : faults.CaptureTooLong ≡ faults.NoMemory = inner_fault faults.CaptureTooLong faults.NoMemory is in cc)
 ended_memory (Err unfinished.Write) is = absurd (let one : faults.Write ≡ faults.NoMemory = inner_fault faults.Write faults.NoMemory is in cc)
 ended_memory (Err unfinished.NoMemory) is = refl
 
-pub ended_read : (received : Result Bool CaptureReportError) → ending_captured received ≡ Err faults.Read → received ≡ Err (unfinished.Stopped stops.Read)
-ended_read (Ok clean) is = absurd (no_fault clean faults.Read is)
+pub ended_read : (received : Result Totals CaptureReportError) → clean_ending (captured_totals received) ≡ Err faults.Read → received ≡ Err (unfinished.Stopped stops.Read)
+ended_read (Ok totals) is = absurd (no_fault (are_clean totals) faults.Read is)
 ended_read (Err (unfinished.Stopped stops.Read)) is = refl
 ended_read (Err (unfinished.Stopped (stops.Capture why))) is = absurd (let one : faults.Capture why ≡ faults.Read = inner_fault (faults.Capture why) faults.Read is in cc)
 ended_read (Err (unfinished.Stopped stops.TooLong)) is = absurd (let one : faults.CaptureTooLong ≡ faults.Read = inner_fault faults.CaptureTooLong faults.Read is in cc)
 ended_read (Err unfinished.Write) is = absurd (let one : faults.Write ≡ faults.Read = inner_fault faults.Write faults.Read is in cc)
 ended_read (Err unfinished.NoMemory) is = absurd (let one : faults.NoMemory ≡ faults.Read = inner_fault faults.NoMemory faults.Read is in cc)
 
-pub ended_write : (received : Result Bool CaptureReportError) → ending_captured received ≡ Err faults.Write → received ≡ Err unfinished.Write
-ended_write (Ok clean) is = absurd (no_fault clean faults.Write is)
+pub ended_write : (received : Result Totals CaptureReportError) → clean_ending (captured_totals received) ≡ Err faults.Write → received ≡ Err unfinished.Write
+ended_write (Ok totals) is = absurd (no_fault (are_clean totals) faults.Write is)
 ended_write (Err (unfinished.Stopped stops.Read)) is = absurd (let one : faults.Read ≡ faults.Write = inner_fault faults.Read faults.Write is in cc)
 ended_write (Err (unfinished.Stopped (stops.Capture why))) is = absurd (let one : faults.Capture why ≡ faults.Write = inner_fault (faults.Capture why) faults.Write is in cc)
 ended_write (Err (unfinished.Stopped stops.TooLong)) is = absurd (let one : faults.CaptureTooLong ≡ faults.Write = inner_fault faults.CaptureTooLong faults.Write is in cc)
 ended_write (Err unfinished.Write) is = refl
 ended_write (Err unfinished.NoMemory) is = absurd (let one : faults.NoMemory ≡ faults.Write = inner_fault faults.NoMemory faults.Write is in cc)
+
+-- the totals, where there are some
+pub totals_are : (rules : ReceiveOptions) (before after : Known Input) (a b : Known Output) (received : Result Totals CaptureReportError) → EndsReceiving rules before after a b received
+    → IfOk (captured_totals received) (ReportCounted rules 1 (HeardOf before after) a b)
+totals_are rules before after a b (Ok totals) ends = ends
+totals_are rules before after a b (Err (unfinished.Stopped stop)) ends = tt
+totals_are rules before after a b (Err unfinished.Write) ends = tt
+totals_are rules before after a b (Err unfinished.NoMemory) ends = tt

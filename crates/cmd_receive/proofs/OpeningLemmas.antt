@@ -5,7 +5,7 @@ use Rattle.drm_links.specs.Sink.{Output}
 use Rattle.drm_links.specs.Dock.{DockContents, after_failure, after_openings}
 use Rattle.drm_links.specs.declared.dock.Address.{Address}
 use Rattle.drm_links.proofs.KnownLemmas.{counts_as, counts_then}
-use Rattle.link_group.specs.Reaching.{NothingSent, nothing, with_none}
+use Rattle.link_group.specs.Reaching.{NothingSent, with_none}
 use Rattle.link_group.proofs.OpeningLemmas.{docks_while, openings_gone}
 use Rattle.cmd_faults.specs.declared.fault.Fault.{Fault}
 use Rattle.cmd_faults.proofs.CauseLemmas.{inner_fault}

@@ -2,8 +2,8 @@
 use Rattle.std.specs.Prelude.{Bool, Result, Ok, Err}
 use Rattle.recv_report.specs.declared.stop.ReceiveError.{ReceiveError}
 use Rattle.recv_report.specs.declared.stop.ReceiveError.TheVariants as stops
-use Rattle.recv_report.specs.declared.one_receiver.Ended.{Ended}
-use Rattle.recv_report.specs.declared.one_receiver.Ended.TheVariants as ended
+use Rattle.report_text.specs.Totals.{are_clean}
+use Rattle.report_text.specs.declared.totals.Totals.{Totals}
 use Rattle.recv_report.specs.declared.capture.CaptureReportError.{CaptureReportError}
 use Rattle.recv_report.specs.declared.capture.CaptureReportError.TheVariants as unfinished
 use Rattle.cmd_faults.specs.Captures.{stop_fault}
@@ -16,16 +16,21 @@ ending_of (Err stops.Link) = Err faults.Link
 ending_of (Err stops.Write) = Err faults.Write
 ending_of (Err stops.NoMemory) = Err faults.NoMemory
 
--- how a run ends whose one receiver ends so
-abbrev pub ending_live : Ended → Result Bool Fault
-ending_live (ended.Done clean) = Ok clean
-ending_live ended.LinkFailed = Err faults.Link
-ending_live ended.WriteFailed = Err faults.Write
-ending_live ended.NoMemory = Err faults.NoMemory
+-- the totals of a run whose one receiver ends so
+abbrev pub live_totals : Result Totals ReceiveError → Result Totals Fault
+live_totals (Ok totals) = Ok totals
+live_totals (Err stops.Link) = Err faults.Link
+live_totals (Err stops.Write) = Err faults.Write
+live_totals (Err stops.NoMemory) = Err faults.NoMemory
 
--- how a run ends whose receiver of a capture ends so
-abbrev pub ending_captured : Result Bool CaptureReportError → Result Bool Fault
-ending_captured (Ok clean) = Ok clean
-ending_captured (Err (unfinished.Stopped stop)) = Err (stop_fault stop)
-ending_captured (Err unfinished.Write) = Err faults.Write
-ending_captured (Err unfinished.NoMemory) = Err faults.NoMemory
+-- the totals of a run whose receiver of a capture ends so
+abbrev pub captured_totals : Result Totals CaptureReportError → Result Totals Fault
+captured_totals (Ok totals) = Ok totals
+captured_totals (Err (unfinished.Stopped stop)) = Err (stop_fault stop)
+captured_totals (Err unfinished.Write) = Err faults.Write
+captured_totals (Err unfinished.NoMemory) = Err faults.NoMemory
+
+-- how a run ends that has these totals
+abbrev pub clean_ending : Result Totals Fault → Result Bool Fault
+clean_ending (Ok totals) = Ok (are_clean totals)
+clean_ending (Err fault) = Err fault

@@ -7,17 +7,19 @@ ghost use Rattle.recv_reading.specs.Options.{AreInRange};
 ghost use Rattle.link_group.specs.Listed.{AreListed};
 ghost use Rattle.link_group.specs.Reaching.{HaveGone, after_closes};
 ghost use Rattle.cmd_receive.specs.Receive.{ReceiveRun};
+ghost use Rattle.cmd_receive.specs.Counted.{CountedLink};
 ghost use Rattle.recv_report.specs.Receivers.{IsReceiver, AreReceivers};
 ghost use Rattle.cmd_receive.specs.Opening.{HaveLinks, EndsOpening, StopsOpening, members_of};
-ghost use Rattle.cmd_receive.specs.Stopping.{ending_of, ending_live};
+ghost use Rattle.cmd_receive.specs.Stopping.{ending_of, live_totals, clean_ending};
 
 use cmd_faults::Fault;
 use drm_links::{Address, Addresses, Dock, Link, Opened, Sink};
 use recv_reading::ReceiveOptions;
 use recv_report::{
-    Ended, ReceiveError, Receiver, in_time_is_unbroken, reports_follow, run_all, run_live,
-    seat_for, seated, settle,
+    ReceiveError, Receiver, in_time_is_unbroken, reports_follow, run_all, run_live, seat_for,
+    seated, settle,
 };
+use report_text::Totals;
 use std::alloc::Global;
 use std::thread::Threads;
 
@@ -42,20 +44,35 @@ where
     // For their clauses alone: what a report says of a delivery. The calls do nothing.
     reports_follow();
     in_time_is_unbroken();
-    let mut receivers = open_all(alloc, rules, addresses, dock)?;
     if addresses.len() == 1 {
-        let Some(mut receiver) = receivers.pop() else {
-            unreachable!()
-        };
-        let ended = run_live(alloc, &mut receiver, out);
-        let Receiver { link, .. } = receiver;
-        dock.close(*addresses.get(0), link);
-        return live_ending(ended);
+        return clean(link_totals(alloc, rules, *addresses.get(0), dock, out));
     }
+    let mut receivers = open_all(alloc, rules, addresses, dock)?;
     run_all(rt, alloc, receivers.as_mut_slice());
     let settled = settle(receivers.as_slice(), out);
     close_all(dock, addresses, receivers);
     ending(settled)
+}
+
+/// Receives so at one address, and answers the totals of what came.
+pub fn link_totals<D: Dock, O: Sink>(
+    alloc: Global,
+    rules: &ReceiveOptions,
+    at: Address,
+    dock: &mut D,
+    out: &mut O,
+) -> Result<Totals, Fault>
+    requires { AreInRange rules.now }
+    ensures run { CountedLink rules.now at result D.known dock.old dock.new O.known out.old out.new }
+{
+    // For their clauses alone: what a report says of a delivery. The calls do nothing.
+    reports_follow();
+    in_time_is_unbroken();
+    let mut receiver = open_one(alloc, rules, 1, at, dock)?;
+    let received = run_live(alloc, &mut receiver, out);
+    let Receiver { link, .. } = receiver;
+    dock.close(at, link);
+    live_totals(received)
 }
 
 // Takes the memory for receivers of these addresses.
@@ -146,15 +163,25 @@ fn close_all<D: Dock>(dock: &mut D, addresses: &Addresses, receivers: Vec<Receiv
     }
 }
 
-// How a run ends whose one receiver ends so.
-fn live_ending(ended: Ended) -> Result<bool, Fault>
-    ensures { result ≡ ending_live ended }
+// The totals of a run whose one receiver ends so.
+fn live_totals(received: Result<Totals, ReceiveError>) -> Result<Totals, Fault>
+    ensures { result ≡ live_totals received }
 {
-    match ended {
-        Ended::Done { clean } => Ok(clean),
-        Ended::LinkFailed => Err(Fault::Link),
-        Ended::WriteFailed => Err(Fault::Write),
-        Ended::NoMemory => Err(Fault::NoMemory),
+    match received {
+        Ok(totals) => Ok(totals),
+        Err(ReceiveError::Link) => Err(Fault::Link),
+        Err(ReceiveError::Write) => Err(Fault::Write),
+        Err(ReceiveError::NoMemory) => Err(Fault::NoMemory),
+    }
+}
+
+// How a run ends that has these totals.
+pub(crate) fn clean(counted: Result<Totals, Fault>) -> Result<bool, Fault>
+    ensures { result ≡ clean_ending counted }
+{
+    match counted {
+        Ok(totals) => Ok(totals.is_clean()),
+        Err(fault) => Err(fault),
     }
 }
 

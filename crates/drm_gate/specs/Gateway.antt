@@ -3,6 +3,7 @@ use Rattle.std.specs.Prelude.{◌≡◌, ◌<◌, ◌≤◌, IfSome}
 use Rattle.dcp_pft.specs.declared.carry.Carry.{Carry}
 use Rattle.dcp_collect.specs.CollectorState.{CollectorState, made}
 use Rattle.recv_reading.specs.declared.options.ReceiveOptions.{ReceiveOptions}
+use Rattle.recv_reading.specs.Values.{receive_options}
 use Rattle.drm_gate.specs.declared.gate.GateOptions.{GateOptions}
 
 -- its collector, and the carry under which it sends
@@ -18,7 +19,7 @@ pub record IsNewGateway (gate : Gateway) : Type 0 where
 
 -- what a call reads by: from its new collector and its options
 abbrev pub rules_of : CollectorState → GateOptions → ReceiveOptions
-rules_of c options = record { window = c.window; reach = c.reach; first = c.first; frames = options.frames; idle = options.idle; limit = options.limit }
+rules_of c options = receive_options c.window c.reach c.first options.frames options.idle options.limit
 
 -- each number of the options is in its range
 pub record AreGateOptionsInRange (options : GateOptions) : Type 0 where

@@ -1,6 +1,6 @@
 -- What a journal has of its paths.
 use Rattle.std.specs.Prelude.{ℕ, ◌≡◌, ◌≢◌, ◌<◌, ◌==◌, if◌then◌else◌, false, List, [], ◌∷◌, length, take, slice_get, slice_index_or, Option, sum_by}
-use Rattle.report_journal.specs.declared.options.JournalOptions.{JournalOptions}
+use Rattle.recv_reading.specs.declared.options.PacketRange.{PacketRange}
 use Rattle.report_journal.specs.Journal.{JournalState, datagrams}
 use Rattle.report_journal.specs.Report.{IsReportOf}
 use Rattle.drm_paths.specs.State.{PathState, AreNumbered}
@@ -46,7 +46,7 @@ pub record AreCounted (entries : List (ℕ × List ℕ)) (paths : List PathState
 
 -- What comes of a book with this journal that is closed. Unless its report has stopped, its entries are those of its paths, and
 -- the report is that of all of them; or they differ, and this is where.
-abbrev pub BookCloses : JournalOptions → JournalState → List PathState → Closed → Type 0
+abbrev pub BookCloses : PacketRange → JournalState → List PathState → Closed → Type 0
 BookCloses by journal paths (Whole ending) =
     (journal.stopped ≡ false) × AreCounted journal.entries paths × AllAgree journal.entries paths
     × IsReportOf by (datagrams journal.entries) ending.text ending.clean

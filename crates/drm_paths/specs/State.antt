@@ -1,7 +1,7 @@
 -- What is seen of a path and of a book.
 use Rattle.std.specs.Prelude.{ℕ, ◌≡◌, ◌+◌, ◌<◌, All, List, [], ◌∷◌, ◌++◌, length, Option}
 use Rattle.dcp_collect.specs.declared.taken.Taken.{Taken}
-use Rattle.report_journal.specs.declared.options.JournalOptions.{JournalOptions}
+use Rattle.recv_reading.specs.declared.options.PacketRange.{PacketRange}
 use Rattle.report_journal.specs.Journal.{JournalState, JournalEnters}
 
 -- the most bytes that a path takes
@@ -41,10 +41,6 @@ pub record BookState : Type 0 where
 
 abbrev pub book_state : JournalState → ℕ → BookState
 book_state journal total = record { journal = journal; total = total }
-
--- by what a report is made
-abbrev pub settings_of : ℕ → ℕ → Option ℕ → Option ℕ → JournalOptions
-settings_of window reach first frames = record { window = window; reach = reach; first = first; frames = frames }
 
 -- The datagram was taken with this answer: it stands last in the journal under the path's number, and last among those of the
 -- path; the ledger's total and the path's share are one more.

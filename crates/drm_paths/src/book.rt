@@ -5,7 +5,8 @@ ghost use Rattle.report_journal.specs.Took.{IfTook};
 ghost use Rattle.report_journal.specs.Journal.{IsKept, entry_of, datagrams};
 ghost use Rattle.report_journal.specs.Report.{IsReportOf};
 ghost use Rattle.report_journal.specs.declared.event.Event.{Event};
-ghost use Rattle.drm_paths.specs.State.{bytes_in, most_bytes, settings_of, AreNumbered, IsEvent};
+ghost use Rattle.recv_reading.specs.Values.{packet_range};
+ghost use Rattle.drm_paths.specs.State.{bytes_in, most_bytes, AreNumbered, IsEvent};
 
 use crate::{Path, Road};
 use drm_bits::NoMemory;
@@ -23,20 +24,21 @@ pub struct Book<G: Road> {
 
 impl<G: Road> Model for Book<G> {
     ghost use Rattle.std.specs.Prelude.{◌≡◌, length};
-    ghost use Rattle.drm_paths.specs.State.{BookState, book_state, settings_of, AreNumbered};
+    ghost use Rattle.recv_reading.specs.Values.{packet_range};
+    ghost use Rattle.drm_paths.specs.State.{BookState, book_state, AreNumbered};
 
     ghost Value = { BookState };
 
     ghost view = { λ b. book_state b.journal b.total.total };
 
-    ghost invariant = { λ b. (b.journal.options ≡ settings_of G.window G.reach G.first G.frames)
+    ghost invariant = { λ b. (b.journal.options ≡ packet_range G.window G.reach G.first G.frames)
         × (length b.journal.entries ≡ b.total.total) × AreNumbered G.parts b.journal.entries };
 }
 
 impl<G: Road> Book<G> {
     // A book with a new journal.
     pub(crate) fn new(journal: Journal, total: Total<G>) -> Book<G>
-        requires options { journal.options ≡ settings_of G.window G.reach G.first G.frames }
+        requires options { journal.options ≡ packet_range G.window G.reach G.first G.frames }
         requires counted { length journal.entries ≡ total.total }
         requires numbered { AreNumbered G.parts journal.entries }
         ensures { result.journal ≡ journal }
@@ -78,7 +80,7 @@ impl<G: Road> Book<G> {
     /// what its type says; or a front of that, where it has stopped.
     pub fn keeps_its_report(&self)
         ensures kept { IsKept self.now.journal }
-        ensures options { self.now.journal.options ≡ settings_of G.window G.reach G.first G.frames }
+        ensures options { self.now.journal.options ≡ packet_range G.window G.reach G.first G.frames }
         ensures counted { length self.now.journal.entries ≡ self.now.total }
         ensures numbered { AreNumbered G.parts self.now.journal.entries }
     {
@@ -112,7 +114,7 @@ impl<G: Road> Book<G> {
 
     // Ends the report.
     pub(crate) fn finish(self, alloc: Global) -> Result<Ending, NoMemory>
-        ensures { IfOk result (λ ending. IsReportOf (settings_of G.window G.reach G.first G.frames) (datagrams self.journal.entries) ending.text ending.clean) }
+        ensures { IfOk result (λ ending. IsReportOf (packet_range G.window G.reach G.first G.frames) (datagrams self.journal.entries) ending.text ending.clean) }
     {
         let Book { journal, .. } = self;
         journal.finish(alloc)

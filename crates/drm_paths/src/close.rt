@@ -2,7 +2,7 @@
 
 ghost use Rattle.std.specs.Prelude.{◌≡◌, ◌<◌, ◌↔◌, IsTrue, Some, length, vec_len, map, slice_get, IfOk, IfSome, IfNone, sum_by, option_map};
 ghost use Rattle.report_journal.specs.Journal.{JournalState, entry_of};
-ghost use Rattle.drm_paths.specs.State.{settings_of};
+ghost use Rattle.recv_reading.specs.Values.{packet_range};
 ghost use Rattle.drm_paths.specs.Closing.{of_path, IsDifference, EntriesAgree, AllAgree, IsDifferenceOf, EntriesDiffer, BookCloses};
 
 use crate::shared::{Paths, Shared};
@@ -159,7 +159,7 @@ fn merged<G: Road>(mut paths: Vec<Path<G>>) -> Share<G>
 pub fn close_paths<G: Road>(alloc: Global, shared: Shared<G>, paths: Paths<G>) -> Closed
     requires at_least_one { 0 < length paths }
     requires each_part { sum_by (λ p. p.parts) paths ≡ G.parts }
-    ensures { (journal : JournalState) × BookCloses (settings_of G.window G.reach G.first G.frames) journal paths result }
+    ensures { (journal : JournalState) × BookCloses (packet_range G.window G.reach G.first G.frames) journal paths result }
 {
     close_book(alloc, shared.into_book(), paths)
 }
@@ -169,7 +169,7 @@ pub fn close_paths<G: Road>(alloc: Global, shared: Shared<G>, paths: Paths<G>) -
 pub fn close_book<G: Road>(alloc: Global, mut book: Book<G>, paths: Paths<G>) -> Closed
     requires at_least_one { 0 < length paths }
     requires each_part { sum_by (λ p. p.parts) paths ≡ G.parts }
-    ensures { BookCloses (settings_of G.window G.reach G.first G.frames) book.journal paths result }
+    ensures { BookCloses (packet_range G.window G.reach G.first G.frames) book.journal paths result }
 {
     if book.is_stopped() {
         return Closed::NoMemory;

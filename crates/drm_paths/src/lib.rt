@@ -28,7 +28,7 @@ pub use book::Book;
 pub use close::{Closed, Difference, close_book, close_paths};
 pub use crossing::paths_may_cross_threads;
 pub use path::Path;
-pub use report_journal::{Ending, Entry, Event, JournalOptions};
+pub use report_journal::{Ending, Entry, Event};
 pub use road::Road;
 pub use run::{PathEnded, PathOptions, run_path};
 pub use shared::{Given, Paths, Shared, open_paths};

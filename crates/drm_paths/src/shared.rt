@@ -1,14 +1,16 @@
 //! The book that paths share, and the lock on it.
 
 ghost use Rattle.std.specs.Prelude.{ℕ, ◌≡◌, ◌+◌, ◌≤◌, ◌<◌, length, slice_index_or, IfOk};
-ghost use Rattle.report_journal.specs.Journal.{AreInRange};
-ghost use Rattle.drm_paths.specs.State.{bytes_in, most_bytes, settings_of, new_path, with_datagram};
+ghost use Rattle.recv_reading.specs.Options.{IsWithinLimits};
+ghost use Rattle.recv_reading.specs.Values.{packet_range};
+ghost use Rattle.drm_paths.specs.State.{bytes_in, most_bytes, new_path, with_datagram};
 ghost use Rattle.drm_paths.specs.declared.shared.Given.{Given};
 
 use crate::{Book, Path, Road};
 use drm_bits::NoMemory;
 use drm_lists::OwnedList;
-use report_journal::{Event, Journal, JournalOptions};
+use recv_reading::PacketRange;
+use report_journal::{Event, Journal};
 use std::alloc::Global;
 use std::sync::ledger::Blank;
 use std::sync::{Mutex, Wait};
@@ -62,12 +64,12 @@ pub type Paths<G> = OwnedList<Path<G>>;
 pub fn open_paths<G: Road>(
     alloc: Global,
     blank: Blank,
-    options: JournalOptions,
+    options: PacketRange,
     paths: u8,
 ) -> Result<(Shared<G>, Paths<G>), NoMemory>
     requires blank { (blank.name ≡ G.name) × (blank.parts ≡ G.parts) × (G.parts ≡ paths) }
-    requires options { options ≡ settings_of G.window G.reach G.first G.frames }
-    requires range { AreInRange options }
+    requires options { options ≡ packet_range G.window G.reach G.first G.frames }
+    requires range { IsWithinLimits options }
     ensures same_count { IfOk result (λ r. length r.1 ≡ paths) }
     ensures new { IfOk result (λ r. (k : ℕ) (d : _) → k < paths → slice_index_or r.1 k d ≡ new_path k) }
 {

@@ -24,7 +24,7 @@ use Rattle.cmd_faults.specs.Fault.{clean_status, fault_status}
 use Rattle.drm_top.specs.Outside.{Outside}
 use Rattle.drm_words.specs.declared.request.Request.{Request}
 use Rattle.drm_words.specs.declared.request.Request.TheVariants.{Receive, Air}
-use Rattle.drm_top.specs.Words.{options_of}
+use Rattle.recv_reading.specs.Values.{receive_options}
 use Rattle.drm_top.specs.Command.{CommandRun, RunsCommand}
 use Rattle.drm_top.specs.Headline.{WroteFeeds, HeadlineOfRun}
 
@@ -79,7 +79,7 @@ one_status false false same = refl
 module _ {S I O E D : Type 0} (clean err_ok : Bool) (o : Outside S I O E D) where
   of_command : (request : Request) → CommandRun request (Ok clean) err_ok o → HeadlineOfRun request clean o
   of_command (Receive (Some addresses) window reach first frames idle limit) run =
-      of_links (options_of window reach first frames idle limit) addresses clean o.dock.known o.dock.before o.dock.after o.out.known o.out.before o.out.after run.0
+      of_links (receive_options window reach first frames idle limit) addresses clean o.dock.known o.dock.before o.dock.after o.out.known o.out.before o.out.after run.0
   of_command (Receive None window reach first frames idle limit) run = run.0.writes clean refl
   of_command (Air name script window) run =
       of_schedule name script window clean o.shelf.known o.shelf.before run.0.between o.shelf.after o.out.known o.out.before o.out.after run.0.outcome run.0.loads run.0.runs

@@ -13,7 +13,8 @@ use Rattle.cli_syntax.specs.Carries.{IsCarry}
 use Rattle.drm_links.specs.Dock.{AreDifferent}
 use Rattle.link_group.specs.Listed.{AreListed}
 use Rattle.recv_reading.specs.Options.{AreInRange, IsWithinLimits}
-use Rattle.drm_top.specs.Words.{options_of, range_of, IsRequestInRange}
+use Rattle.recv_reading.specs.Values.{receive_options, packet_range}
+use Rattle.drm_top.specs.Words.{IsRequestInRange}
 
 within : (default least greatest n : ℕ) (value : Option (List ℕ)) → least ≤ default → default ≤ greatest → IsNumberOr default least greatest value n → (least ≤ n) × (n ≤ greatest)
 within default least greatest n None low high is = (omega (arith, is, low), omega (arith, is, high))
@@ -53,8 +54,8 @@ in_reading options rules reading =
     }
 
 reads : (words : List (List ℕ)) (addresses : Option (List Address)) (window reach : ℕ) (first frames : Option ℕ) (idle limit : ℕ) → IsLine words (Receive addresses window reach first frames idle limit)
-    → AreInRange (options_of window reach first frames idle limit)
-reads words addresses window reach first frames idle limit line = let asks = line.asks in in_reading _ (options_of window reach first frames idle limit) asks.3
+    → AreInRange (receive_options window reach first frames idle limit)
+reads words addresses window reach first frames idle limit line = let asks = line.asks in in_reading _ (receive_options window reach first frames idle limit) asks.3
 
 different : (value : Option (List ℕ)) (to : List Address) → AreAddressesOrEmpty value to → AreDifferent to
 different None to none = subst AreDifferent (sym none) tt
@@ -68,7 +69,7 @@ both : (frames : Option ℕ) → IfSome frames (λ n. 1 ≤ n) → IfSome frames
 both None some few = tt
 both (Some n) some few = (some, few)
 
-in_stretch : (options : CommandOptions) (window reach : ℕ) (first frames : Option ℕ) → IsStretch options window reach first frames → IsWithinLimits (range_of window reach first frames)
+in_stretch : (options : CommandOptions) (window reach : ℕ) (first frames : Option ℕ) → IsStretch options window reach first frames → IsWithinLimits (packet_range window reach first frames)
 in_stretch options window reach first frames packets =
     let size = within 8 1 64 window _ (omega arith) (omega arith) packets.has_window in
     let some = within_or_none 1 3000000 _ frames packets.has_frames in
@@ -81,7 +82,7 @@ in_range (Serve name to pace from live) words line text =
 in_range (Receive (Some addresses) window reach first frames idle limit) words line text =
     (reads words (Some addresses) window reach first frames idle limit line, let asks = line.asks in listed _ addresses asks.1)
 in_range (Receive None window reach first frames idle limit) words line text = reads words None window reach first frames idle limit line
-in_range (Count address window reach first frames idle limit) words line text = let asks = line.asks in in_reading _ (options_of window reach first frames idle limit) asks.3
+in_range (Count address window reach first frames idle limit) words line text = let asks = line.asks in in_reading _ (receive_options window reach first frames idle limit) asks.3
 in_range (Air name script window) words line text =
     let range = within 8 1 64 window _ (omega arith) (omega arith) line.asks.3 in
     (text.0, text.1, range.0, range.1)
@@ -90,7 +91,7 @@ in_range (Convert carry window reach first frames) words line text = (carry_fits
 in_range (Gate from to carry window reach first frames idle limit) words line text =
     let are = line.asks.6 in (
       carry_fits line.asks.3 carry line.asks.7,
-      in_reading _ (options_of window reach first frames idle limit) line.asks.9,
+      in_reading _ (receive_options window reach first frames idle limit) line.asks.9,
       record { some = are.some; few = are.few; different = are.different },
     )
 in_range (Pack pid length) words line text = (let few = line.asks.4.2 in omega (arith, few), line.asks.5.1)

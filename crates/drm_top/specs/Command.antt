@@ -26,7 +26,7 @@ use Rattle.cmd_faults.specs.Fault.{done_of, whole_of, report_status, ReportsIf}
 use Rattle.cmd_faults.specs.declared.fault.Fault.{Fault}
 use Rattle.cmd_faults.specs.declared.fault.Fault.TheVariants.{NoMemory}
 use Rattle.drm_top.specs.Outside.{Outside, IsStill}
-use Rattle.drm_top.specs.Words.{options_of, range_of}
+use Rattle.recv_reading.specs.Values.{receive_options, packet_range}
 use Rattle.drm_words.specs.declared.request.Request.{Request}
 use Rattle.drm_words.specs.declared.request.Request.TheVariants.{Fac, Check, Serve, Receive, Count, Air, Show, Exercise, Convert, Gate, Pack, Unpack, Texts}
 
@@ -63,13 +63,13 @@ CommandRun (Serve name [] pace from live) ending err_ok o =
 CommandRun (Serve name (at ∷ others) pace from live) ending err_ok o =
     ServesOver (is_any live) name (at ∷ others) pace from live ending o × IsStill o.out × IsQuiet err_ok o.err.before o.err.after
 CommandRun (Receive (Some addresses) window reach first frames idle limit) ending err_ok o =
-    ReceiveRun (options_of window reach first frames idle limit) addresses ending o.dock.known o.dock.before o.dock.after o.out.known o.out.before o.out.after × IsStill o.shelf × IsStill o.input × IsQuiet err_ok o.err.before o.err.after
+    ReceiveRun (receive_options window reach first frames idle limit) addresses ending o.dock.known o.dock.before o.dock.after o.out.known o.out.before o.out.after × IsStill o.shelf × IsStill o.input × IsQuiet err_ok o.err.before o.err.after
 CommandRun (Receive None window reach first frames idle limit) ending err_ok o =
-    CaptureRun (options_of window reach first frames idle limit) ending o.input.known o.input.before o.input.after o.out.known o.out.before o.out.after × IsStill o.shelf × IsStill o.dock × IsQuiet err_ok o.err.before o.err.after
+    CaptureRun (receive_options window reach first frames idle limit) ending o.input.known o.input.before o.input.after o.out.known o.out.before o.out.after × IsStill o.shelf × IsStill o.dock × IsQuiet err_ok o.err.before o.err.after
 CommandRun (Count (Some at) window reach first frames idle limit) ending err_ok o =
-    CountRun (options_of window reach first frames idle limit) at ending o.dock.known o.dock.before o.dock.after o.out.known o.out.before o.out.after × IsStill o.shelf × IsStill o.input × IsQuiet err_ok o.err.before o.err.after
+    CountRun (receive_options window reach first frames idle limit) at ending o.dock.known o.dock.before o.dock.after o.out.known o.out.before o.out.after × IsStill o.shelf × IsStill o.input × IsQuiet err_ok o.err.before o.err.after
 CommandRun (Count None window reach first frames idle limit) ending err_ok o =
-    CountCaptureRun (options_of window reach first frames idle limit) ending o.input.known o.input.before o.input.after o.out.known o.out.before o.out.after × IsStill o.shelf × IsStill o.dock × IsQuiet err_ok o.err.before o.err.after
+    CountCaptureRun (receive_options window reach first frames idle limit) ending o.input.known o.input.before o.input.after o.out.known o.out.before o.out.after × IsStill o.shelf × IsStill o.dock × IsQuiet err_ok o.err.before o.err.after
 CommandRun (Air name script window) ending err_ok o =
     AirRun name script window ending o.shelf.known o.shelf.before o.shelf.after o.out.known o.out.before o.out.after × IsStill o.input × IsStill o.dock × IsQuiet err_ok o.err.before o.err.after
 CommandRun Show ending err_ok o =
@@ -77,16 +77,16 @@ CommandRun Show ending err_ok o =
 CommandRun (Exercise n) ending err_ok o =
     ExerciseRun n ending o.out.known o.out.before o.out.after × IsStill o.shelf × IsStill o.input × IsStill o.dock × IsQuiet err_ok o.err.before o.err.after
 CommandRun (Convert carry window reach first frames) ending err_ok o =
-    ConvertRun (range_of window reach first frames) carry ending err_ok o.input.known o.input.before o.input.after o.out.known o.out.before o.out.after o.err.known o.err.before o.err.after × IsStill o.shelf × IsStill o.dock
+    ConvertRun (packet_range window reach first frames) carry ending err_ok o.input.known o.input.before o.input.after o.out.known o.out.before o.out.after o.err.known o.err.before o.err.after × IsStill o.shelf × IsStill o.dock
 CommandRun (Gate from to carry window reach first frames idle limit) ending err_ok o =
-    GateCommandRun (options_of window reach first frames idle limit) carry from to ending o.dock.known o.dock.before o.dock.after o.out.known o.out.before o.out.after × IsStill o.shelf × IsStill o.input × IsQuiet err_ok o.err.before o.err.after
+    GateCommandRun (receive_options window reach first frames idle limit) carry from to ending o.dock.known o.dock.before o.dock.after o.out.known o.out.before o.out.after × IsStill o.shelf × IsStill o.input × IsQuiet err_ok o.err.before o.err.after
 CommandRun (Pack pid length) ending err_ok o =
     EndsWhole ending (λ done. PackRun pid length done o.input.known o.input.before o.input.after o.out.known o.out.before o.out.after) × IsStill o.shelf × IsStill o.dock × IsQuiet err_ok o.err.before o.err.after
 CommandRun (Unpack stream pid length window reach first frames) ending err_ok o =
-    DataRun (range_of window reach first frames) (UnitsOf stream pid length) ending o.input.known o.input.before o.input.after o.out.known o.out.before o.out.after
+    DataRun (packet_range window reach first frames) (UnitsOf stream pid length) ending o.input.known o.input.before o.input.after o.out.known o.out.before o.out.after
     × IsStill o.shelf × IsStill o.dock × IsQuiet err_ok o.err.before o.err.after
 CommandRun (Texts stream window reach first frames) ending err_ok o =
-    DataRun (range_of window reach first frames) (TextsOf stream) ending o.input.known o.input.before o.input.after o.out.known o.out.before o.out.after
+    DataRun (packet_range window reach first frames) (TextsOf stream) ending o.input.known o.input.before o.input.after o.out.known o.out.before o.out.after
     × IsStill o.shelf × IsStill o.dock × IsQuiet err_ok o.err.before o.err.after
 
 -- nothing of the outside was touched

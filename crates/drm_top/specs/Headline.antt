@@ -15,7 +15,7 @@ use Rattle.cmd_receive.specs.Receive.{AreReports, WritesReports}
 use Rattle.cmd_receive.specs.Capture.{WritesReport}
 use Rattle.cmd_air.specs.Air.{AreAired}
 use Rattle.drm_top.specs.Outside.{Outside}
-use Rattle.drm_top.specs.Words.{options_of}
+use Rattle.recv_reading.specs.Values.{receive_options}
 use Rattle.drm_words.specs.declared.request.Request.{Request}
 use Rattle.drm_words.specs.declared.request.Request.TheVariants.{Receive, Air}
 
@@ -35,10 +35,10 @@ pub record WroteFeeds {S O : Type 0} (name script : List ℕ) (window : ℕ) (cl
 abbrev pub HeadlineOfRun : {S I O E D : Type 0} → Request → Bool → Outside S I O E D → Type 0
 HeadlineOfRun (Receive (Some addresses) window reach first frames idle limit) clean o =
     DockKnownThrough (o.dock.known o.dock.before) (o.dock.known o.dock.after) (λ contents.
-    WritesReports (AreReports (options_of window reach first frames idle limit) contents addresses) (Ok clean) o.out.known o.out.before o.out.after)
+    WritesReports (AreReports (receive_options window reach first frames idle limit) contents addresses) (Ok clean) o.out.known o.out.before o.out.after)
 HeadlineOfRun (Receive None window reach first frames idle limit) clean o =
     InputsBytes (o.input.known o.input.before) (o.input.known o.input.after) (λ left _.
-    WritesReport (options_of window reach first frames idle limit) left clean o.out.known o.out.before o.out.after)
+    WritesReport (receive_options window reach first frames idle limit) left clean o.out.known o.out.before o.out.after)
 HeadlineOfRun (Air name script window) clean o =
     WroteFeeds name script window clean o.shelf.known o.shelf.before o.shelf.after o.out.known o.out.before o.out.after
 HeadlineOfRun _ clean o = Unit {0}

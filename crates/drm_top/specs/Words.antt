@@ -7,8 +7,7 @@ use Rattle.drm_words.specs.declared.request.Request.TheVariants.{Check, Serve, R
 use Rattle.drm_links.specs.Dock.{AreDifferent}
 use Rattle.link_group.specs.Listed.{AreListed}
 use Rattle.recv_reading.specs.Options.{AreInRange, IsWithinLimits}
-use Rattle.recv_reading.specs.declared.options.ReceiveOptions.{ReceiveOptions}
-use Rattle.recv_reading.specs.declared.options.PacketRange.{PacketRange}
+use Rattle.recv_reading.specs.Values.{receive_options, packet_range}
 
 -- the words are a command line with this request
 abbrev pub AsksFor : Request → List (List ℕ) → Type 0
@@ -18,26 +17,18 @@ AsksFor request words = IsLine words request
 abbrev pub AsksForNothing : List (List ℕ) → Type 0
 AsksForNothing words = (request : Request) → AsksFor request words → ⊥
 
--- by what a request with these numbers receives
-abbrev pub options_of : ℕ → ℕ → Option ℕ → Option ℕ → ℕ → ℕ → ReceiveOptions
-options_of window reach first frames idle limit = record { window = window; reach = reach; first = first; frames = frames; idle = idle; limit = limit }
-
--- which packets of a capture a request with these numbers receives
-abbrev pub range_of : ℕ → ℕ → Option ℕ → Option ℕ → PacketRange
-range_of window reach first frames = record { window = window; reach = reach; first = first; frame_limit = frames }
-
 -- its names are text, and its numbers are in their ranges
 abbrev pub IsRequestInRange : Request → Type 0
 IsRequestInRange (Check name) = IsUtf8 name
 IsRequestInRange (Serve name to pace from live) = IsUtf8 name × (from ≤ 1000000) × AreDifferent to
-IsRequestInRange (Receive (Some addresses) window reach first frames idle limit) = AreInRange (options_of window reach first frames idle limit) × AreListed addresses
-IsRequestInRange (Receive None window reach first frames idle limit) = AreInRange (options_of window reach first frames idle limit)
-IsRequestInRange (Count address window reach first frames idle limit) = AreInRange (options_of window reach first frames idle limit)
+IsRequestInRange (Receive (Some addresses) window reach first frames idle limit) = AreInRange (receive_options window reach first frames idle limit) × AreListed addresses
+IsRequestInRange (Receive None window reach first frames idle limit) = AreInRange (receive_options window reach first frames idle limit)
+IsRequestInRange (Count address window reach first frames idle limit) = AreInRange (receive_options window reach first frames idle limit)
 IsRequestInRange (Air name script window) = IsUtf8 name × IsUtf8 script × (1 ≤ window) × (window ≤ 64)
 IsRequestInRange (Exercise n) = (1 ≤ n) × (n ≤ 1000)
-IsRequestInRange (Convert carry window reach first frames) = CarryFits carry × IsWithinLimits (range_of window reach first frames)
-IsRequestInRange (Gate from to carry window reach first frames idle limit) = CarryFits carry × AreInRange (options_of window reach first frames idle limit) × AreListed to
+IsRequestInRange (Convert carry window reach first frames) = CarryFits carry × IsWithinLimits (packet_range window reach first frames)
+IsRequestInRange (Gate from to carry window reach first frames idle limit) = CarryFits carry × AreInRange (receive_options window reach first frames idle limit) × AreListed to
 IsRequestInRange (Pack pid length) = (pid < 4) × (1 ≤ length)
-IsRequestInRange (Unpack stream pid length window reach first frames) = (stream < 4) × (pid < 4) × (1 ≤ length) × IsWithinLimits (range_of window reach first frames)
-IsRequestInRange (Texts stream window reach first frames) = (stream < 4) × IsWithinLimits (range_of window reach first frames)
+IsRequestInRange (Unpack stream pid length window reach first frames) = (stream < 4) × (pid < 4) × (1 ≤ length) × IsWithinLimits (packet_range window reach first frames)
+IsRequestInRange (Texts stream window reach first frames) = (stream < 4) × IsWithinLimits (packet_range window reach first frames)
 IsRequestInRange _ = Unit {0}

@@ -1,7 +1,7 @@
 //! What a command takes of its request.
 
 ghost use Rattle.std.specs.Prelude.{◌≡◌, IsUtf8};
-ghost use Rattle.drm_top.specs.Words as words;
+ghost use Rattle.recv_reading.specs.Values.{receive_options, packet_range};
 
 use drm_bits::Octets;
 use recv_reading::{PacketRange, ReceiveOptions};
@@ -15,7 +15,7 @@ pub(crate) fn options_of(
     idle: u32,
     limit: u32,
 ) -> ReceiveOptions
-    ensures { result ≡ words.options_of window reach first frames idle limit }
+    ensures { result ≡ receive_options window reach first frames idle limit }
 {
     ReceiveOptions {
         window,
@@ -34,7 +34,7 @@ pub(crate) fn range_of(
     first: Option<u16>,
     frames: Option<u64>,
 ) -> PacketRange
-    ensures { result ≡ words.range_of window reach first frames }
+    ensures { result ≡ packet_range window reach first frames }
 {
     PacketRange {
         window,

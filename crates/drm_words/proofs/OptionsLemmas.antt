@@ -188,12 +188,12 @@ module _ (options : CommandOptions) where
       let reach = stepped (reach_of options) _ s window.rest in
       let first = stepped (first_of options) _ s reach.rest in
       let frames = stepped (frames_of options) _ s first.rest in
-      subst (λ (x : PacketOptions). IsStretch options x.window x.reach x.first x.frames) (same_Some (record { window = window.value; reach = reach.value; first = first.value; frames = frames.value }) s frames.rest)
+      subst (λ (x : PacketOptions). IsStretch options x.window x.reach x.first x.frames) (same_Some _ s frames.rest)
       (record { has_window = window_fits window.value window.is; has_reach = reach_fits reach.value reach.is; has_first = first_fits first.value first.is; has_frames = frames_fit frames.value frames.is })
 
-  pub stretch_is : (window reach : ℕ) (first frames : Option ℕ) → IsStretch options window reach first frames → packets_of options ≡ Some (record { window = window; reach = reach; first = first; frames = frames })
+  pub stretch_is : (s : PacketOptions) → IsStretch options s.window s.reach s.first s.frames → packets_of options ≡ Some s
   unfolding packets_of
-  stretch_is window reach first frames h = rw (window_is window h.has_window, reach_is reach h.has_reach, first_is first h.has_first, frames_are frames h.has_frames) refl
+  stretch_is s h = rw (window_is s.window h.has_window, reach_is s.reach h.has_reach, first_is s.first h.has_first, frames_are s.frames h.has_frames) refl
 
   pub reading_fits : (r : ReadingOptions) → reading_of options ≡ Some r → IsReading options r.packets.window r.packets.reach r.packets.first r.packets.frames r.idle r.limit
   unfolding reading_of
@@ -205,10 +205,9 @@ module _ (options : CommandOptions) where
       (same_Some (record { packets = packets.value; idle = idle.value; limit = limit.value }) r limit.rest)
       (record { packets = stretch_fits packets.value packets.is; has_idle = idle_fits idle.value idle.is; has_limit = limit_fits limit.value limit.is })
 
-  pub reading_is : (window reach : ℕ) (first frames : Option ℕ) (idle limit : ℕ) → IsReading options window reach first frames idle limit
-      → reading_of options ≡ Some (record { packets = record { window = window; reach = reach; first = first; frames = frames }; idle = idle; limit = limit })
+  pub reading_is : (r : ReadingOptions) → IsReading options r.packets.window r.packets.reach r.packets.first r.packets.frames r.idle r.limit → reading_of options ≡ Some r
   unfolding reading_of
-  reading_is window reach first frames idle limit h = rw (stretch_is window reach first frames h.packets, idle_is idle h.has_idle, limit_is limit h.has_limit) refl
+  reading_is r h = rw (stretch_is r.packets h.packets, idle_is r.idle h.has_idle, limit_is r.limit h.has_limit) refl
 
   pub pace_fits : (n : ℕ) → pace_of options ≡ Some n → IsNumberOr 0 0 10000 (value_of (codes "pace") options) n
   unfolding pace_of

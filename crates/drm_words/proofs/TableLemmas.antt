@@ -16,7 +16,7 @@ use Rattle.cli_syntax.specs.Addressing.{address_of, addresses_of, carry_of}
 use Rattle.drm_words.specs.declared.options.PacketOptions.{PacketOptions}
 use Rattle.drm_words.specs.declared.options.ReadingOptions.{ReadingOptions}
 use Rattle.drm_words.specs.Table.{CommandOptions, AreOf, IsRequest, serve_names, packet_names, reading_names}
-use Rattle.drm_words.specs.Asking.{addresses_or_none, address_or_none, window_of, packets_of, reading_of, pace_of, from_of, to_of, live_option, is_bare, bare_of, check_of, serve_asked, serve_of, receive_with, receive_of, count_with, count_of, air_with, air_of, convert_with, convert_of, exercise_with, exercise_of, gate_with, gate_of, pack_with, pack_of, unpack_with, unpack_of, texts_with, texts_of, request_of}
+use Rattle.drm_words.specs.Asking.{addresses_or_none, address_or_none, window_of, packets_of, reading_of, pace_of, from_of, to_of, live_option, is_bare, bare_of, check_of, serve_asked, serve_of, receive_with, receive_of, count_with, count_of, air_with, air_of, convert_with, convert_of, exercise_with, exercise_of, gate_with, gate_of, pack_with, pack_of, unpack_with, unpack_of, texts_with, texts_of, request_of, asked_packets, asked_reading}
 use Rattle.cli_syntax.proofs.OptionLemmas.{stepped}
 use Rattle.cli_syntax.proofs.NumberLemmas.{within_fits, within_is}
 use Rattle.cli_syntax.proofs.CarryLemmas.{carry_fits, carry_is}
@@ -238,13 +238,13 @@ receive_is : (addresses : Option (List Address)) (window reach : ℕ) (first fra
     → IsRequest (Receive addresses window reach first frames idle limit) (codes "receive") texts options → receive_of texts options ≡ Some (Receive addresses window reach first frames idle limit)
 unfolding receive_of
 receive_is addresses window reach first frames idle limit texts options h =
-    with_is reading_names options _ h.2 ∙ rw (addresses_or_none_are texts addresses h.1, reading_is options window reach first frames idle limit h.3) refl
+    with_is reading_names options _ h.2 ∙ rw (addresses_or_none_are texts addresses h.1, reading_is options (asked_reading window reach first frames idle limit) h.3) refl
 
 count_is : (address : Option Address) (window reach : ℕ) (first frames : Option ℕ) (idle limit : ℕ) (texts : List (List ℕ)) (options : CommandOptions)
     → IsRequest (Count address window reach first frames idle limit) (codes "count") texts options → count_of texts options ≡ Some (Count address window reach first frames idle limit)
 unfolding count_of
 count_is address window reach first frames idle limit texts options h =
-    with_is reading_names options _ h.2 ∙ rw (address_or_none_is texts address h.1, reading_is options window reach first frames idle limit h.3) refl
+    with_is reading_names options _ h.2 ∙ rw (address_or_none_is texts address h.1, reading_is options (asked_reading window reach first frames idle limit) h.3) refl
 
 air_is : (name script : List ℕ) (window : ℕ) (texts : List (List ℕ)) (options : CommandOptions) → IsRequest (Air name script window) (codes "air") texts options → air_of texts options ≡ Some (Air name script window)
 unfolding air_of
@@ -255,7 +255,7 @@ convert_is : (carry : Carry) (window reach : ℕ) (first frames : Option ℕ) (t
     → IsRequest (Convert carry window reach first frames) (codes "convert") texts options → convert_of texts options ≡ Some (Convert carry window reach first frames)
 unfolding convert_of
 convert_is carry window reach first frames texts options h =
-    rw h.2 (with_is packet_names options (convert_with h.1 options) h.4 ∙ rw (carry_is h.1 carry h.3, stretch_is options window reach first frames h.5) refl)
+    rw h.2 (with_is packet_names options (convert_with h.1 options) h.4 ∙ rw (carry_is h.1 carry h.3, stretch_is options (asked_packets window reach first frames) h.5) refl)
 
 exercise_is : (n : ℕ) (texts : List (List ℕ)) (options : CommandOptions) → IsRequest (Exercise n) (codes "exercise") texts options → exercise_of texts options ≡ Some (Exercise n)
 unfolding exercise_of
@@ -266,7 +266,7 @@ gate_is : (from : Address) (to : List Address) (carry : Carry) (window reach : �
 unfolding gate_of
 gate_is from to carry window reach first frames idle limit texts options h =
     rw h.4 (with_is reading_names options (option_and_then (λ to. gate_with h.1 to h.3 options) (addresses_of h.2)) h.8
-    ∙ rw (addresses_are h.2 to h.6, address_is h.1 from h.5, carry_is h.3 carry h.7, reading_is options window reach first frames idle limit h.9) refl)
+    ∙ rw (addresses_are h.2 to h.6, address_is h.1 from h.5, carry_is h.3 carry h.7, reading_is options (asked_reading window reach first frames idle limit) h.9) refl)
 
 pack_is : (pid length : ℕ) (texts : List (List ℕ)) (options : CommandOptions) → IsRequest (Pack pid length) (codes "pack") texts options → pack_of texts options ≡ Some (Pack pid length)
 unfolding pack_of
@@ -278,13 +278,13 @@ unpack_is : (stream pid length window reach : ℕ) (first frames : Option ℕ) (
 unfolding unpack_of
 unpack_is stream pid length window reach first frames texts options h =
     rw h.4 (with_is packet_names options (unpack_with h.1 h.2 h.3 options) h.8
-    ∙ rw (within_is 0 3 h.1 stream h.5, within_is 0 3 h.2 pid h.6, within_is 1 255 h.3 length h.7, stretch_is options window reach first frames h.9) refl)
+    ∙ rw (within_is 0 3 h.1 stream h.5, within_is 0 3 h.2 pid h.6, within_is 1 255 h.3 length h.7, stretch_is options (asked_packets window reach first frames) h.9) refl)
 
 texts_is : (stream window reach : ℕ) (first frames : Option ℕ) (texts : List (List ℕ)) (options : CommandOptions)
     → IsRequest (Texts stream window reach first frames) (codes "texts") texts options → texts_of texts options ≡ Some (Texts stream window reach first frames)
 unfolding texts_of
 texts_is stream window reach first frames texts options h =
-    rw h.2 (with_is packet_names options (texts_with h.1 options) h.4 ∙ rw (within_is 0 3 h.1 stream h.3, stretch_is options window reach first frames h.5) refl)
+    rw h.2 (with_is packet_names options (texts_with h.1 options) h.4 ∙ rw (within_is 0 3 h.1 stream h.3, stretch_is options (asked_packets window reach first frames) h.5) refl)
 
 pub request_is : (r : Request) (command : List ℕ) (texts : List (List ℕ)) (options : CommandOptions) → IsRequest r command texts options → request_of command texts options ≡ Some r
 unfolding request_of

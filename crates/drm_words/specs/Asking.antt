@@ -52,6 +52,14 @@ idle_of options = number_or 50 1 1000000 (value_of (codes "idle") options)
 unfoldable pub limit_of : CommandOptions → Option ℕ
 limit_of options = number_or 4294967295 1 4294967295 (value_of (codes "limit") options)
 
+-- which packets are received, by these numbers
+abbrev pub asked_packets : ℕ → ℕ → Option ℕ → Option ℕ → PacketOptions
+asked_packets window reach first frames = record { window = window; reach = reach; first = first; frames = frames }
+
+-- and when enough of them were
+abbrev pub asked_reading : ℕ → ℕ → Option ℕ → Option ℕ → ℕ → ℕ → ReadingOptions
+asked_reading window reach first frames idle limit = record { packets = asked_packets window reach first frames; idle = idle; limit = limit }
+
 -- what those tell that several commands share
 unfoldable pub packets_of : CommandOptions → Option PacketOptions
 packets_of options = do
@@ -59,7 +67,7 @@ packets_of options = do
   reach ← reach_of options
   first ← first_of options
   frames ← frames_of options
-  Some (record { window = window; reach = reach; first = first; frames = frames })
+  Some (asked_packets window reach first frames)
 
 unfoldable pub reading_of : CommandOptions → Option ReadingOptions
 reading_of options = do

@@ -13,17 +13,17 @@ use Rattle.law_paths.specs.Laws.{ReportsDeliveries, ReportsAll}
 
 pub reports_deliveries : Delivering → ItemLaws → ReportsDeliveries
 reports_deliveries law laws plan by first_frame arrivals received text clean schedule range followed r =
-    let (given, suit) = law plan by.window by.reach by.first by.frames first_frame arrivals received r.taken r.items r.steps r.after schedule range.some_window followed r.run r.feeds in
+    let (given, suit) = law plan by.window by.reach by.first by.frame_limit first_frame arrivals received r.taken r.items r.steps r.after schedule range.0 followed r.run r.feeds in
     let pairs = pairs_in arrivals in
     record {
       steps = r.steps;
       given = given;
-      in_time = gives_in_time laws plan by.window first_frame by.frames pairs r.steps schedule given;
+      in_time = gives_in_time laws plan by.window first_frame by.frame_limit pairs r.steps schedule given;
       printed = prints_frames laws plan r.steps;
-      switches = reports_switches laws plan by.window first_frame by.frames pairs r.steps schedule given;
+      switches = reports_switches laws plan by.window first_frame by.frame_limit pairs r.steps schedule given;
       many = length r.run.during;
       before_the_end = (r.taken, r.run.during, r.run.mid, r.run.steps, refl);
-      text_is = r.text_is ∙ ap (λ l. report 1 r.steps l (word_for by.frames (length r.run.during))) (foreign_noted 0 arrivals r.taken suit);
+      text_is = r.text_is ∙ ap (λ l. report 1 r.steps l (word_for by.frame_limit (length r.run.during))) (foreign_noted 0 arrivals r.taken suit);
       clean_is = r.clean_is;
     }
 
@@ -38,5 +38,5 @@ served_clean plan first_frame steps all = all_given steps (λ q step at. let (t,
 pub reports_all : AllFrames → ReportsDeliveries → ReportsAll
 reports_all law reported plan by arrivals received text clean schedule range known followed in_time r =
     let reports = reported plan by (pos 0) arrivals received text clean schedule range followed r in
-    let (count, all) = law plan by.window by.reach by.frames arrivals received by.first reports.steps schedule known followed in_time reports.given in
+    let (count, all) = law plan by.window by.reach by.frame_limit arrivals received by.first reports.steps schedule known followed in_time reports.given in
     record { reports = reports; count = count; all = all; nothing_missing = reports.clean_is ∙ served_clean plan (pos 0) reports.steps all }

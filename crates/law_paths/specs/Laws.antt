@@ -12,8 +12,9 @@ use Rattle.law_delivery.specs.Sent.{Arrival, IsArrival, AreFar, pairs_in, IsDeli
 use Rattle.law_delivery.specs.Given.{AreGiven, AreAllServed}
 use Rattle.recv_report.specs.Headline.{GivesInTime, PrintsFrames, ReportsSwitches, foreign_datagrams}
 use Rattle.report_text.specs.Reports.{report, is_clean}
-use Rattle.report_journal.specs.declared.options.JournalOptions.{JournalOptions}
-use Rattle.report_journal.specs.Journal.{AreInRange, datagrams}
+use Rattle.recv_reading.specs.declared.options.PacketRange.{PacketRange}
+use Rattle.recv_reading.specs.Options.{IsWithinLimits}
+use Rattle.report_journal.specs.Journal.{datagrams}
 use Rattle.report_journal.specs.Report.{word_for, IsReportOf}
 use Rattle.drm_paths.specs.State.{AreNumbered}
 use Rattle.drm_paths.specs.Closing.{of_path}
@@ -21,31 +22,31 @@ use Rattle.drm_paths.specs.Closing.{of_path}
 -- ---- the report
 
 -- A new collector that takes these datagrams, and gives all that is ready after each, has given so many items.
-abbrev pub HasGiven : JournalOptions → List (List ℕ) → ℕ → Type 0
+abbrev pub HasGiven : PacketRange → List (List ℕ) → ℕ → Type 0
 HasGiven by received many = (taken : List Taken) × (items : List CollectorItem) × (mid : CollectorState) × CollectorSteps (made by.window by.reach by.first) received taken items mid × (length items ≡ many)
 
 -- The text is the report of what a delivery of a schedule calls for: of what was refused it names the foreign datagrams, and last it says
 -- whether the told number of frames was given before all paths had ended.
-pub record ReportsDelivery (plan : Plan) (by : JournalOptions) (first_frame : ℤ) (arrivals : List Arrival) (received : List (List ℕ)) (text : List ℕ) (clean : Bool) : Type 0 where
+pub record ReportsDelivery (plan : Plan) (by : PacketRange) (first_frame : ℤ) (arrivals : List Arrival) (received : List (List ℕ)) (text : List ℕ) (clean : Bool) : Type 0 where
   pub steps : List FeedStep
-  pub given : AreGiven plan by.window first_frame by.frames (pairs_in arrivals) steps
+  pub given : AreGiven plan by.window first_frame by.frame_limit (pairs_in arrivals) steps
   pub in_time : GivesInTime plan by.window first_frame (pairs_in arrivals) steps
   pub printed : PrintsFrames plan steps
   pub switches : ReportsSwitches plan first_frame steps
   pub many : ℕ
   pub before_the_end : HasGiven by received many
-  pub text_is : text ≡ report 1 steps (foreign_datagrams arrivals) (word_for by.frames many)
+  pub text_is : text ≡ report 1 steps (foreign_datagrams arrivals) (word_for by.frame_limit many)
   pub clean_is : clean ≡ is_clean steps
 
 -- Whatever delivery of whatever valid schedule came over the paths: their report is that of what it calls for.
 abbrev pub ReportsDeliveries : Type 0
 ReportsDeliveries =
-    (plan : Plan) (by : JournalOptions) (first_frame : ℤ) (arrivals : List Arrival) (received : List (List ℕ)) (text : List ℕ) (clean : Bool)
-    → IsSchedule plan → AreInRange by → IsDeliveryOf plan by.reach by.first first_frame arrivals received → IsReportOf by received text clean
+    (plan : Plan) (by : PacketRange) (first_frame : ℤ) (arrivals : List Arrival) (received : List (List ℕ)) (text : List ℕ) (clean : Bool)
+    → IsSchedule plan → IsWithinLimits by → IsDeliveryOf plan by.reach by.first first_frame arrivals received → IsReportOf by received text clean
     → ReportsDelivery plan by first_frame arrivals received text clean
 
 -- It is the report of all frames of the schedule, each the server's, and nothing is missing.
-pub record ReportsAllFrames (plan : Plan) (by : JournalOptions) (arrivals : List Arrival) (received : List (List ℕ)) (text : List ℕ) (clean : Bool) : Type 0 where
+pub record ReportsAllFrames (plan : Plan) (by : PacketRange) (arrivals : List Arrival) (received : List (List ℕ)) (text : List ℕ) (clean : Bool) : Type 0 where
   pub reports : ReportsDelivery plan by (pos 0) arrivals received text clean
   pub count : length reports.steps ≡ frame_count plan
   pub all : AreAllServed plan (pos 0) reports.steps
@@ -55,8 +56,8 @@ pub record ReportsAllFrames (plan : Plan) (by : JournalOptions) (arrivals : List
 -- whether their number is told or not.
 abbrev pub ReportsAll : Type 0
 ReportsAll =
-    (plan : Plan) (by : JournalOptions) (arrivals : List Arrival) (received : List (List ℕ)) (text : List ℕ) (clean : Bool)
-    → IsSchedule plan → AreInRange by → (by.frames ≡ None) ⊎ (by.frames ≡ Some (frame_count plan))
+    (plan : Plan) (by : PacketRange) (arrivals : List Arrival) (received : List (List ℕ)) (text : List ℕ) (clean : Bool)
+    → IsSchedule plan → IsWithinLimits by → (by.frame_limit ≡ None) ⊎ (by.frame_limit ≡ Some (frame_count plan))
     → IsDeliveryOf plan by.reach by.first (pos 0) arrivals received
     → ((q : ℕ) → q < frame_count plan → IsInTime plan by.window (pos 0) (pairs_in arrivals) q)
     → IsReportOf by received text clean → ReportsAllFrames plan by arrivals received text clean

@@ -4,8 +4,8 @@
 //! reconfiguration or the resumption that stands there.
 //!
 //! Packets come from `dcp_collect`, AF packets are read by `dcp_af`, frames by `mdi_items`; where a
-//! reconfiguration stands is decided by `drm_reconfiguration`. `recv_report`, `report_journal`,
-//! `cmd_count` and `cmd_unpack` make their frames with it; `report_text` prints them.
+//! reconfiguration stands is decided by `drm_reconfiguration`. `recv_report`, `report_journal` and
+//! `cmd_unpack` make their frames with it; `report_text` prints them.
 //!
 //! No datagram is here and no text: see `dcp_collect` and `report_text`. Nothing is modulated.
 //!

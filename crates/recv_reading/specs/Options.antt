@@ -4,6 +4,7 @@ use Rattle.dcp_collect.specs.CollectorState.{CollectorState}
 use Rattle.recv_reading.specs.declared.options.ReceiveOptions.{ReceiveOptions}
 use Rattle.recv_reading.specs.declared.options.PacketRange.{PacketRange}
 use Rattle.recv_reading.specs.declared.options.Bounds.{Bounds}
+use Rattle.recv_reading.specs.Values.{receive_options}
 
 -- each number is in the range that a command line has for it
 pub record AreInRange (options : ReceiveOptions) : Type 0 where
@@ -32,7 +33,7 @@ bounds_of options = record { frames = options.frames; idle = options.idle; limit
 
 -- the options of a reading with this new collector
 abbrev pub options_of : CollectorState → Bounds → ReceiveOptions
-options_of c bounds = record { window = c.window; reach = c.reach; first = c.first; frames = bounds.frames; idle = bounds.idle; limit = bounds.limit }
+options_of c bounds = receive_options c.window c.reach c.first bounds.frames bounds.idle bounds.limit
 
 -- the window and the number of frames, where it is given, are in the ranges that a command line has for them
 abbrev pub IsWithinLimits : PacketRange → Type 0
@@ -40,4 +41,4 @@ IsWithinLimits range = (1 ≤ range.window) × (range.window ≤ 64) × IfSome r
 
 -- those of a reading that ends with its capture, which has fewer packets than that, or by the number of frames
 abbrev pub capture_options : PacketRange → ReceiveOptions
-capture_options range = record { window = range.window; reach = range.reach; first = range.first; frames = range.frame_limit; idle = 1; limit = 2 ^ 61 }
+capture_options range = receive_options range.window range.reach range.first range.frame_limit 1 (2 ^ 61)

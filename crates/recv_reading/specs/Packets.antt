@@ -11,11 +11,12 @@ use Rattle.capture_reader.specs.Walking.{WalkerState}
 use Rattle.capture_reader.specs.Reading.{HasRead}
 use Rattle.recv_reading.specs.declared.options.ReceiveOptions.{ReceiveOptions}
 use Rattle.recv_reading.specs.declared.options.PacketRange.{PacketRange}
+use Rattle.recv_reading.specs.Values.{packet_range}
 use Rattle.recv_reading.specs.State.{is_full}
 
 -- those of a reading that ends with its capture, or by the number of items
 abbrev pub range_of : ReceiveOptions → PacketRange
-range_of options = record { window = options.window; reach = options.reach; first = options.first; frame_limit = options.frames }
+range_of options = packet_range options.window options.reach options.first options.frames
 
 -- ---- which packets are read
 

@@ -4,12 +4,11 @@
 //! receives does it by this crate, and adds what it makes of each item.
 //!
 //! It stands on the collector (`dcp_collect`), the links (`drm_links`) and the captures
-//! (`capture_reader`). `recv_report`, `drm_gate`, `cmd_convert`, `cmd_count` and `cmd_unpack` read
-//! by it.
+//! (`capture_reader`). `recv_report`, `drm_gate`, `cmd_convert` and `cmd_unpack` read by it.
 //!
 //! It knows nothing of frames, reports or commands: frames are made of items by `mod_feed`, lines
-//! by `report_text`. `report_journal` has its datagrams handed to it, and uses the definitions
-//! alone.
+//! by `report_text`. `report_journal` has its datagrams handed to it, and uses the definitions and
+//! `PacketRange` alone.
 //!
 //! Begin with `Reading` in `src/reading.rt` and `Datagrams` in `src/source.rt`; `ReadingReached` in
 //! `specs/ReadingReached.antt` says how far a reading has come, `specs/Ending.antt` when it ends.

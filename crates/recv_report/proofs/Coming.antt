@@ -1,5 +1,5 @@
 -- A report grows, call by call.
-use Rattle.std.proofs.Common.{◌≡◌, ℕ, ◌+◌, ◌≤◌, inl, inr, true, List, [], ◌∷◌, ◌++◌, length, Option, None, Some, Ok, Err, refl, sym, ◌∙◌, ap, subst, arith, append_assoc}
+use Rattle.std.proofs.Common.{◌≡◌, ℕ, ◌+◌, inl, inr, true, List, [], ◌∷◌, ◌++◌, length, Option, None, Some, Ok, Err, refl, sym, ◌∙◌, ap, subst, append_assoc}
 use Rattle.std.proofs.lemmas.List.{append-nil}
 use Rattle.recv_reading.proofs.Common.{Known, Answer, Failed, Output, OutputsText, IsPrefix, IsPrefixBehind, Taken, CollectorState, CollectorItem}
 use Rattle.recv_reading.proofs.Common.{ReadingState, has_ended, word_of, ReadingReached, ReadingWaits, ReadsOn}
@@ -13,13 +13,14 @@ use Rattle.recv_reading.specs.declared.source.SourceFault.{SourceFault}
 use Rattle.recv_reading.specs.State.{one_given}
 use Rattle.recv_reading.proofs.Reaching.{one_more_few}
 use Rattle.recv_reading.proofs.Finishing.{IsOver, finishes, gives_some, all_given, answers_many}
-use Rattle.report_text.specs.Reports.{steps_text, refusals}
-use Rattle.report_text.specs.Tallies.{TallyContents, new_tally, counted, noted, items_in, tally_of}
+use Rattle.report_text.specs.Reports.{steps_text}
+use Rattle.report_text.specs.Tallies.{TallyContents, new_tally, counted, noted, items_in, tally_of, totals_in}
+use Rattle.report_text.specs.Totals.{answered}
 use Rattle.recv_reading.proofs.Looping.{Loop, with_answer, loop_given, loop_on}
 use Rattle.recv_report.specs.Progress.{AreOut, HasPrinted, noted_if, WroteItems, ReadsBroken, ReadsPrefix}
 use Rattle.report_text.proofs.StepLemmas.{one_more, one_text, text_more}
 use Rattle.report_text.proofs.TakenLemmas.{noted_items}
-use Rattle.report_text.proofs.CountLemmas.{steps_counted, answer_noted, refusals_few}
+use Rattle.report_text.proofs.CountLemmas.{steps_counted, answer_noted, all_answered}
 
 -- nothing came yet
 pub none_printed : (a : Known Output) (c : CollectorState) (f : TrackerState) (t : TallyContents) (lines : List ℕ) → c.next ≡ 0 → f ≡ new_tracker → t ≡ new_tally → lines ≡ [] → HasPrinted a a f t lines [] [] [] c
@@ -75,11 +76,8 @@ module _ (options : ReceiveOptions) (so_far : List Answer → Type 0) (a b : Kno
   many_taken : length p.taken ≡ r.taken
   many_taken = answers_many options p.answers p.taken p.during p.more r c p.reached ∙ p.reached.taken_are
 
-  pub few_refused : t.sums.refused ≤ r.taken
-  few_refused =
-      let e : t.sums.refused ≡ length (refusals p.taken) = ap (λ (u : TallyContents). u.sums.refused) p.has.tally in
-      let l : length (refusals p.taken) ≤ length p.taken = refusals_few 0 p.taken in
-      omega (arith, e, l, many_taken)
+  pub many_answered : answered (totals_in t) ≡ r.taken
+  many_answered = ap (λ (u : TallyContents). answered (totals_in u)) p.has.tally ∙ all_answered (p.has.earlier ++ p.has.later) p.taken ∙ many_taken
 
   all_fed : FeedAnswers new_tracker (p.during ++ p.more) (p.has.earlier ++ p.has.later) f
   all_fed = feedings_join new_tracker p.has.mid f p.during p.more p.has.earlier p.has.later p.has.before p.has.since

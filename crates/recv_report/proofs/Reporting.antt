@@ -1,5 +1,5 @@
 -- A whole report, and fronts of one.
-use Rattle.std.proofs.Common.{◌≡◌, ℕ, ◌≤◌, inl, inr, Bool, IsTrue, ◌↔◌, List, [], ◌++◌, refl, sym, subst, arith, append_assoc}
+use Rattle.std.proofs.Common.{◌≡◌, ℕ, ◌≤◌, inl, inr, Bool, List, [], ◌++◌, refl, sym, ◌∙◌, ap, subst, arith, append_assoc}
 use Rattle.circular_buffer.specs.Buffer.{keep_last}
 use Rattle.recv_reading.proofs.Common.{Known, Answer, Output, OutputsText, IsPrefix, IsPrefixBehind, Taken, made, datagrams}
 use Rattle.recv_reading.specs.declared.reason.EndWord.{EndWord}
@@ -13,13 +13,15 @@ use Rattle.recv_reading.specs.declared.source.SourceFault.{SourceFault}
 use Rattle.recv_report.specs.declared.reading.ReceiveFault.{ReceiveFault}
 use Rattle.recv_report.specs.declared.reading.ReceiveFault.TheVariants as fault
 use Rattle.report_text.specs.Reports.{refusals, refused_text, steps_text, sums_of, report, is_clean}
-use Rattle.report_text.specs.Tallies.{TallyContents}
-use Rattle.recv_report.specs.Received.{IsReport, IsReportPrefix, ReportWritten, ReportBroken, ReportStopped}
+use Rattle.report_text.specs.Tallies.{TallyContents, totals_in}
+use Rattle.report_text.specs.Totals.{totals_of, answered, are_clean}
+use Rattle.recv_report.specs.Received.{IsReport, IsReportPrefix, ReportCounted, ReportBroken, ReportStopped}
 use Rattle.recv_report.specs.Progress.{WroteItems, ReadsBroken, ReadsPrefix, StopsReading, StopsReport}
 use Rattle.recv_reading.proofs.AtOnce.{few_given}
 use Rattle.recv_reading.proofs.Going.{goes_none}
+use Rattle.recv_reading.proofs.Giving.{steps_many}
 use Rattle.report_text.proofs.RefusalLemmas.{AreReportable}
-use Rattle.report_text.proofs.CountLemmas.{refusals_reportable, last_reportable, clean_is}
+use Rattle.report_text.proofs.CountLemmas.{refusals_reportable, last_reportable, all_answered, totals_clean}
 use Rattle.report_text.proofs.StepLemmas.{front_further}
 
 -- ---- all items were written
@@ -34,9 +36,9 @@ read_reportable options so_far a b t word w =
 abbrev tail_of : List FeedStep → List Taken → EndWord → List ℕ
 tail_of steps taken word = refused_text (keep_last 16 (refusals taken)) ++ end_line word (sums_of steps (refusals taken))
 
-report_of : (rules : ReceiveOptions) (feed : ℕ) (hears : List Answer → Type 0) (a b : Known Output) (t : TallyContents) (word : EndWord) (w : WroteItems rules hears a b t word)
-    → IsReport rules feed w.answers (report feed w.steps (refusals w.taken) word) (is_clean w.steps)
-report_of rules feed hears a b t word w = record {
+abbrev report_of : (rules : ReceiveOptions) (feed : ℕ) (hears : List Answer → Type 0) (a b : Known Output) (t : TallyContents) (word : EndWord) (w : WroteItems rules hears a b t word) (clean : Bool) → clean ≡ is_clean w.steps
+    → IsReport rules feed w.answers (report feed w.steps (refusals w.taken) word) clean
+report_of rules feed hears a b t word w clean is = record {
   word = word;
   reading = w.reading;
   taken = w.taken;
@@ -46,25 +48,30 @@ report_of rules feed hears a b t word w = record {
   after = w.last;
   feeds = w.feeds;
   text_is = refl;
-  clean_is = refl;
+  clean_is = is;
 }
 
-pub reported : (rules : ReceiveOptions) (some : 1 ≤ rules.window) (feed : ℕ) (hears : List Answer → Type 0) (a0 a b d e : Known Output) (t : TallyContents) (word : EndWord) (clean : Bool)
+pub reported : (rules : ReceiveOptions) (some : 1 ≤ rules.window) (feed : ℕ) (hears : List Answer → Type 0) (a0 a b d e : Known Output) (t : TallyContents) (word : EndWord)
     → OutputsText a0 a (λ x. x ≡ feed_line feed) → WroteItems rules hears a b t word → OutputsText b d (λ x. x ≡ refused_text t.refused) → OutputsText d e (λ x. x ≡ end_line word t.sums)
-    → IsTrue clean ↔ ((t.sums.missing ≡ 0) × (t.sums.bad ≡ 0)) → ReportWritten rules feed hears a0 e clean
-reported rules some feed hears a0 a b d e t word clean first w refused last is =
+    → ReportCounted rules feed hears a0 e (totals_in t)
+reported rules some feed hears a0 a b d e t word first w refused last =
     let refused' : OutputsText b d (λ x. x ≡ refused_text (keep_last 16 (refusals w.taken))) = subst (λ (u : TallyContents). OutputsText b d (λ x. x ≡ refused_text u.refused)) w.tally refused in
     let last' : OutputsText d e (λ x. x ≡ end_line word (sums_of w.steps (refusals w.taken))) = subst (λ (u : TallyContents). OutputsText d e (λ x. x ≡ end_line word u.sums)) w.tally last in
+    let are : totals_in t ≡ totals_of w.steps w.taken = ap totals_in w.tally in
     record {
-      answers = w.answers;
-      heard = w.heard;
-      few = w.few;
-      at_once = few_given rules w.answers some;
-      whole = report feed w.steps (refusals w.taken) word;
-      is = subst (λ b. IsReport rules feed w.answers (report feed w.steps (refusals w.taken) word) b) (sym (clean_is clean t w.steps w.taken is w.tally)) (report_of rules feed hears a b t word w);
-      text = subst (λ l. OutputsText a0 e (λ x. x ≡ l)) (append_assoc (feed_line feed) (steps_text w.steps) (tail_of w.steps w.taken word))
-          (text_then (feed_line feed ++ steps_text w.steps) (tail_of w.steps w.taken word) a0 b e (text_then (feed_line feed) (steps_text w.steps) a0 a b first w.text)
-          (text_then (refused_text (keep_last 16 (refusals w.taken))) (end_line word (sums_of w.steps (refusals w.taken))) b d e refused' last'));
+      written = record {
+        answers = w.answers;
+        heard = w.heard;
+        few = w.few;
+        at_once = few_given rules w.answers some;
+        whole = report feed w.steps (refusals w.taken) word;
+        is = report_of rules feed hears a b t word w (are_clean (totals_in t)) (totals_clean t w.steps w.taken w.tally);
+        text = subst (λ l. OutputsText a0 e (λ x. x ≡ l)) (append_assoc (feed_line feed) (steps_text w.steps) (tail_of w.steps w.taken word))
+            (text_then (feed_line feed ++ steps_text w.steps) (tail_of w.steps w.taken word) a0 b e (text_then (feed_line feed) (steps_text w.steps) a0 a b first w.text)
+            (text_then (refused_text (keep_last 16 (refusals w.taken))) (end_line word (sums_of w.steps (refusals w.taken))) b d e refused' last'));
+      };
+      are = are;
+      all = ap answered are ∙ all_answered w.steps w.taken ∙ steps_many (made rules.window rules.reach rules.first) w.run.mid (datagrams w.answers) w.taken w.run.during w.run.steps;
     }
 
 -- ---- where it stops
@@ -72,7 +79,6 @@ reported rules some feed hears a0 a b d e t word clean first w refused last is =
 -- a front of the whole report was written
 front_of_whole : (rules : ReceiveOptions) (some : 1 ≤ rules.window) (feed : ℕ) (hears : List Answer → Type 0) (a0 a b e : Known Output) (t : TallyContents) (word : EndWord)
     → OutputsText a0 a (λ x. x ≡ feed_line feed) → (w : WroteItems rules hears a b t word) → OutputsText b e (IsPrefix (tail_of w.steps w.taken word)) → ReportStopped rules feed hears a0 e
-unfolding report_of
 front_of_whole rules some feed hears a0 a b e t word first w tail = record {
   answers = w.answers;
   heard = w.heard;
@@ -84,7 +90,7 @@ front_of_whole rules some feed hears a0 a b e t word first w tail = record {
       (λ x f. inr (inr (
         report feed w.steps (refusals w.taken) word,
         is_clean w.steps,
-        report_of rules feed hears a b t word w,
+        report_of rules feed hears a b t word w (is_clean w.steps) refl,
         tail_of w.steps w.taken word,
         sym (append_assoc (feed_line feed) (steps_text w.steps) (tail_of w.steps w.taken word)),
         f,

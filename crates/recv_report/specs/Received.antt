@@ -1,5 +1,5 @@
 -- What a receiver does.
-use Rattle.std.specs.Prelude.{ℕ, ◌≡◌, ◌≤◌, ◌<◌, ◌⊎◌, Bool, IfSome, List, [], ◌++◌, length}
+use Rattle.std.specs.Prelude.{ℕ, ◌≡◌, ◌≤◌, ◌<◌, ◌⊎◌, Bool, IfSome, List, [], ◌++◌, length, Result, Ok, Err}
 use Rattle.drm_links.specs.Known.{Known}
 use Rattle.drm_links.specs.Link.{Answer, Traffic}
 use Rattle.drm_links.specs.Sink.{Output, OutputsText, IsPrefix, IsPrefixBehind}
@@ -12,11 +12,16 @@ use Rattle.recv_reading.specs.declared.reason.EndWord.{EndWord}
 use Rattle.report_text.specs.Report.{feed_line}
 use Rattle.drm_links.specs.Hearing.{LinkHeard}
 use Rattle.recv_reading.specs.declared.options.ReceiveOptions.{ReceiveOptions}
+use Rattle.recv_reading.specs.Values.{receive_options}
 use Rattle.recv_reading.specs.Ending.{datagrams, CollectorGave, FewAtOnce, ReadingGoesOn, IsFinished, IsReadingBroken, most_answers, GivesSome}
 use Rattle.report_text.specs.Reports.{refusals, steps_text, report, is_clean}
+use Rattle.report_text.specs.Totals.{totals_of, answered, are_clean}
+use Rattle.report_text.specs.declared.totals.Totals.{Totals}
 use Rattle.recv_report.specs.declared.one_receiver.Options.{Options}
 use Rattle.recv_report.specs.declared.one_receiver.Ended.{Ended}
 use Rattle.recv_report.specs.declared.one_receiver.Ended.TheVariants.{Done, LinkFailed, WriteFailed, NoMemory}
+use Rattle.recv_report.specs.declared.stop.ReceiveError.{ReceiveError}
+use Rattle.recv_report.specs.declared.stop.ReceiveError.TheVariants as errors
 
 -- The report of these answers: the shortest that are finished, what a new collector and a new feed give of their datagrams,
 -- and why they end.
@@ -76,6 +81,13 @@ pub record ReportWritten (rules : ReceiveOptions) (feed : ℕ) (hears : List Ans
   pub is : IsReport rules feed answers whole clean
   pub text : OutputsText a b (λ text. text ≡ whole)
 
+-- The report was written, and these are its totals: the sums are those of its last line, and each datagram is counted once by what was
+-- answered to it.
+pub record ReportCounted (rules : ReceiveOptions) (feed : ℕ) (hears : List Answer → Type 0) (a b : Known Output) (totals : Totals) : Type 0 where
+  pub written : ReportWritten rules feed hears a b (are_clean totals)
+  pub are : totals ≡ totals_of written.is.steps written.is.taken
+  pub all : answered totals ≡ length (datagrams written.answers)
+
 -- The reading ended in `Failed`, and what was given before was written.
 pub record ReportBroken (rules : ReceiveOptions) (feed : ℕ) (hears : List Answer → Type 0) (a b : Known Output) : Type 0 where
   pub answers : List Answer
@@ -97,7 +109,7 @@ pub record ReportStopped (rules : ReceiveOptions) (feed : ℕ) (hears : List Ans
 
 -- what a call reads by: from its new collector and its options
 abbrev pub rules_of : CollectorState → Options → ReceiveOptions
-rules_of c options = record { window = c.window; reach = c.reach; first = c.first; frames = options.frames; idle = options.idle; limit = options.limit }
+rules_of c options = receive_options c.window c.reach c.first options.frames options.idle options.limit
 
 -- each number of the options is in its range
 pub record AreOptionsInRange (options : Options) : Type 0 where
@@ -113,6 +125,13 @@ ReceiverEndsAs rules feed before after a b (Done clean) = ReportWritten rules fe
 ReceiverEndsAs rules feed before after a b LinkFailed = ReportBroken rules feed (LinkHeard before after) a b
 ReceiverEndsAs rules feed before after a b WriteFailed = ReportStopped rules feed (LinkHeard before after) a b
 ReceiverEndsAs rules feed before after a b NoMemory = (after ≡ before) × (b ≡ a)
+
+-- and so with the totals of its report
+abbrev pub LinkReportEnds : ReceiveOptions → ℕ → Known Traffic → Known Traffic → Known Output → Known Output → Result Totals ReceiveError → Type 0
+LinkReportEnds rules feed before after a b (Ok totals) = ReportCounted rules feed (LinkHeard before after) a b totals
+LinkReportEnds rules feed before after a b (Err errors.Link) = ReportBroken rules feed (LinkHeard before after) a b
+LinkReportEnds rules feed before after a b (Err errors.Write) = ReportStopped rules feed (LinkHeard before after) a b
+LinkReportEnds rules feed before after a b (Err errors.NoMemory) = (after ≡ before) × (b ≡ a)
 
 -- where it is done, P holds of whether no item is missing or bad
 abbrev pub IfDone : (Bool → Type 0) → Ended → Type 0

@@ -14,6 +14,7 @@ use drm_bits::NoMemory;
 use drm_links::{Sink, Source};
 use mod_feed::Feed;
 use recv_reading::{ReceiveOptions, SourceFault};
+use report_text::Totals;
 use std::alloc::Global;
 
 /// Why the report of a capture isn't whole.
@@ -37,13 +38,13 @@ impl From<NoMemory> for CaptureReportError {
 }
 
 /// Takes all memory that it wants, reads the packets of a capture until it has read enough, and writes their report, which
-/// has the number 1. Answers whether no frame is missing or bad. An item is written as soon as it is ready.
+/// has the number 1. Answers the totals of what came. An item is written as soon as it is ready.
 pub fn receive_capture<I: Source, O: Sink>(
     alloc: Global,
     rules: &ReceiveOptions,
     input: &mut I,
     out: &mut O,
-) -> Result<bool, CaptureReportError>
+) -> Result<Totals, CaptureReportError>
     requires { AreInRange rules.now }
     ensures ended { EndsReceiving rules.now (I.known input.old) (I.known input.new)
         (O.known out.old) (O.known out.new) result }
@@ -65,7 +66,7 @@ pub fn receive_capture<I: Source, O: Sink>(
         input,
         out,
     ) {
-        Ok(clean) => Ok(clean),
+        Ok(totals) => Ok(totals),
         Err(ReceiveFault::Source(SourceFault::Capture(stop))) => Err(CaptureReportError::Stopped(
             stop,
         )),

@@ -6,7 +6,7 @@
 //!
 //! Datagrams are taken by `recv_reading`, items become frames by `mod_feed` and lines by
 //! `report_text`; deliveries and their laws are those of `law_delivery`. `cmd_receive` and
-//! `cmd_air` run receivers, `cmd_count` uses the definitions and laws.
+//! `cmd_air` run receivers.
 //!
 //! No link is opened here (see `cmd_receive`), and no option is read (see `drm_words`). One report
 //! over several links is made by `report_journal`.

@@ -5,8 +5,9 @@ ghost use Rattle.drm_links.specs.Known.{RisesWhere, HasCause};
 ghost use Rattle.dcp_collect.specs.CollectorState.{made, ready, after_item};
 ghost use Rattle.drm_reconfiguration.specs.Tracker.{new_tracker};
 ghost use Rattle.recv_reading.specs.Options.{AreUsable, options_of};
-ghost use Rattle.recv_report.specs.Received.{ReportWritten};
-ghost use Rattle.report_text.specs.Tallies.{new_tally, items_in};
+ghost use Rattle.recv_report.specs.Received.{ReportCounted};
+ghost use Rattle.report_text.specs.Tallies.{new_tally, items_in, totals_in};
+ghost use Rattle.report_text.specs.Totals.{answered};
 ghost use Rattle.recv_report.specs.Progress.{WritesNext, noted_if, WroteItems, StopsReading, StopsReport};
 ghost use Rattle.recv_report.specs.Faults.{IsCallFailed};
 ghost use Rattle.recv_report.specs.declared.reading.ReceiveFault.{ReceiveFault};
@@ -16,7 +17,7 @@ use drm_bits::NoMemory;
 use drm_links::{Sink, WriteFault};
 use mod_feed::Feed;
 use recv_reading::{Bounds, Datagrams, EndWord, Reading, SourceFault};
-use report_text::{LineWriter, ReportCounts, write_feed};
+use report_text::{LineWriter, ReportCounts, Totals, write_feed};
 use std::alloc::Global;
 
 /// Why a report isn't whole.
@@ -62,7 +63,7 @@ impl From<NoMemory> for ReceiveFault {
 }
 
 /// Takes all memory that it wants, reads until it has read enough, and writes the report of what came, which has this number.
-/// Collector and feed are new. Answers whether no frame is missing or bad.
+/// Collector and feed are new. Answers the totals of what came.
 pub(crate) fn write_report<F, R: Datagrams<F>, O: Sink>(
     alloc: Global,
     number: u8,
@@ -72,13 +73,13 @@ pub(crate) fn write_report<F, R: Datagrams<F>, O: Sink>(
     reader: &mut R,
     from: &mut F,
     out: &mut O,
-) -> Result<bool, ReceiveFault>
+) -> Result<Totals, ReceiveFault>
     requires options { AreUsable (options_of collector.old bounds) }
     requires collector { collector.old ≡ made collector.old.window collector.old.reach collector.old.first }
     requires feed { feed.old ≡ new_tracker }
     requires reader { R.is_ready reader.old }
     requires nothing_heard { R.so_far from.old reader.old from.old [] }
-    ensures finished { IfOk result (ReportWritten (options_of collector.old bounds) number (R.so_far from.old reader.new from.new) (O.known out.old) (O.known out.new)) }
+    ensures finished { IfOk result (ReportCounted (options_of collector.old bounds) number (R.so_far from.old reader.new from.new) (O.known out.old) (O.known out.new)) }
     ensures stopped { IfErr result (StopsReport (options_of collector.old bounds) number (R.so_far from.old reader.new from.new)
         (λ fault. R.until from.old fault from.new) (O.known out.old) (O.known out.new)) }
     ensures memory { result ≡ Err ReceiveFault.NoMemory → (from.new ≡ from.old) × (out.new ≡ out.old) }
@@ -103,7 +104,7 @@ fn write_lines<F, R: Datagrams<F>, O: Sink>(
     reader: &mut R,
     from: &mut F,
     out: &mut O,
-) -> Result<bool, ReceiveFault>
+) -> Result<Totals, ReceiveFault>
     requires options { AreUsable (options_of collector.old bounds) }
     requires collector { collector.old ≡ made collector.old.window collector.old.reach collector.old.first }
     requires feed { feed.old ≡ new_tracker }
@@ -111,7 +112,7 @@ fn write_lines<F, R: Datagrams<F>, O: Sink>(
     requires lines { lines.old ≡ [] }
     requires reader { R.is_ready reader.old }
     requires nothing_heard { R.so_far from.old reader.old from.old [] }
-    ensures finished { IfOk result (ReportWritten (options_of collector.old bounds) number (R.so_far from.old reader.new from.new) (O.known out.old) (O.known out.new)) }
+    ensures finished { IfOk result (ReportCounted (options_of collector.old bounds) number (R.so_far from.old reader.new from.new) (O.known out.old) (O.known out.new)) }
     ensures stopped { IfErr result (StopsReport (options_of collector.old bounds) number (R.so_far from.old reader.new from.new)
         (λ fault. R.until from.old fault from.new) (O.known out.old) (O.known out.new)) }
     ensures memory { result ≡ Err ReceiveFault.NoMemory → ⊥ }
@@ -122,7 +123,7 @@ fn write_lines<F, R: Datagrams<F>, O: Sink>(
     let word = read_all(bounds, collector, feed, tally, lines, reader, from, out)?;
     tally.write_refused(out)?;
     tally.write_end(out, word)?;
-    Ok(tally.is_clean())
+    Ok(tally.totals())
 }
 
 // Reads until no more is read, and answers why. Each item is given to the feed, counted, and its lines are written before the next
@@ -167,9 +168,9 @@ fn read_all<F, R: Datagrams<F>, O: Sink>(
     }
 }
 
-// Notes what was answered to the datagram with this number, if one came.
+// Counts what was answered to the datagram with this number, if one came.
 fn note(tally: &mut ReportCounts, number: u64, taken: Option<Taken>)
-    requires { tally.old.sums.refused < 2 ^ 62 }
+    requires { answered (totals_in tally.old) < 2 ^ 62 }
     ensures { tally.new ≡ noted_if tally.old number taken }
 {
     if let Some(taken) = taken {

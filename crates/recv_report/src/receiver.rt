@@ -1,20 +1,21 @@
 //! Receivers side by side.
 
-ghost use Rattle.std.specs.Prelude.{ℕ, ◌≡◌, ◌<◌, ◌≤◌, ◌↔◌, IsTrue, not, length, slice_index_or, All, IfOk};
+ghost use Rattle.std.specs.Prelude.{ℕ, ◌≡◌, ◌<◌, ◌≤◌, ◌↔◌, IsTrue, not, length, slice_index_or, All, IfOk, Err};
 ghost use Rattle.std.specs.List.{flat_map};
 ghost use Rattle.drm_links.specs.Known.{HasCause};
 ghost use Rattle.drm_links.specs.Sink.{WritesWhole};
 ghost use Rattle.recv_reading.specs.declared.options.ReceiveOptions.{ReceiveOptions};
 ghost use Rattle.recv_report.specs.Receivers.{IsSeat, IsReceiver, IsReceiverReady, HasReceiverEnded, IsReceiverDone, is_failed, clean_of, text_of, receiver_rules};
-ghost use Rattle.recv_report.specs.Received.{ReceiverEndsAs};
+ghost use Rattle.recv_report.specs.Received.{LinkReportEnds};
 
-use crate::one_receiver::{Ended, Options, receive_one};
+use crate::one_receiver::{Ended, Options, receive_one, report_link};
+use crate::stop::ReceiveError;
 use dcp_collect::Collector;
 use drm_bits::{NoMemory, zeros};
 use drm_links::{LONGEST_DATAGRAM, Link, Sink, WriteFault, write_all};
 use mod_feed::Feed;
 use recv_reading::ReceiveOptions;
-use report_text::ReportBuffer;
+use report_text::{ReportBuffer, Totals};
 use std::alloc::Global;
 use std::thread;
 use std::thread::Threads;
@@ -118,16 +119,20 @@ fn run_one<L: Link>(alloc: Global, receiver: &mut Receiver<L>)
     receiver.ended = Some(ended);
 }
 
-/// Runs a receiver whose report goes to `out` as it comes, and not into its text.
-pub fn run_live<L: Link, O: Sink>(alloc: Global, receiver: &mut Receiver<L>, out: &mut O) -> Ended
+/// Runs a receiver whose report goes to `out` as it comes, and not into its text. Answers the totals of what came.
+pub fn run_live<L: Link, O: Sink>(
+    alloc: Global,
+    receiver: &mut Receiver<L>,
+    out: &mut O,
+) -> Result<Totals, ReceiveError>
     requires { IsReceiverReady receiver.old }
-    ensures ended { ReceiverEndsAs (receiver_rules receiver.old) receiver.old.options.feed
+    ensures ended { LinkReportEnds (receiver_rules receiver.old) receiver.old.options.feed
         (L.known receiver.old.link) (L.known receiver.new.link) (O.known out.old) (O.known out.new) result }
-    ensures memory { result ≡ Ended.NoMemory → out.new ≡ out.old }
-    ensures link { HasCause (L.known receiver.old.link) (L.known receiver.new.link) (result ≡ Ended.LinkFailed) }
-    ensures write { HasCause (O.known out.old) (O.known out.new) (result ≡ Ended.WriteFailed) }
+    ensures memory { result ≡ Err ReceiveError.NoMemory → out.new ≡ out.old }
+    ensures link { HasCause (L.known receiver.old.link) (L.known receiver.new.link) (result ≡ Err ReceiveError.Link) }
+    ensures write { HasCause (O.known out.old) (O.known out.new) (result ≡ Err ReceiveError.Write) }
 {
-    receive_one(
+    report_link(
         alloc,
         &mut receiver.collector,
         &mut receiver.feed,

@@ -1,5 +1,5 @@
 -- A journal as data.
-use Rattle.std.specs.Prelude.{ℕ, ◌≡◌, ◌≤◌, ◌++◌, ◌∷◌, [], Bool, true, false, List, map, length, IfSome}
+use Rattle.std.specs.Prelude.{ℕ, ◌≡◌, ◌++◌, ◌∷◌, [], Bool, true, false, List, map, length}
 use Rattle.dcp_collect.specs.declared.taken.Taken.{Taken}
 use Rattle.dcp_collect.specs.CollectorState.{CollectorState, made}
 use Rattle.dcp_collect.specs.Runs.{CollectorTakes}
@@ -7,24 +7,15 @@ use Rattle.drm_reconfiguration.specs.Tracker.{TrackerState, new_tracker}
 use Rattle.report_text.specs.Report.{feed_line}
 use Rattle.report_text.specs.Tallies.{TallyContents, new_tally, noted}
 use Rattle.report_journal.specs.declared.journal.Entry.{Entry}
-use Rattle.report_journal.specs.declared.options.JournalOptions.{JournalOptions}
+use Rattle.recv_reading.specs.declared.options.PacketRange.{PacketRange}
 use Rattle.report_journal.specs.Report.{IsReportSoFar, IsPrefixSoFar}
 use Rattle.report_journal.specs.Lines.{WritesAll, CountsFirst}
-
--- each number is in its range
-pub record AreInRange (by : JournalOptions) : Type 0 where
-  pub some_window : 1 ≤ by.window
-  pub few_packets : by.window ≤ 64
-  pub some_reach : 1 ≤ by.reach
-  pub near_reach : by.reach ≤ 32767
-  pub some_frames : IfSome by.frames (λ n. 1 ≤ n)
-  pub few_frames : IfSome by.frames (λ n. n ≤ 3000000)
 
 -- The entries, each the number of a path and a datagram; by what the report is made; what the datagrams come to; the text of
 -- the report so far, and whether it has stopped.
 pub record JournalState : Type 0 where
   pub entries : List (ℕ × List ℕ)
-  pub options : JournalOptions
+  pub options : PacketRange
   pub collector : CollectorState
   pub feed : TrackerState
   pub tally : TallyContents
@@ -38,7 +29,7 @@ entry_of e = (e.path, e.datagram.items)
 abbrev pub datagrams : List (ℕ × List ℕ) → List (List ℕ)
 datagrams entries = map (λ e. e.1) entries
 
-abbrev pub new_journal : JournalOptions → JournalState
+abbrev pub new_journal : PacketRange → JournalState
 new_journal by = record {
   entries = [];
   options = by;
@@ -61,6 +52,6 @@ pub record JournalEnters (s : JournalState) (entry : ℕ × List ℕ) (answer : 
   pub options : s'.options ≡ s.options
   pub kept : CollectorState
   pub takes : CollectorTakes s.collector entry.1 answer kept
-  pub writes : s'.stopped ≡ false → WritesAll s.options.frames kept s'.collector s.feed s'.feed (noted s.tally (length s.entries) answer) s'.tally s.text s'.text
+  pub writes : s'.stopped ≡ false → WritesAll s.options.frame_limit kept s'.collector s.feed s'.feed (noted s.tally (length s.entries) answer) s'.tally s.text s'.text
   pub stops : s'.stopped ≡ true → s'.text ≡ s.text
-  pub first : s'.stopped ≡ true → CountsFirst s.options.frames kept s'.collector s.feed s'.feed (noted s.tally (length s.entries) answer) s'.tally
+  pub first : s'.stopped ≡ true → CountsFirst s.options.frame_limit kept s'.collector s.feed s'.feed (noted s.tally (length s.entries) answer) s'.tally

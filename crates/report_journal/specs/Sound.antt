@@ -3,7 +3,8 @@ use Rattle.std.specs.Prelude.{◌≡◌, map, false, None}
 use Rattle.dcp_collect.specs.CollectorState.{ready}
 use Rattle.law_collect.specs.Laws.{CollectorInvariant}
 use Rattle.report_journal.specs.declared.journal.Journal.TheInside.{Inside}
-use Rattle.report_journal.specs.Journal.{JournalState, AreInRange, entry_of, IsKept}
+use Rattle.recv_reading.specs.Options.{IsWithinLimits}
+use Rattle.report_journal.specs.Journal.{JournalState, entry_of, IsKept}
 
 abbrev pub state : Inside → JournalState
 state j = record {
@@ -23,6 +24,6 @@ pub record IsJournalOpen (s : JournalState) : Type 0 where
   pub quiet : ready s.collector ≡ false
 
 pub record JournalInvariant (j : Inside) : Type 0 where
-  pub range : AreInRange j.options
+  pub range : IsWithinLimits j.options
   pub kept : IsKept (state j)
   pub goes_on : j.stopped ≡ false → IsJournalOpen (state j)

@@ -2,17 +2,19 @@
 
 ghost use Rattle.std.specs.Prelude.{◌≡◌, ◌<◌, ◌^◌, ◌++◌, ◌∷◌, [], true, map, IsErr, IfOk, OnOk, OnErr, IfSome};
 ghost use Rattle.report_text.specs.Report.{feed_line};
-ghost use Rattle.report_journal.specs.Journal.{AreInRange, new_journal, datagrams, entry_of, IsKept, JournalEnters};
+ghost use Rattle.recv_reading.specs.Options.{IsWithinLimits};
+ghost use Rattle.report_journal.specs.Journal.{new_journal, datagrams, entry_of, IsKept, JournalEnters};
 ghost use Rattle.report_text.specs.Tallies.{items_in};
 ghost use Rattle.report_journal.specs.Report.{IsReportOf, word_for};
 ghost use Rattle.report_journal.specs.Took.{IfTook};
 ghost use Rattle.report_journal.specs.declared.event.Event.{Event};
 
 use crate::lines::{is_full, write_ready};
-use crate::{Ending, Event, JournalOptions};
+use crate::{Ending, Event};
 use dcp_collect::Collector;
 use drm_bits::NoMemory;
 use mod_feed::Feed;
+use recv_reading::PacketRange;
 use report_text::{EndWord, ReportBuffer, ReportCounts, write_feed};
 use std::alloc::Global;
 use std::marker::Model;
@@ -29,7 +31,7 @@ pub struct Entry {
 #[derive(Drop)]
 pub struct Journal {
     entries: Vec<Entry>,
-    options: JournalOptions,
+    options: PacketRange,
     collector: Collector,
     feed: Feed,
     counts: ReportCounts,
@@ -54,8 +56,8 @@ const MOST_ENTRIES: usize = 1 << 40;
 
 impl Journal {
     /// A journal without entries. All memory that taking datagrams wants, but for the entries and the lines, is taken here.
-    pub fn make(alloc: Global, options: JournalOptions) -> Result<Journal, NoMemory>
-        requires { AreInRange options }
+    pub fn make(alloc: Global, options: PacketRange) -> Result<Journal, NoMemory>
+        requires { IsWithinLimits options }
         ensures { IfOk result (λ journal. journal ≡ new_journal options) }
     {
         let collector = Collector::make(alloc, options.window, options.reach, options.first)?;
@@ -93,7 +95,7 @@ impl Journal {
             &mut self.collector,
             &mut self.feed,
             &mut self.counts,
-            self.options.frames,
+            self.options.frame_limit,
             &mut self.text,
         );
         self.stopped = written.is_err();
@@ -137,14 +139,14 @@ impl Journal {
             mut text,
             ..
         } = self;
-        let word = word_for(&counts, options.frames);
-        collector.finish(options.frames);
+        let word = word_for(&counts, options.frame_limit);
+        collector.finish(options.frame_limit);
         write_ready(
             alloc,
             &mut collector,
             &mut feed,
             &mut counts,
-            options.frames,
+            options.frame_limit,
             &mut text,
         )?;
         Ok(Ending::new(text, counts, word))

@@ -17,9 +17,7 @@ mod ending;
 mod event;
 mod journal;
 mod lines;
-mod options;
 
 pub use ending::Ending;
 pub use event::Event;
 pub use journal::{Entry, Journal};
-pub use options::JournalOptions;

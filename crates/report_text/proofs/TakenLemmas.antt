@@ -18,12 +18,12 @@ use Rattle.report_text.specs.FaultWords.{IsReportable}
 use Rattle.report_text.specs.Reports.{is_refused}
 use Rattle.report_text.specs.Tallies.{TallyContents, noted, items_in}
 
-noted_by : (b : Bool) (t u : TallyContents) → items_in u.sums ≡ items_in t.sums → items_in (if b then u else t).sums ≡ items_in t.sums
-noted_by true t u e = e
-noted_by false t u e = refl
+noted_by : (b : Bool) (t u v : TallyContents) → items_in u.sums ≡ items_in t.sums → items_in v.sums ≡ items_in t.sums → items_in (if b then u else v).sums ≡ items_in t.sums
+noted_by true t u v e f = e
+noted_by false t u v e f = f
 
 pub noted_items : (t : TallyContents) (number : ℕ) (a : Taken) → items_in (noted t number a).sums ≡ items_in t.sums
-noted_items t number a = noted_by (is_refused a) t _ refl
+noted_items t number a = noted_by (is_refused a) t _ _ refl refl
 
 -- ---- what is refused is told of
 

@@ -6,4 +6,5 @@ pub mod FrameParts
 pub mod Report
 pub mod Reports
 pub mod Tallies
+pub mod Totals
 pub mod Texts

@@ -7,9 +7,11 @@ ghost use Rattle.report_text.specs.FaultWords.{IsReportable};
 ghost use Rattle.report_text.specs.Report.{end_line};
 ghost use Rattle.mod_feed.specs.Items.{item_of};
 ghost use Rattle.report_text.specs.Reports.{refused_text};
-ghost use Rattle.report_text.specs.Tallies.{new_tally, noted, counted};
+ghost use Rattle.report_text.specs.Tallies.{new_tally, noted, counted, totals_in};
+ghost use Rattle.report_text.specs.Totals.{answered};
 
 use crate::report::{Sums, write_end, write_refused};
+use crate::totals::{AnswerCounts, Totals};
 use circular_buffer::HeapCircularBuffer;
 use dcp_collect::Taken;
 use drm_bits::NoMemory;
@@ -34,6 +36,7 @@ const MOST_SHOWN: usize = 16;
 #[derive(Drop)]
 pub struct ReportCounts {
     sums: Sums,
+    answers: AnswerCounts,
     // The last refusals.
     refused: HeapCircularBuffer<Refusal>,
 }
@@ -44,7 +47,7 @@ impl Model for ReportCounts {
 
     ghost Value = { TallyContents };
 
-    ghost view = { λ c. record { sums = c.sums; refused = c.refused.items } };
+    ghost view = { λ c. record { sums = c.sums; answers = c.answers; refused = c.refused.items } };
 
     ghost invariant = { λ c. c.refused.capacity ≡ 16 };
 }
@@ -62,6 +65,11 @@ impl ReportCounts {
                 bad: 0,
                 refused: 0,
             },
+            answers: AnswerCounts {
+                kept: 0,
+                repeated: 0,
+                late: 0,
+            },
             refused,
         })
     }
@@ -78,17 +86,29 @@ impl ReportCounts {
         }
     }
 
-    /// Notes what became of the datagram with this number, where it was refused or disagrees.
+    /// Counts what was answered to the datagram with this number, and keeps it where that was refused or disagrees.
     pub fn note(&mut self, number: u64, taken: Taken)
-        requires { self.old.sums.refused < 2 ^ 62 }
+        requires { answered (totals_in self.old) < 2 ^ 62 }
         ensures { self.new ≡ noted self.old number taken }
     {
         match taken {
+            Taken::Kept => self.answers.kept += 1,
+            Taken::Repeated => self.answers.repeated += 1,
+            Taken::Late => self.answers.late += 1,
             Taken::Refused(_) | Taken::Inconsistent { .. } => {
                 self.sums.refused += 1;
                 self.refused.push_back(Refusal { number, taken });
             }
-            _ => {}
+        }
+    }
+
+    /// The numbers that were counted.
+    pub fn totals(&self) -> Totals
+        ensures { result ≡ totals_in self.now }
+    {
+        Totals {
+            sums: self.sums,
+            answers: self.answers,
         }
     }
 

@@ -1,8 +1,8 @@
 //! The text of a report of what was received: a line for each frame with its mode, FAC, SDC block,
 //! multiplex description and bytes (ES 201 980), lines for missing and bad ones, for
 //! reconfigurations and for refused datagrams, and the last line with the counts. Each line is one
-//! definition, and one function that writes it to a sink in pieces. The counts and the room that a
-//! report grows in are here too, as is the line that `fac` prints.
+//! definition, and one function that writes it to a sink in pieces. The totals of a
+//! reading and the room that a report grows in are here too, as is the line that `fac` prints.
 //!
 //! Items come from `mod_feed`; pieces of text are written by `text_output`. `recv_report` and
 //! `report_journal` write reports with it, `cmd_convert` the lines of missing and bad frames,
@@ -26,6 +26,7 @@ mod line_writer;
 mod report;
 mod step;
 mod streams;
+mod totals;
 mod words;
 
 pub use block::block_bits;
@@ -38,4 +39,5 @@ pub use recv_reading::EndWord;
 pub use report::{Sums, write_end, write_feed, write_refused};
 pub use step::write_step;
 pub use text_output::{Piece, write_pieces};
+pub use totals::{AnswerCounts, Totals};
 pub use words::{FaultWords, af_words, mdi_words, pft_words};

@@ -4,7 +4,8 @@ ghost use Rattle.std.specs.Prelude.{◌≡◌, Some};
 
 use dcp_collect::Taken;
 use drm_paths::{Given, Road, open_paths};
-use report_journal::{Event, Journal, JournalOptions};
+use recv_reading::PacketRange;
+use report_journal::{Event, Journal};
 use std::alloc::Global;
 use std::marker::Brand;
 use std::sync::Wait;
@@ -14,11 +15,11 @@ use std::sync::ledger::Blank;
 const FRAGMENT: &[u8] =
     b"PF\x00\x00\x00\x00\x00\x00\x00\x0a\x80\x10\x6e\x00\x9e\xb6\x41\x2a\x44\x00\x63\x45\x00\x6d\x00\x49\x00\xc4\xfc\x40\xa9\x26";
 
-const SETTINGS: JournalOptions = JournalOptions {
+const SETTINGS: PacketRange = PacketRange {
     window: 8,
     reach: 32767,
     first: Some(0),
-    frames: Some(3),
+    frame_limit: Some(3),
 };
 
 fn is_entered_twice(alloc: Global) -> bool {

@@ -1,4 +1,4 @@
-use Rattle.std.proofs.Common.{◌≡◌, true, false, Err, List, length, map, All, sym, ◌∙◌, Some, ap, subst, arith}
+use Rattle.std.proofs.Common.{◌≡◌, Err, List, length, map, All, sym, ◌∙◌, Some, ap, subst, arith}
 use Rattle.std.specs.Prelude.{sum_by}
 use Rattle.std.specs.List.{list_any}
 use Rattle.std.proofs.lemmas.List.{length-map}

@@ -1,22 +1,22 @@
-use Rattle.std.proofs.Common.{◌≡◌, ℕ, ◌<◌, ◌-◌, List, length, vec_len, slice_index_or, refl, sym, ◌∙◌, ap, subst, arith, Some, Err}
+use Rattle.std.proofs.Common.{◌≡◌, ℕ, ◌<◌, List, [], ◌∷◌, length, slice_index_or, refl, sym, ◌∙◌, ap, subst, arith, Err}
 use Rattle.std.proofs.lemmas.Result.{err_from_is_err_and}
 use Rattle.recv_report.specs.declared.receiver.Receiver.{Receiver}
-use Rattle.recv_report.specs.Receivers.{HasReceiverEnded, IsReceiver, IsReceiverReady}
+use Rattle.recv_report.specs.Receivers.{HasReceiverEnded, IsReceiverReady}
 use Rattle.recv_report.specs.Settling.{ReceiversSettle}
-use Rattle.recv_report.proofs.ReceiverLemmas.{receiver_ready, receivers_ready}
+use Rattle.recv_report.proofs.ReceiverLemmas.{receivers_ready}
 use Rattle.std.specs.List.{All}
 use Rattle.std.proofs.lemmas.List.{get_or_default}
-use Rattle.drm_links.specs.Known.{IfBothKnown, KnownThrough}
-use Rattle.drm_links.specs.Dock.{DockCloses}
+use Rattle.drm_links.specs.Known.{KnownThrough}
 use Rattle.drm_links.proofs.KnownLemmas.{counts_as}
 use Rattle.cmd_faults.specs.declared.fault.Fault.TheVariants as faults
 use Rattle.cmd_faults.proofs.CauseLemmas.{inner_fault}
 use Rattle.link_group.proofs.BindLemmas.{docked_then, Closed}
 use Rattle.cmd_receive.proofs.HearingLemmas.{link_in}
 use Rattle.cmd_receive.proofs.ReceiveLemmas.{Ran, settled_hears, settled_run, opening_failed, written_back}
-use Rattle.cmd_receive.proofs.LiveLemmas.{only_run}
+use Rattle.cmd_receive.proofs.LiveLemmas.{one_of}
 use Rattle.cmd_receive.specs.Opening.{HaveLinks}
-use Rattle.cmd_receive.specs.Receive.{IsLive}
+use Rattle.cmd_receive.specs.Receive.{IsLive, ReceiveRun}
+use Rattle.cmd_receive.specs.Stopping.{clean_ending}
 use Rattle.cmd_receive.proofs.receive_command.receive.Goals as goal
 
 pub returns-in_err-receivers : goal.returns-in_err-receivers
@@ -60,41 +60,16 @@ returns g c =
           (c.close_all.ensures.cause ∙ c.in_ok-receivers.ensures.cause.same (λ failed. cc)) several settled c.settle-settled.ensures.cause);
     }
 
--- the last of one is the first
-only_one : {X : Type 0} (xs : List X) (n : ℕ) (x : X) → n ≡ 1 → Some x ≡ Some (slice_index_or xs (n - 1) x) → slice_index_or xs 0 x ≡ x
-only_one xs n x one is =
-    let last : n - 1 ≡ 0 = omega (arith, one) in
-    let only : Some x ≡ Some (slice_index_or xs 0 x) = is ∙ ap (λ m. Some (slice_index_or xs m x)) last in
-    cc
-
-pub run_live-ended-requires : goal.run_live-ended-requires
-run_live-ended-requires g c =
-    let receivers : List (Receiver g.row.D-L.Denot) = c.in_ok-receivers.receivers.items in
-    let receiver : Receiver g.row.D-L.Denot = c.in-Some.receiver in
-    let one : length c.args.addresses.now ≡ 1 = sym c.len.ensures ∙ c.if-len-eq1.true in
-    let many : vec_len c.in_ok-receivers.receivers ≡ 1 = c.in_ok-receivers.ensures.same_count ∙ one in
-    let first : slice_index_or receivers 0 receiver ≡ receiver = only_one receivers (vec_len c.in_ok-receivers.receivers) receiver many (sym c.in-Some.is ∙ c.pop.ensures.value receiver (omega (arith, many))) in
-    receiver_ready c.args.rules.now 0 receiver c.requires.rules (subst (λ (j : Receiver g.row.D-L.Denot). IsReceiver c.args.rules.now 1 j) first (c.in_ok-receivers.ensures.receivers 0 receiver (omega (arith, one))))
-
 pub returns-then-len-eq1 : goal.returns-then-len-eq1
 returns-then-len-eq1 g c =
-    let receivers : List (Receiver g.row.D-L.Denot) = c.in_ok-receivers.receivers.items in
-    let receiver : Receiver g.row.D-L.Denot = c.in-Some.receiver in
     let ats = c.args.addresses.now in
-    let b = g.D.Dock.known c.open_all.new.dock in
-    let e = g.D.Dock.known c.close.new.self in
+    let at = c.get.result.now in
     let one : length ats ≡ 1 = sym c.len.ensures ∙ c.if-len-eq1.true in
-    let many : vec_len c.in_ok-receivers.receivers ≡ 1 = c.in_ok-receivers.ensures.same_count ∙ one in
-    let first : slice_index_or receivers 0 receiver ≡ receiver = only_one receivers (vec_len c.in_ok-receivers.receivers) receiver many (sym c.in-Some.is ∙ c.pop.ensures.value receiver (omega (arith, many))) in
-    let contents = (g.D.L.Link.known c.run_live-ended.new.receiver.link).contents in
+    let only : ats ≡ at ∷ [] = one_of ats at one (c.get.ensures ∙ get_or_default ats 0 at at (omega (arith, one))) in
     record {
-      run = rw c.live_ending.ensures
-          (only_run c.in_time_is_unbroken.ensures c.args.rules.now c.requires.rules c.reports_follow.ensures.headlines c.reports_follow.ensures.completes ats receivers receiver c.run_live-ended.new.receiver c.run_live-ended.result
-          g.D.Dock.known c.args.dock.now c.open_all.new.dock c.close.new.self g.D.L.Link.known g.O.Sink.known c.args.out.now c.run_live-ended.new.out
-          one first c.in_ok-receivers.ensures.receivers c.in_ok-receivers.ensures.links c.in_ok-receivers.ensures.opened
-          (c.close.ensures.cause ∙ c.in_ok-receivers.ensures.cause.same (λ failed. cc)) c.run_live-ended.ensures.ended c.run_live-ended.ensures.memory c.run_live-ended.ensures.write
-          (λ d. subst (λ x. IfBothKnown b e (DockCloses contents x)) (c.get.ensures ∙ get_or_default ats 0 c.get.result.now d (omega (arith, one))) c.close.ensures.gone)
-          c.close.ensures.counts_call);
+      run = rw c.clean.ensures
+          (subst (λ xs. ReceiveRun c.args.rules.now xs (clean_ending c.link_totals.result) g.D.Dock.known c.args.dock.now c.link_totals.new.dock g.O.Sink.known c.args.out.now c.link_totals.new.out) (sym only)
+          c.link_totals.ensures.run.receives);
     }
 
 pub run_all-requires-after_bounds : goal.run_all-requires-after_bounds

@@ -10,8 +10,9 @@ use Rattle.cmd_faults.specs.declared.fault.Fault.TheVariants as faults
 use Rattle.drm_top.specs.Outside.{outside}
 use Rattle.drm_top.proofs.CommandLemmas.{fault_of_whole, whole_cause, whole_lacks_none, dock_still, not_else, not_convert, not_a_link, not_gate, no_gate}
 use Rattle.drm_top.proofs.ServeLemmas.{sends, opens_some}
+use Rattle.cmd_receive.specs.Stopping.{clean_ending}
 use Rattle.cmd_receive.proofs.OpeningLemmas.{opens_unsent}
-use Rattle.cmd_count.specs.Run.{ended, unseen}
+use Rattle.cmd_count.specs.Run.{unseen}
 use Rattle.drm_top.proofs.command.run_command.Goals as goal
 
 pub returns-in-Fac : goal.returns-in-Fac
@@ -178,7 +179,7 @@ count_capture-requires g c = rw c.options_of-options-in-Count.ensures (rw c.in-C
 pub returns-in-Some-address-clause-unsent : goal.returns-in-Some-address-clause-unsent
 returns-in-Some-address-clause-unsent g c = λ e.
     let run = c.count.ensures.run in
-    opens_unsent c.options_of-options-in-Count.result (c.in-Some-address.at ∷ []) (ended run.counted) unseen tt tt
+    opens_unsent c.options_of-options-in-Count.result (c.in-Some-address.at ∷ []) (clean_ending run.counted) unseen run.sink run.sink
     (g.D.Dock.known c.args.dock.now) (g.D.Dock.known c.count.new.dock) run.reads.receives.opens
 
 pub returns-in-Air-clause-read : goal.returns-in-Air-clause-read

@@ -5,7 +5,7 @@ use Rattle.recv_reading.specs.declared.source.SourceFault.{SourceFault}
 use Rattle.recv_reading.specs.Source.{ReadSoFar, HeardUntil, StopsReading}
 use Rattle.recv_reading.proofs.Sources.{read_none}
 use Rattle.recv_report.specs.declared.reading.ReceiveFault.TheVariants as fault
-use Rattle.recv_report.specs.Received.{ReportWritten, ReportBroken, ReportStopped}
+use Rattle.recv_report.specs.Received.{ReportCounted, ReportBroken, ReportStopped}
 use Rattle.recv_report.specs.Progress.{StopsReport}
 use Rattle.recv_report.proofs.CaptureReading.{options_are, as_reported, as_stopped}
 use Rattle.recv_report.proofs.capture.receive_capture.Goals as goal
@@ -17,8 +17,8 @@ pub returns-in-Ok-clause-ended : goal.returns-in-Ok-clause-ended
 returns-in-Ok-clause-ended g c =
     let before = g.I.Source.known c.args.input.now in
     let after = g.I.Source.known c.write_report.new.from in
-    as_reported c.args.rules.now c.write_report.new.reader before after (g.O.Sink.known c.args.out.now) (g.O.Sink.known c.write_report.new.out) c.in-Ok.clean
-    (subst (λ (o : ReceiveOptions). ReportWritten o 1 (ReadSoFar c.write_report.new.reader before after) (g.O.Sink.known c.args.out.now) (g.O.Sink.known c.write_report.new.out) c.in-Ok.clean)
+    as_reported c.args.rules.now c.write_report.new.reader before after (g.O.Sink.known c.args.out.now) (g.O.Sink.known c.write_report.new.out) c.in-Ok.totals
+    (subst (λ (o : ReceiveOptions). ReportCounted o 1 (ReadSoFar c.write_report.new.reader before after) (g.O.Sink.known c.args.out.now) (g.O.Sink.known c.write_report.new.out) c.in-Ok.totals)
     (options_are c.args.rules.now c.in_ok-collector.collector c.bounds.result c.in_ok-collector.ensures c.bounds.ensures) c.in-Ok.ensures.finished)
 
 pub returns-in-Err-Source-Capture-clause-ended : goal.returns-in-Err-Source-Capture-clause-ended

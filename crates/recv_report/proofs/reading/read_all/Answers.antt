@@ -8,7 +8,7 @@ use Rattle.recv_reading.specs.declared.source.SourceFault.{SourceFault}
 use Rattle.recv_reading.proofs.Finishing.{gives_so}
 use Rattle.recv_reading.proofs.Looping.{loop_none, rests_over, rests_waiting, loop_rests}
 use Rattle.recv_report.specs.Progress.{HasPrinted}
-use Rattle.recv_report.proofs.Coming.{none_printed, progress_one, stops_at, progress_out, stops_out, progress_on, breaks_off, wrote_all, few_refused}
+use Rattle.recv_report.proofs.Coming.{none_printed, progress_one, stops_at, progress_out, stops_out, progress_on, breaks_off, wrote_all, many_answered}
 use Rattle.recv_report.proofs.reading.read_all.Goals as goal
 
 pub answers-init : goal.answers-init
@@ -80,7 +80,7 @@ returns-in_err-taken-clause-stopped g c =
 pub note-requires : goal.note-requires
 note-requires g c =
     let p = c.answers.invariant.0 in
-    omega (arith, few_refused _ _ _ _ _ _ _ _ _ p, p.reached.most, p.reached.usable.most_datagrams)
+    omega (arith, many_answered _ _ _ _ _ _ _ _ _ p, p.reached.most, p.reached.usable.most_datagrams)
 
 pub answers-preserved : goal.answers-preserved
 answers-preserved g c =

@@ -39,7 +39,8 @@ returns-in_err-write_end-clause-stopped g c =
 
 pub returns-clause-finished : goal.returns-clause-finished
 returns-clause-finished g c =
-    reported (options_of c.args.collector.now c.args.bounds) c.requires.options.window c.args.number (g.R.Datagrams.so_far c.args.from.now c.read_all.new.reader c.read_all.new.from)
+    rw c.totals.ensures
+    (reported (options_of c.args.collector.now c.args.bounds) c.requires.options.window c.args.number (g.R.Datagrams.so_far c.args.from.now c.read_all.new.reader c.read_all.new.from)
     (g.O.Sink.known c.args.out.now) (g.O.Sink.known c.write_feed.new.out) (g.O.Sink.known c.read_all.new.out) (g.O.Sink.known c.write_refused.new.out) (g.O.Sink.known c.write_end.new.out)
-    c.read_all.new.tally c.in_ok-word.word c.is_clean.result (Writes-done c.in_ok-write_feed.was c.write_feed.ensures) c.in_ok-word.ensures.finished
-    (Writes-done c.in_ok-write_refused.was c.write_refused.ensures) (Writes-done c.in_ok-write_end.was c.write_end.ensures) c.is_clean.ensures
+    c.read_all.new.tally c.in_ok-word.word (Writes-done c.in_ok-write_feed.was c.write_feed.ensures) c.in_ok-word.ensures.finished
+    (Writes-done c.in_ok-write_refused.was c.write_refused.ensures) (Writes-done c.in_ok-write_end.was c.write_end.ensures))

@@ -5,16 +5,16 @@ use Rattle.recv_reading.proofs.Reaching.{takes_next, takes_end}
 use Rattle.report_text.specs.Tallies.{TallyContents, items_in}
 use Rattle.report_text.proofs.TakenLemmas.{noted_items}
 use Rattle.report_journal.specs.Journal.{JournalState, entry_of, datagrams, IsKept, JournalEnters}
-use Rattle.report_journal.proofs.Keeping.{refused_few, has_fed, as_many, entered, enters, goes_on}
+use Rattle.report_journal.proofs.Keeping.{many_answered, has_fed, as_many, entered, enters, goes_on}
 use Rattle.report_journal.proofs.journal.Journal.enter.Goals as goal
 
 pub note-requires : goal.note-requires
 note-requires c =
     let j = c.self.inside in
     let es = map entry_of j.entries.items in
-    let few = refused_few j.options (datagrams es) j.collector j.feed j.counts j.text.items (c.self.invariant.kept.whole c.if-self.false) in
+    let all = many_answered j.options (datagrams es) j.collector j.feed j.counts j.text.items (c.self.invariant.kept.whole c.if-self.false) in
     let size : length es ≡ length j.entries.items = length-map j.entries.items entry_of in
-    omega (arith, few, as_many es, size, c.len.ensures, c.if-len-ge-MOST_ENTRIES.false, j.entries.ok)
+    omega (arith, all, as_many es, size, c.len.ensures, c.if-len-ge-MOST_ENTRIES.false, j.entries.ok)
 
 pub write_ready-written-requires-clause-fed : goal.write_ready-written-requires-clause-fed
 write_ready-written-requires-clause-fed c =

@@ -1,4 +1,0 @@
-pub mod TotalsLemmas
-pub mod ReadingLemmas
-pub mod Running
-pub mod Endings
