@@ -21,6 +21,7 @@ use Rattle.recv_report.specs.Following.{HeadlinesFollow, CompletesFollow, NoneBr
 use Rattle.recv_reading.specs.OneReading.{BreaksOff}
 use Rattle.drm_links.proofs.Hearing.{heard_none}
 use Rattle.recv_reading.proofs.Going.{few_answers}
+use Rattle.recv_report.proofs.CaptureReading.{heard_as}
 use Rattle.recv_report.proofs.ReceiverLemmas.{live_report, live_given, live_breaks, live_front}
 use Rattle.cmd_faults.specs.declared.fault.Fault.{Fault}
 use Rattle.cmd_faults.specs.declared.fault.Fault.TheVariants as faults
@@ -198,12 +199,6 @@ module _ {L O : Type 0} (known : L → Known Traffic) (rules : ReceiveOptions) (
 
 -- ---- a run with its totals
 
--- what was counted of what was heard, heard in another way
-counted_by : (rules : ReceiveOptions) (so_far hears : List Answer → Type 0) (a b : Known Output) (totals : Totals) (r : ReportCounted rules 1 so_far a b totals) → hears r.written.answers → ReportCounted rules 1 hears a b totals
-counted_by rules so_far hears a b totals r heard =
-    let w = r.written in
-    record { written = record { answers = w.answers; heard = heard; few = w.few; at_once = w.at_once; whole = w.whole; is = w.is; text = w.text }; are = r.are; all = r.all }
-
 module _ (law : NoneBreaksOff) (rules : ReceiveOptions) {D L O : Type 0} (at : Address) (dock_known : D → Known DockContents) (known : L → Known Traffic) (out_known : O → Known Output) where
   -- no opening was made yet
   none_yet : (dock : D) → KnownThrough (dock_known dock) (dock_known dock) (Opened (at ∷ []) 0)
@@ -262,7 +257,7 @@ module _ (law : NoneBreaksOff) (rules : ReceiveOptions) {D L O : Type 0} (at : A
           → KnownThrough (dock_known dock) (dock_known mid) (λ x y. (y ≡ after_openings (at ∷ []) x) × HasLink known x 0 at link)
           → IfOk (live_totals r) (ReportCounted rules 1 (λ answers. KnownThrough (dock_known dock) (dock_known dock') (HearsEach (AreExactly answers) (at ∷ []))) (out_known out) (out_known out'))
       counted (Ok totals) r both =
-          counted_by rules (LinkHeard (known link) (known link')) (λ answers. KnownThrough (dock_known dock) (dock_known dock') (HearsEach (AreExactly answers) (at ∷ []))) (out_known out) (out_known out') totals r
+          heard_as rules (LinkHeard (known link) (known link')) (λ answers. KnownThrough (dock_known dock) (dock_known dock') (HearsEach (AreExactly answers) (at ∷ []))) (out_known out) (out_known out') totals r
           (one_hears known (AreExactly r.written.answers) at link link' (dock_known dock) (dock_known mid) (dock_known dock') both
           (λ start contents. went_over known (AreExactly r.written.answers) link link' start r.written.answers contents r.written.heard (le_trans r.written.few (few_answers rules valid)) refl) closes closed_counts)
       counted (Err errors.Link) r both = tt

@@ -18,7 +18,7 @@ use Rattle.recv_reading.specs.declared.options.Bounds.{Bounds}
 use Rattle.recv_reading.specs.declared.reason.EndWord.TheVariants as word
 use Rattle.recv_reading.specs.Ending.{idles, IsReadingOpen, most_answers}
 use Rattle.recv_reading.specs.State.{ahead, ended_or, still_open, one_given, one_taken, one_idle, ended_by}
-use Rattle.recv_reading.specs.ReadingReached.{IsDrained, IsAmid, ComesIn, CountsAnswers, packets_in}
+use Rattle.recv_reading.specs.ReadingReached.{IsDrained, IsAmid, ComesIn, CountsAnswers, CanEnd, packets_in}
 use Rattle.recv_reading.proofs.Going.{goes_none, goes_more, is_open, datagrams_more, datagrams_idle, datagrams_end, idles_more, not_ended, none_ended}
 use Rattle.recv_reading.proofs.Kept.{kept_taken, few_given}
 use Rattle.recv_reading.proofs.First.{knows_taken, knows_item}
@@ -201,7 +201,7 @@ module _ (options : ReceiveOptions) (answers : List Answer) (taken : List Taken)
           room = full_is ∙ enough;
         }
 
-    pub unfinished : c.end ≡ None
+    unfinished : c.end ≡ None
     unfinished = comes.0
 
     not_given : HasGiven options answers options.frames → ⊥
@@ -223,8 +223,8 @@ module _ (options : ReceiveOptions) (answers : List Answer) (taken : List Taken)
     pub fewer_idles : r.idles < r.bounds.idle
     fewer_idles = omega (arith, n.fewer, idle_is)
 
-    pub few_frames : IfSome r.bounds.frames (λ n. n ≤ 2 ^ 62)
-    few_frames = subst (λ (b : Bounds). IfSome b.frames (λ n. n ≤ 2 ^ 62)) (sym z.bounds_are) (by options.frames z.usable.most_frames)
+    pub can_end : CanEnd r c
+    can_end = (unfinished, subst (λ (b : Bounds). IfSome b.frames (λ n. n ≤ 2 ^ 62)) (sym z.bounds_are) (by options.frames z.usable.most_frames))
       where
         by : (frames : Option ℕ) → IfSome frames (λ n. n ≤ 3000000) → IfSome frames (λ n. n ≤ 2 ^ 62)
         by None most = tt

@@ -86,6 +86,10 @@ pub record ReadingWaits (r : ReadingState) (c : CollectorState) : Type 0 where
   pub is_open : has_ended r ≡ false
   pub none_ready : ready c ≡ false
 
+-- it can be ended: the collector isn't finished, and no more frames are asked for than it can give
+abbrev pub CanEnd : ReadingState → CollectorState → Type 0
+CanEnd r c = (c.end ≡ None) × IfSome r.bounds.frames (λ n. n ≤ 2 ^ 62)
+
 -- whether an item is ready and not enough were given, and it is counted
 abbrev pub GivesNext : Bool → ReadingState → CollectorState → ReadingState → Type 0
 GivesNext false r c s = ((has_enough r ≡ true) ⊎ (ready c ≡ false)) × (s ≡ r)

@@ -10,7 +10,7 @@ ghost use Rattle.dcp_collect.specs.Runs.{CollectorItem, IsItem};
 ghost use Rattle.recv_reading.specs.declared.options.ReceiveOptions.{ReceiveOptions};
 ghost use Rattle.recv_reading.specs.First.{KeepsFirst};
 ghost use Rattle.recv_reading.specs.State.{new_reading, has_enough, has_ended, word_of, ended_by, ahead};
-ghost use Rattle.recv_reading.specs.ReadingReached.{ReadingReached, HasReached, ReadingWaits, GivesNext, ReadsOn};
+ghost use Rattle.recv_reading.specs.ReadingReached.{ReadingReached, HasReached, ReadingWaits, CanEnd, GivesNext, ReadsOn};
 ghost use Rattle.recv_reading.specs.Source.{ReadSoFar, HeardUntil, IsFailedCall};
 
 use crate::options::Bounds;
@@ -208,8 +208,7 @@ impl Reading {
 
     // Ends the reading: what is ready now is all that comes.
     fn finish(&mut self, collector: &mut Collector, word: EndWord)
-        requires unfinished { collector.old.end ≡ None }
-        requires most_frames { IfSome self.old.bounds.frames (λ n. n ≤ 2 ^ 62) }
+        requires { CanEnd self.old collector.old }
         ensures ended { self.new ≡ ended_by word self.old }
         ensures finished { collector.new ≡ after_finish collector.old self.old.bounds.frames }
     {

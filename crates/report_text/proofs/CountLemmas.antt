@@ -40,16 +40,6 @@ refusals_more n (first ∷ taken) a =
     ap (λ l. if is_refused first then record { number = n; taken = first } ∷ l else l) more
     ∙ put_before (is_refused first) (record { number = n; taken = first }) (refusals_from (n + 1) taken) (one_refusal (n + length (first ∷ taken)) a)
 
-one_at_most : (b : Bool) (r : Refusal) (rs : List Refusal) (k : ℕ) → length rs ≤ k → length (if b then r ∷ rs else rs) ≤ k + 1
-one_at_most true r rs k l = omega (arith, l)
-one_at_most false r rs k l = omega (arith, l)
-
-pub refusals_few : (n : ℕ) (taken : List Taken) → length (refusals_from n taken) ≤ length taken
-refusals_few n [] = omega arith
-refusals_few n (a ∷ taken) =
-    let l = one_at_most (is_refused a) (record { number = n; taken = a }) (refusals_from (n + 1) taken) (length taken) (refusals_few (n + 1) taken) in
-    omega (arith, l)
-
 put_reportable : (b : Bool) (r : Refusal) (rs : List Refusal) → (b ≡ true → IsReportable r.taken) → AreReportable rs → AreReportable (if b then r ∷ rs else rs)
 put_reportable true r rs one all = (one refl, all)
 put_reportable false r rs one all = all

@@ -1,18 +1,13 @@
 use Rattle.std.proofs.Common.{◌++◌, ◌∷◌, [], ◌<◌, sym, ap, subst}
 use Rattle.recv_reading.proofs.Common.{End, CollectorState, ahead, ReadingReached}
 use Rattle.recv_reading.specs.declared.reason.EndWord.TheVariants as word
-use Rattle.recv_reading.proofs.Reaching.{reached_end, less_ended, unfinished, few_frames}
+use Rattle.recv_reading.proofs.Reaching.{reached_end, less_ended, can_end}
 use Rattle.recv_reading.proofs.reading.Reading.end.Goals as goal
 
-pub finish-requires-clause-unfinished : goal.finish-requires-clause-unfinished
-finish-requires-clause-unfinished c =
+pub finish-requires : goal.finish-requires
+finish-requires c =
     let (options, answers, taken, during, more, z) = c.requires.reached in
-    unfinished options answers taken during more c.args.self.now c.args.collector.now z c.requires.waits
-
-pub finish-requires-clause-most_frames : goal.finish-requires-clause-most_frames
-finish-requires-clause-most_frames c =
-    let (options, answers, taken, during, more, z) = c.requires.reached in
-    few_frames options answers taken during more c.args.self.now c.args.collector.now z c.requires.waits
+    can_end options answers taken during more c.args.self.now c.args.collector.now z c.requires.waits
 
 pub returns-clause-reached : goal.returns-clause-reached
 returns-clause-reached c = λ options answers taken during more z.

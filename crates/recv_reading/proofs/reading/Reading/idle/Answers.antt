@@ -1,20 +1,16 @@
-use Rattle.std.proofs.Common.{ℕ, ◌≡◌, ◌+◌, ◌^◌, ◌++◌, ◌∷◌, [], ◌<◌, ◌≤◌, IfSome, arith, sym, ap, subst, ◌∙◌}
+use Rattle.std.proofs.Common.{ℕ, ◌≡◌, ◌+◌, ◌++◌, ◌∷◌, [], ◌<◌, arith, sym, ap, subst, ◌∙◌}
 use Rattle.recv_reading.proofs.Common.{Idle, CollectorState, after_finish, ReadingState, ahead, ReadingReached}
 use Rattle.recv_reading.specs.declared.reason.EndWord.TheVariants as word
 use Rattle.recv_reading.specs.State.{one_idle, ended_by}
-use Rattle.recv_reading.proofs.Reaching.{fewer_idles, reached_idle, reached_last_idle, less_idle, less_last_idle, unfinished, few_frames}
+use Rattle.recv_reading.specs.ReadingReached.{CanEnd}
+use Rattle.recv_reading.proofs.Reaching.{fewer_idles, reached_idle, reached_last_idle, less_idle, less_last_idle, can_end}
 use Rattle.recv_reading.proofs.reading.Reading.idle.Goals as goal
 
-pub finish-requires-clause-unfinished : goal.finish-requires-clause-unfinished
-finish-requires-clause-unfinished c =
+pub finish-requires : goal.finish-requires
+finish-requires c =
     let (options, answers, taken, during, more, z) = c.requires.reached in
-    unfinished options answers taken during more c.args.self.now c.args.collector.now z c.requires.waits
-
-pub finish-requires-clause-most_frames : goal.finish-requires-clause-most_frames
-finish-requires-clause-most_frames c =
-    let (options, answers, taken, during, more, z) = c.requires.reached in
-    subst (λ (r : ReadingState). IfSome r.bounds.frames (λ n. n ≤ 2 ^ 62)) (sym c.self.view_is)
-    (few_frames options answers taken during more c.args.self.now c.args.collector.now z c.requires.waits)
+    subst (λ (r : ReadingState). CanEnd r c.args.collector.now) (sym c.self.view_is)
+    (can_end options answers taken during more c.args.self.now c.args.collector.now z c.requires.waits)
 
 pub returns-then-self-most-clause-reached : goal.returns-then-self-most-clause-reached
 returns-then-self-most-clause-reached c = λ options answers taken during more z.

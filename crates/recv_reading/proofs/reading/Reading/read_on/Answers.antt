@@ -2,18 +2,13 @@ use Rattle.std.proofs.Common.{◌++◌, [], ◌<◌, sym, ap, subst, ◌∙◌}
 use Rattle.std.proofs.lemmas.List.{append-nil}
 use Rattle.recv_reading.proofs.Common.{CollectorState, ReadingState, ahead, ReadingReached}
 use Rattle.recv_reading.specs.declared.reason.EndWord.TheVariants as word
-use Rattle.recv_reading.proofs.Reaching.{reached_limit, less_ended, unfinished, few_frames}
+use Rattle.recv_reading.proofs.Reaching.{reached_limit, less_ended, can_end}
 use Rattle.recv_reading.proofs.reading.Reading.read_on.Goals as goal
 
-pub finish-requires-clause-unfinished : goal.finish-requires-clause-unfinished
-finish-requires-clause-unfinished g c =
+pub finish-requires : goal.finish-requires
+finish-requires g c =
     let (options, answers, taken, during, more, z) = c.requires.reached in
-    unfinished options answers taken during more c.args.self.now c.args.collector.now z c.requires.waits
-
-pub finish-requires-clause-most_frames : goal.finish-requires-clause-most_frames
-finish-requires-clause-most_frames g c =
-    let (options, answers, taken, during, more, z) = c.requires.reached in
-    few_frames options answers taken during more c.args.self.now c.args.collector.now z c.requires.waits
+    can_end options answers taken during more c.args.self.now c.args.collector.now z c.requires.waits
 
 pub returns-then-self-clause-reads : goal.returns-then-self-clause-reads
 returns-then-self-clause-reads g c = λ start options answers taken during more so_far z. (
