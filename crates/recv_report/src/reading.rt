@@ -108,8 +108,7 @@ fn write_lines<F, R: Datagrams<F>, O: Sink>(
     requires options { AreUsable (options_of collector.old bounds) }
     requires collector { collector.old ≡ made collector.old.window collector.old.reach collector.old.first }
     requires feed { feed.old ≡ new_tracker }
-    requires tally { tally.old ≡ new_tally }
-    requires lines { lines.old ≡ [] }
+    requires nothing_written { (tally.old ≡ new_tally) × (lines.old ≡ []) }
     requires reader { R.is_ready reader.old }
     requires nothing_heard { R.so_far from.old reader.old from.old [] }
     ensures finished { IfOk result (ReportCounted (options_of collector.old bounds) number (R.so_far from.old reader.new from.new) (O.known out.old) (O.known out.new)) }
@@ -141,8 +140,7 @@ fn read_all<F, R: Datagrams<F>, O: Sink>(
     requires options { AreUsable (options_of collector.old bounds) }
     requires collector { collector.old ≡ made collector.old.window collector.old.reach collector.old.first }
     requires feed { feed.old ≡ new_tracker }
-    requires tally { tally.old ≡ new_tally }
-    requires lines { lines.old ≡ [] }
+    requires nothing_written { (tally.old ≡ new_tally) × (lines.old ≡ []) }
     requires reader { R.is_ready reader.old }
     requires nothing_heard { R.so_far from.old reader.old from.old [] }
     ensures finished { IfOk result (WroteItems (options_of collector.old bounds) (R.so_far from.old reader.new from.new) (O.known out.old) (O.known out.new)

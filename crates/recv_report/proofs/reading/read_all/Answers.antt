@@ -17,7 +17,7 @@ answers-init g c =
       loop_none (options_of c.args.collector.now c.args.bounds) (g.R.Datagrams.so_far c.args.from.now c.args.reader.now c.args.from.now) (HasPrinted out out c.args.feed.now c.args.tally.now c.args.lines.now)
           c.new-reading.result c.args.collector.now c.requires.options c.new-reading.ensures c.requires.collector c.requires.nothing_heard
           (none_printed out c.args.collector.now c.args.feed.now c.args.tally.now c.args.lines.now (ap (λ (s : CollectorState). s.next) c.requires.collector)
-          c.requires.feed c.requires.tally c.requires.lines),
+          c.requires.feed c.requires.nothing_written.0 c.requires.nothing_written.1),
       refl,
       refl,
       c.requires.reader,
