@@ -41,12 +41,12 @@ where
     ensures run { ReceiveRun rules.now addresses.now result
         D.known dock.old dock.new O.known out.old out.new }
 {
-    // For their clauses alone: what a report says of a delivery. The calls do nothing.
-    reports_follow();
-    in_time_is_unbroken();
     if addresses.len() == 1 {
         return clean(link_totals(alloc, rules, *addresses.get(0), dock, out));
     }
+    // For their clauses alone: what a report says of a delivery. The calls do nothing.
+    reports_follow();
+    in_time_is_unbroken();
     let mut receivers = open_all(alloc, rules, addresses, dock)?;
     run_all(rt, alloc, receivers.as_mut_slice());
     let settled = settle(receivers.as_slice(), out);
