@@ -14,13 +14,16 @@
 //! the contents are known.
 #![tactic(auto)]
 
+mod edge;
 mod file_shelf;
+mod names;
 mod pace;
 mod refusals;
 mod streams;
 mod udp_dock;
 mod udp_link;
 
+pub use edge::Edge;
 pub use file_shelf::FileShelf;
 pub use streams::{StreamSink, StreamSource};
 pub use udp_dock::UdpDock;

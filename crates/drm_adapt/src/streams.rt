@@ -19,18 +19,26 @@ const NAP_MILLIS: u64 = 1;
 pub struct StreamSource<'a, C, R> {
     clock: &'a C,
     stream: R,
+    /// Why the last read failed, if one has.
+    fault: Option<io::Error>,
     faults: u64,
 }
 
 impl<'a, C: Clock, R: Read> StreamSource<'a, C, R> {
     pub fn new(clock: &'a C, stream: R) -> Self
-        ensures { result ≡ record { clock = clock.entry; stream = stream; faults = 0 } }
+        ensures { result ≡ record { clock = clock.entry; stream = stream; fault = None; faults = 0 } }
     {
         StreamSource {
             clock,
             stream,
+            fault: None,
             faults: 0,
         }
+    }
+
+    /// Why a read failed, if one has.
+    pub fn fault(&self) -> Option<io::Error> {
+        self.fault
     }
 }
 
@@ -50,7 +58,10 @@ impl<'a, C: Clock, R: Read> Source for StreamSource<'a, C, R> {
                 Ok(0) => return ReadOut::End,
                 Ok(n) => return ReadOut::Got(n),
                 Err(fault) if comes_back(self.clock, &fault) => {}
-                Err(_) => break,
+                Err(fault) => {
+                    self.fault = Some(fault);
+                    break;
+                }
             }
         }
         self.faults = self.faults.saturating_add(1);
@@ -63,18 +74,26 @@ impl<'a, C: Clock, R: Read> Source for StreamSource<'a, C, R> {
 pub struct StreamSink<'a, C, W> {
     clock: &'a C,
     stream: W,
+    /// Why the last write failed, if one has.
+    fault: Option<io::Error>,
     faults: u64,
 }
 
 impl<'a, C: Clock, W: Write> StreamSink<'a, C, W> {
     pub fn new(clock: &'a C, stream: W) -> Self
-        ensures { result ≡ record { clock = clock.entry; stream = stream; faults = 0 } }
+        ensures { result ≡ record { clock = clock.entry; stream = stream; fault = None; faults = 0 } }
     {
         StreamSink {
             clock,
             stream,
+            fault: None,
             faults: 0,
         }
+    }
+
+    /// Why a write failed, if one has.
+    pub fn fault(&self) -> Option<io::Error> {
+        self.fault
     }
 }
 
@@ -93,7 +112,14 @@ impl<'a, C: Clock, W: Write> Sink for StreamSink<'a, C, W> {
             match self.stream.write(bytes) {
                 Ok(n) if n > 0 => return WriteOut::Wrote(n),
                 Err(fault) if comes_back(self.clock, &fault) => {}
-                Ok(_) | Err(_) => break,
+                Ok(_) => {
+                    self.fault = Some(ErrorKind::WriteZero.into());
+                    break;
+                }
+                Err(fault) => {
+                    self.fault = Some(fault);
+                    break;
+                }
             }
         }
         self.faults = self.faults.saturating_add(1);

@@ -4,9 +4,9 @@ ghost use Rattle.std.specs.Prelude.{◌≡◌, None, IfOk};
 ghost use Rattle.drm_links.specs.Known.{RisesWhere};
 ghost use Rattle.drm_links.specs.Dock.{IsFresh, IsFailed};
 
-use crate::UdpLink;
+use crate::{Edge, UdpLink};
 use drm_links::{Address, Dock, Link, Opened};
-use std::io;
+use std::io::{self, Eprint};
 use std::net::{Ipv4Addr, Net, SocketAddr, SocketAddrV4, UdpSocket};
 use std::time::Clock;
 
@@ -16,27 +16,53 @@ const ANY: Address = Address {
     port: 0,
 };
 
+/// Why a link failed, or couldn't be opened.
+#[derive(Clone, Copy, Drop)]
+struct Failure {
+    at: SocketAddr,
+    fault: io::Error,
+}
+
 /// A dock over the sockets of a runtime.
 #[derive(Drop)]
 pub struct UdpDock<'a, R> {
-    system: &'a R,
-    pub(crate) faults: u64,
+    edge: &'a Edge<'a, R>,
+    failures: Vec<Failure>,
+    faults: u64,
 }
 
-impl<'a, R: Net + Clock> UdpDock<'a, R> {
-    pub fn new(system: &'a R) -> Self
-        ensures { result ≡ record { system = system.entry; faults = 0 } }
+impl<'a, R: Net + Clock + Eprint> UdpDock<'a, R> {
+    pub fn new(edge: &'a Edge<'a, R>) -> Self {
+        UdpDock {
+            edge,
+            failures: Vec::new(edge.alloc),
+            faults: 0,
+        }
+    }
+
+    /// Writes a line for each link that failed or couldn't be opened, in the order in which that came out.
+    pub fn say_faults(&self) {
+        for failure in &self.failures {
+            self.edge.say_fault(failure.at, failure.fault);
+        }
+    }
+
+    fn keep(&mut self, at: Address, fault: io::Error)
+        ensures { (self.new).faults ≡ (self.old).faults }
     {
-        UdpDock { system, faults: 0 }
+        let at = socket_addr(at);
+        // Without memory there is no line.
+        let _ = self.failures.push(Failure { at, fault });
     }
 
     fn open(&mut self, at: Address, dest: Option<Address>) -> Opened<UdpLink<'a, R>>
         ensures fresh { IsFresh ⟦<UdpLink<'a, R> as Link>⟧.known ⟦<UdpLink<'a, R> as Link>⟧.idles result }
         ensures cause { RisesWhere self.old.faults self.new.faults (IsFailed result) }
     {
-        match open_link(self.system, at, dest) {
+        match open_link(self.edge, at, dest) {
             Ok(link) => Opened::Link(link),
-            Err(_) => {
+            Err(fault) => {
+                self.keep(dest.unwrap_or(at), fault);
                 self.faults = self.faults.saturating_add(1);
                 Opened::Failed
             }
@@ -44,7 +70,7 @@ impl<'a, R: Net + Clock> UdpDock<'a, R> {
     }
 }
 
-impl<'a, R: Net + Clock> Dock for UdpDock<'a, R> {
+impl<'a, R: Net + Clock + Eprint> Dock for UdpDock<'a, R> {
     type L = UdpLink<'a, R>;
 
     ghost known = { λ dock. record { faults = dock.faults; contents = None } };
@@ -55,24 +81,34 @@ impl<'a, R: Net + Clock> Dock for UdpDock<'a, R> {
 
     // The socket isn't connected: else the system would make it a fault of a send that nobody listens there.
     fn reach(&mut self, at: Address) -> Opened<UdpLink<'a, R>> {
+        self.edge.reaches_one_more();
         self.open(ANY, Some(at))
     }
 
-    fn close(&mut self, _at: Address, link: UdpLink<'a, R>) {
-        drop(link);
+    fn close(&mut self, at: Address, link: UdpLink<'a, R>) {
+        if let Some(fault) = ended(link) {
+            self.keep(at, fault);
+        }
     }
 }
 
-fn open_link<'a, R: Net + Clock>(
-    system: &'a R,
+fn open_link<'a, R: Net + Clock + Eprint>(
+    edge: &'a Edge<'a, R>,
     at: Address,
     dest: Option<Address>,
 ) -> io::Result<UdpLink<'a, R>>
     ensures faults { IfOk result (λ link. link.faults ≡ 0) }
     ensures idles { IfOk result (λ link. link.idles ≡ 0) }
 {
-    let socket = UdpSocket::bind(system, socket_addr(at))?;
-    UdpLink::over(system, socket, dest.map(socket_addr))
+    let socket = UdpSocket::bind(edge.system, socket_addr(at))?;
+    UdpLink::over(edge, socket, dest.map(socket_addr))
+}
+
+// Ends a link, and gives why it failed, if it did.
+fn ended<R: Clock + Eprint>(link: UdpLink<'_, R>) -> Option<io::Error> {
+    let mut link = link;
+    link.tell_last();
+    link.fault
 }
 
 fn socket_addr(at: Address) -> SocketAddr {

@@ -15,24 +15,33 @@
 #![tactic(auto)]
 
 use cli_program::given_words;
-use drm_adapt::{FileShelf, StreamSink, StreamSource, UdpDock};
+use drm_adapt::{Edge, FileShelf, StreamSink, StreamSource, UdpDock};
 use drm_top::{no_memory, run};
 use std::env;
 use std::process::ExitCode;
 
 fn main(rt: HostRuntime) -> ExitCode {
     let alloc = rt.alloc();
+    let edge = Edge::new(&rt, alloc, "drmcast");
     let mut input = StreamSource::new(&rt, rt.stdin());
     let mut out = StreamSink::new(&rt, rt.stdout());
     let mut err = StreamSink::new(&rt, rt.stderr());
     let words = given_words(alloc, env::args(&rt));
-    let mut shelf = FileShelf::new(&rt);
-    let mut dock = UdpDock::new(&rt);
+    let mut shelf = FileShelf::new(&edge);
+    let mut dock = UdpDock::new(&edge);
     let status = match words {
         Ok(words) => run(
             &rt, alloc, &words, &mut shelf, &mut input, &mut out, &mut err, &mut dock,
         ),
         Err(_) => no_memory(&mut err),
     };
+    dock.say_faults();
+    shelf.say_fault();
+    if let Some(fault) = input.fault() {
+        edge.say_fault("standard input", fault);
+    }
+    if let Some(fault) = out.fault() {
+        edge.say_fault("standard output", fault);
+    }
     ExitCode::from(status.code)
 }

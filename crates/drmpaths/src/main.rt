@@ -15,19 +15,24 @@
 
 use cli_program::given_words;
 use cmd_paths::{no_memory, run_paths};
-use drm_adapt::{StreamSink, UdpDock};
+use drm_adapt::{Edge, StreamSink, UdpDock};
 use std::env;
 use std::process::ExitCode;
 
 fn main(rt: HostRuntime) -> ExitCode {
     let alloc = rt.alloc();
+    let edge = Edge::new(&rt, alloc, "drmpaths");
     let mut out = StreamSink::new(&rt, rt.stdout());
     let mut err = StreamSink::new(&rt, rt.stderr());
     let words = given_words(alloc, env::args(&rt));
-    let mut dock = UdpDock::new(&rt);
+    let mut dock = UdpDock::new(&edge);
     let status = match words {
         Ok(words) => run_paths(&rt, alloc, &words, &mut out, &mut err, &mut dock),
         Err(_) => no_memory(&mut err),
     };
+    dock.say_faults();
+    if let Some(fault) = out.fault() {
+        edge.say_fault("standard output", fault);
+    }
     ExitCode::from(status.code)
 }

@@ -1,9 +1,10 @@
 //! Files of the system as a shelf gives them.
 
 use crate::calls::{Gave, what_it_gave};
-use drm_adapt::FileShelf;
+use drm_adapt::{Edge, FileShelf};
 use drm_links::Shelf;
 use std::alloc::Global;
+use std::io::Eprint;
 use std::rt::{Env, Files};
 use std::{env, fs};
 
@@ -29,15 +30,16 @@ fn gives_no_other<S: Shelf>(alloc: Global, shelf: &mut S, file: &str, folder: &s
 }
 
 // A file of the system is given while it is there.
-fn loads<R: Files>(rt: &R, alloc: Global, file: &str, folder: &str) -> bool {
-    let mut shelf = FileShelf::new(rt);
+fn loads<R: Files + Eprint>(rt: &R, alloc: Global, file: &str, folder: &str) -> bool {
+    let edge = Edge::new(rt, alloc, "test_links");
+    let mut shelf = FileShelf::new(&edge);
     fs::write(rt, file, "drmplan 1").is_ok()
         && gives_what_stands(alloc, &mut shelf, file)
         && fs::remove_file(rt, file).is_ok()
         && gives_no_other(alloc, &mut shelf, file, folder)
 }
 
-fn loads_files<R: Files + Env + AllocGlobal>(rt: &R, alloc: Global) -> bool {
+fn loads_files<R: Files + Eprint + Env + AllocGlobal>(rt: &R, alloc: Global) -> bool {
     let Ok(folder) = env::temp_dir(rt) else {
         return false;
     };

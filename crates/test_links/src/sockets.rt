@@ -1,6 +1,6 @@
 //! Datagrams over sockets of the loopback.
 
-use drm_adapt::UdpDock;
+use drm_adapt::{Edge, UdpDock};
 use drm_links::{Address, Came, Dock, LONGEST_DATAGRAM, Link, Opened, Sent};
 use std::alloc::Global;
 use std::time::{Clock, Duration, Instant};
@@ -99,7 +99,8 @@ fn cross_from<D: Dock>(alloc: Global, dock: &mut D, first: u16) -> usize {
 
 #[test]
 fn datagrams_cross_the_loopback(rt: HostRuntime) {
-    let mut dock = UdpDock::new(&rt);
+    let edge = Edge::new(&rt, rt.alloc(), "test_links");
+    let mut dock = UdpDock::new(&edge);
     let lengths = cross_from(rt.alloc(), &mut dock, 47_000);
     assert!(rt; lengths == 5, "length {lengths}");
 }
@@ -127,7 +128,8 @@ fn is_quiet<R: Clock, D: Dock>(rt: &R, alloc: Global, dock: &mut D, first: u16) 
 
 #[test]
 fn a_quiet_link_is_idle(rt: HostRuntime) {
-    let mut dock = UdpDock::new(&rt);
+    let edge = Edge::new(&rt, rt.alloc(), "test_links");
+    let mut dock = UdpDock::new(&edge);
     assert!(rt; is_quiet(&rt, rt.alloc(), &mut dock, 47_100));
 }
 
@@ -156,7 +158,8 @@ fn go_to_their_address<D: Dock>(alloc: Global, dock: &mut D, first: u16) -> bool
 // The numbers of an address stand in their order.
 #[test]
 fn datagrams_go_to_their_address(rt: HostRuntime) {
-    let mut dock = UdpDock::new(&rt);
+    let edge = Edge::new(&rt, rt.alloc(), "test_links");
+    let mut dock = UdpDock::new(&edge);
     assert!(rt; go_to_their_address(rt.alloc(), &mut dock, 47_300));
 }
 
@@ -179,7 +182,8 @@ fn fails_in_use<D: Dock>(dock: &mut D, first: u16) -> bool {
 
 #[test]
 fn an_address_in_use_is_failed(rt: HostRuntime) {
-    let mut dock = UdpDock::new(&rt);
+    let edge = Edge::new(&rt, rt.alloc(), "test_links");
+    let mut dock = UdpDock::new(&edge);
     assert!(rt; fails_in_use(&mut dock, 47_200));
 }
 
@@ -212,7 +216,8 @@ fn sends_to_nobody<D: Dock>(alloc: Global, dock: &mut D, first: u16) -> bool {
 
 #[test]
 fn a_send_to_nobody_is_no_fault(rt: HostRuntime) {
-    let mut dock = UdpDock::new(&rt);
+    let edge = Edge::new(&rt, rt.alloc(), "test_links");
+    let mut dock = UdpDock::new(&edge);
     assert!(rt; sends_to_nobody(rt.alloc(), &mut dock, 47_400));
 }
 
@@ -259,6 +264,7 @@ fn rest_so_long<R: Clock, D: Dock>(rt: &R, alloc: Global, dock: &mut D, first: u
 
 #[test]
 fn a_rest_takes_its_time(rt: HostRuntime) {
-    let mut dock = UdpDock::new(&rt);
+    let edge = Edge::new(&rt, rt.alloc(), "test_links");
+    let mut dock = UdpDock::new(&edge);
     assert!(rt; rest_so_long(&rt, rt.alloc(), &mut dock, 47_600));
 }

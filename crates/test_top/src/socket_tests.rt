@@ -1,10 +1,11 @@
 //! Schedules over UDP, on the loopback.
 
 use crate::small::is_done;
-use drm_adapt::UdpDock;
+use drm_adapt::{Edge, UdpDock};
 use drm_bits::zeros;
 use drm_links::{Address, Came, Dock, LONGEST_DATAGRAM, Link, Opened};
 use std::alloc::Global;
+use std::io::Eprint;
 use std::net::Net;
 use std::thread::{Threads, join, sleep};
 use std::time::{Clock, Duration};
@@ -81,17 +82,19 @@ fn come<L: Link>(alloc: Global, link: &mut L) -> usize {
 }
 
 // A command line over the sockets of the system.
-fn is_done_over_udp<R: AllocGlobal + Threads + Sync + Net + Clock>(
+fn is_done_over_udp<R: AllocGlobal + Threads + Sync + Net + Clock + Eprint>(
     rt: &R,
     line: &[&str],
     written: &[u8],
 ) -> bool {
-    let mut dock = UdpDock::new(rt);
+    let edge = Edge::new(rt, rt.alloc(), "test_top");
+    let mut dock = UdpDock::new(&edge);
     is_done(rt, rt.alloc(), line, &mut dock, written)
 }
 
-fn is_sent<R: AllocGlobal + Threads + Sync + Net + Clock>(rt: &R) -> usize {
-    let mut dock = UdpDock::new(rt);
+fn is_sent<R: AllocGlobal + Threads + Sync + Net + Clock + Eprint>(rt: &R) -> usize {
+    let edge = Edge::new(rt, rt.alloc(), "test_top");
+    let mut dock = UdpDock::new(&edge);
     let Some((mut link, to)) = bind(&mut dock) else {
         return 0;
     };
@@ -118,7 +121,7 @@ fn where_nobody_sends_the_report_ends_idle(rt: HostRuntime) {
 const BOTH: &str = "127.0.0.1:47812,127.0.0.1:47813";
 
 // Whether two receivers get all of it.
-fn both_hear_it<R: AllocGlobal + Threads + Sync + Net + Clock>(rt: &R) -> bool {
+fn both_hear_it<R: AllocGlobal + Threads + Sync + Net + Clock + Eprint>(rt: &R) -> bool {
     let line = ["receive", BOTH, "--frames", "3", "--idle", "100"];
     match reports(rt.alloc(), 2) {
         Ok(reports) => is_done_over_udp(rt, &line, &reports),

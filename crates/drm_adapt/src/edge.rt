@@ -1,0 +1,108 @@
+//! What a program says to a person, beside what `run` writes.
+
+use crate::refusals::Standing;
+use jiff::Timestamp;
+use std::alloc::Global;
+use std::fmt::Display;
+use std::io::{self, Eprint};
+use std::net::SocketAddr;
+use std::sync::atomic::{AtomicU64, Ordering};
+use std::time::SystemTime;
+
+/// What std puts between the system's words for a fault and its number.
+const BEFORE_NUMBER: &str = " (os error ";
+
+/// The system under the links and files of a program, and the program's name, with which its lines on standard error begin.
+/// Nothing of these lines is in a contract. A line for which memory is lacking, or that standard error doesn't take, is lost.
+#[derive(Drop)]
+pub struct Edge<'a, R> {
+    pub(crate) system: &'a R,
+    pub(crate) alloc: Global,
+    program: &'a str,
+    /// How many addresses were reached, for each link to see.
+    reached: AtomicU64,
+}
+
+impl<'a, R> Edge<'a, R> {
+    /// The edge of the program with this name.
+    pub fn new(system: &'a R, alloc: Global, program: &'a str) -> Self {
+        Edge {
+            system,
+            alloc,
+            program,
+            reached: AtomicU64::new(0),
+        }
+    }
+
+    pub(crate) fn reaches_one_more(&self) {
+        self.reached.fetch_add(1, Ordering::SeqCst);
+    }
+
+    /// Whether links to several addresses were opened, which aren't to wait for one another.
+    pub(crate) fn has_several(&self) -> bool {
+        self.reached.load(Ordering::SeqCst) > 1
+    }
+}
+
+impl<R: Eprint> Edge<'_, R> {
+    /// Writes a line about an address, a file or a stream.
+    pub fn say<S: Display + Drop, T: Display + Drop>(&self, subject: S, text: T) {
+        let program = self.program;
+        let _ = self
+            .system
+            .eprintln(format_args!("{program}: {subject}: {text}"));
+    }
+
+    /// Writes why a call failed: the system's words, and its number where it has one.
+    pub fn say_fault<S: Display + Drop>(&self, subject: S, fault: io::Error) {
+        if let Ok(reason) = self.reason(fault) {
+            self.say(subject, reason);
+        }
+    }
+
+    /// Writes how the sends to an address stand, of which so many datagrams are lost.
+    pub(crate) fn say_standing(&self, dest: SocketAddr, standing: Standing, lost: u64) {
+        match standing {
+            Standing::Accepted => {
+                self.say(dest, format_args!("accepted again, {lost} datagrams lost"));
+            }
+            Standing::Refused { since, reason } => {
+                if let Ok(reason) = self.reason(reason) {
+                    self.say_refused(dest, since, &reason);
+                }
+            }
+        }
+    }
+
+    fn say_refused(&self, dest: SocketAddr, since: Option<SystemTime>, reason: &str) {
+        match since.and_then(in_seconds) {
+            Some(since) => self.say(dest, format_args!("refused since {since}: {reason}")),
+            None => self.say(dest, format_args!("refused: {reason}")),
+        }
+    }
+
+    // The system's words for a fault, and its number where it has one.
+    fn reason(&self, fault: io::Error) -> io::Result<String> {
+        let text = format!(in self.alloc; "{fault}")?;
+        match fault.raw_os_error() {
+            Some(number) => {
+                let words = before_number(&text);
+                Ok(format!(in self.alloc; "{words} ({number})")?)
+            }
+            None => Ok(text),
+        }
+    }
+}
+
+// A person needs no part of a second.
+fn in_seconds(moment: SystemTime) -> Option<Timestamp> {
+    let moment = Timestamp::try_from(moment).ok()?;
+    Timestamp::from_second(moment.as_second()).ok()
+}
+
+fn before_number(text: &str) -> &str {
+    match text.split_once(BEFORE_NUMBER) {
+        Some((words, _)) => words,
+        None => text,
+    }
+}
