@@ -1,20 +1,25 @@
 #!/usr/bin/env python3
-"""Runs the built program where the network and the streams fail for a moment, as no contract can say.
+"""Runs the built program where the network and the streams fail for a while, as no contract can say.
 
     sudo tools/edge_network.py PROGRAM
 
-A server, a gateway and a receiver go on while a route, an address or an interface is gone or a packet filter drops what is sent; a
-server ends where it can't send from the beginning, or for 60 seconds; after a halt its frames go out at most four times as fast as the
-pace until they are on time; streams that don't block are waited for. What needs a network is tried in network namespaces of its own,
-which want root, `ip` (iproute2) and `nft` (nftables), and is skipped where one of these isn't there. It takes about 70 seconds, most
-of them the 60; --quick leaves those out. Status 1 where one of the trials fails.
+A server, a gateway and a receiver go on while a route, an address or an interface is gone or a packet filter drops what is sent, for half
+a second or for more than a minute, and say on standard error when that began and when it ended; a modulator whose route comes late is
+served from then on, and one whose line is stuck keeps fifteen others from no moment; a single address that is wrong from the beginning
+ends the run at once. After a halt a server's frames go out at most four times as fast as the pace until they are on time; streams that
+don't block are waited for. What needs a network is tried in network namespaces of its own, which want root, `ip` and `tc` (iproute2) and
+`nft` (nftables), and is skipped where one of these isn't there. It takes about 90 seconds, most of them a network that is down for 66;
+--quick leaves that out. Status 1 where one of the trials fails.
 """
 import concurrent.futures
 import contextlib
+import ctypes
+import datetime
 import fcntl
 import itertools
 import os
 import re
+import selectors
 import shutil
 import signal
 import socket
@@ -29,6 +34,10 @@ import pace
 
 FRAMES, PACE = 150, 20
 HERE, THERE = "10.77.0.1", "10.77.0.2"
+# a second address of the receiver's, to which no route leads at first
+LATE = "10.99.0.1"
+# the ends of a link of its own, which is stuck
+NEAR, STUCK = "10.78.0.1", "10.78.0.2"
 ROUTE = f"{THERE}/32"
 FILTER = "add table ip edge; add chain ip edge out { type filter hook output priority 0; }; add rule ip edge out ip daddr " + f"{THERE} drop"
 # what breaks, by which commands in the server's namespace, and what mends it
@@ -43,6 +52,10 @@ TROUBLES = {
 }
 # more of them would keep one another from their moments
 SIDE_BY_SIDE = 4
+SECONDS_DOWN = 66
+REFUSED = re.compile(r"drmcast: (?P<at>[\d.:]+): refused since (?P<since>\d{4}-\d\d-\d\dT\d\d:\d\d:\d\dZ): (?P<reason>[^()]+) \(\d+\)")
+ACCEPTED = re.compile(r"drmcast: (?P<at>[\d.:]+): accepted again, (?P<lost>\d+) datagrams lost")
+CLONE_NEWNET = 0x40000000
 NUMBERS = itertools.count()
 
 
@@ -73,9 +86,16 @@ class Network:
         subprocess.run(["ip", "netns", "exec", name, *words], check=True)
 
     @contextlib.contextmanager
+    def reports(self, name, *words):
+        """A program in a namespace, and all that it will have printed, which is read meanwhile: a full pipe would halt it."""
+        with self.starts(name, *words) as run, concurrent.futures.ThreadPoolExecutor(1) as reader:
+            waits_for_socket(run)
+            yield reader.submit(run.stdout.read)
+
+    @contextlib.contextmanager
     def starts(self, name, *words):
         """A program in a namespace, which is gone afterwards."""
-        with subprocess.Popen(["ip", "netns", "exec", name, *words], stdout=subprocess.PIPE, stderr=subprocess.DEVNULL, text=True) as run:
+        with subprocess.Popen(["ip", "netns", "exec", name, *words], stdout=subprocess.PIPE, stderr=subprocess.PIPE, text=True) as run:
             try:
                 yield run
             finally:
@@ -90,16 +110,37 @@ def serves(program, plan, to, millis=PACE):
     return [program, "serve", plan, "--to", to, "--pace", str(millis)]
 
 
-def complaints_of(report):
+def missing_of(report):
+    """The numbers of the frames that a report misses."""
+    return [int(it) for it in re.findall(r"^missing (\d+)", report, re.MULTILINE)]
+
+
+def complaints_of(report, frames=FRAMES):
     """What is wrong with a report of frames of which one stretch is lost, and the others came in time."""
     end = re.search(r"^end (\w+) given (\d+) missing (\d+) bad 0 refused 0$", report, re.MULTILINE)
     if end is None:
         return [f"the report ends with {report.splitlines()[-1:]}"]
     given, missing = int(end[2]), int(end[3])
-    lost = [int(it) for it in re.findall(r"^missing (\d+)", report, re.MULTILINE)]
-    said = [] if given + missing == FRAMES else [f"{given} given and {missing} missing of {FRAMES}"]
+    lost = missing_of(report)
+    said = [] if given + missing == frames else [f"{given} given and {missing} missing of {frames}"]
     said += [] if lost and lost == list(range(lost[0], lost[-1] + 1)) else [f"lost were {lost}"]
-    return said + ([] if lost and lost[-1] < FRAMES - 10 else ["nothing came once it was mended"])
+    return said + ([] if lost and lost[-1] < frames - 10 else ["nothing came once it was mended"])
+
+
+def complaints_of_lines(text, at, lost):
+    """What is wrong with lines that say that sends to an address were refused, and are accepted again, so many datagrams later."""
+    refused = [it for it in map(REFUSED.fullmatch, text.splitlines()) if it]
+    accepted = [it for it in map(ACCEPTED.fullmatch, text.splitlines()) if it]
+    if len(text.splitlines()) != 2 or [len(refused), len(accepted)] != [1, 1]:
+        return [f"standard error has {text.splitlines()}"]
+    said = [] if refused[0]["at"] == accepted[0]["at"] == at else [f"the lines name {refused[0]['at']} and {accepted[0]['at']}"]
+    return said + ([] if int(accepted[0]["lost"]) == lost else [f"{accepted[0]['lost']} lost by the line, {lost} by the report"])
+
+
+def seconds_ago(line):
+    """How long ago the moment in a line was."""
+    since = datetime.datetime.fromisoformat(REFUSED.fullmatch(line)["since"].replace("Z", "+00:00"))
+    return (datetime.datetime.now(datetime.timezone.utc) - since).total_seconds()
 
 
 def sends_through(program, folder, breaks, mends, gateway=False, receiver=False):
@@ -121,9 +162,11 @@ def sends_through(program, folder, breaks, mends, gateway=False, receiver=False)
         time.sleep(0.5)
         for command in mends:
             net.runs(net.there if receiver else net.here, command)
-        lines += report.stdout
+        text = "".join([*lines, *report.stdout])
         said = [f"status {run.returncode}" for run in ended if run.wait(30)]
-    return said + complaints_of("".join(lines))
+        if not receiver:
+            said += complaints_of_lines(ended[0].stderr.read(), f"{THERE}:5000", len(missing_of(text)))
+    return said + complaints_of(text)
 
 
 def waits_for_socket(run):
@@ -136,22 +179,156 @@ def waits_for_socket(run):
 
 
 def fails_at_once(program, folder):
-    """An address to which there is no route is a fault at the first send."""
-    with Network() as net, net.starts(net.here, *serves(program, plan_of(folder), "10.99.0.1:5000")) as run:
+    """A single address to which there is no route is a fault at the first send."""
+    with Network() as net, net.starts(net.here, *serves(program, plan_of(folder), f"{LATE}:5000")) as run:
         start = time.monotonic()
-        status = run.wait(30)
-        return ([] if status == 6 else [f"status {status}"]) + ([] if time.monotonic() - start < 5 else ["late"])
+        status, lines = run.wait(30), run.stderr.read()
+        wanted = f"drmcast: link fault\ndrmcast: {LATE}:5000: Network is unreachable (101)\n"
+        return ([] if status == 6 else [f"status {status}"]) + ([] if time.monotonic() - start < 5 else ["late"]) + ([] if lines == wanted else [lines])
 
 
-def gives_up(program, folder):
-    """A network that has been gone for 60 seconds is a fault."""
-    with Network() as net, net.starts(net.here, *serves(program, plan_of(folder, 900), f"{THERE}:5000", 200)) as run:
+def is_down_for_long(program, folder):
+    """A gateway's modulator whose network is down for more than a minute is served again when it is back; the monitor beside it misses nothing."""
+    millis = 200
+    frames = (SECONDS_DOWN + 14) * 1000 // millis // 3 * 3
+    receives = [program, "receive", "--first", "0", "--frames", str(frames), "--idle", "900"]
+    with Network() as net, contextlib.ExitStack() as runs:
+        modulator = runs.enter_context(net.starts(net.there, *receives, f"{THERE}:5000"))
+        monitor = runs.enter_context(net.reports(net.here, *receives, "127.0.0.1:5001"))
+        gate = runs.enter_context(net.starts(net.here, program, "gate", f"{HERE}:5001", f"{THERE}:5000,127.0.0.1:5001", "plain",
+                                             "--first", "0", "--frames", str(frames), "--idle", "900"))
+        for run in (modulator, gate):
+            waits_for_socket(run)
+        server = runs.enter_context(net.starts(net.here, *serves(program, plan_of(folder, frames), f"{HERE}:5001", millis)))
+        seen = list(itertools.islice(modulator.stdout, 10))
+        net.runs(net.here, "ip link set here down")
+        first = gate.stderr.readline()
+        said = [] if seconds_ago(first.strip()) < 2 else [f"late: {first}"]
+        time.sleep(SECONDS_DOWN)
+        net.runs(net.here, "ip link set here up")
+        text, whole = "".join([*seen, *modulator.stdout]), monitor.result()
+        said += [f"status {run.returncode}" for run in (server, gate) if run.wait(30)]
+        said += complaints_of_lines(first + gate.stderr.read(), f"{THERE}:5000", len(missing_of(text)))
+        said += [] if f"end frames given {frames} missing 0 bad 0 refused 0" in whole else [f"the monitor: {whole.splitlines()[-1:]}"]
+    return said + complaints_of(text, frames)
+
+
+def route_comes_late(program, folder):
+    """Of two modulators one has a route from the second second on: it is served from then on, the other all along."""
+    receives = [program, "receive", "--first", "0", "--frames", str(FRAMES), "--idle", "50"]
+    with Network() as net, contextlib.ExitStack() as runs:
+        net.runs(net.there, f"ip address add {LATE}/32 dev there")
+        early = runs.enter_context(net.reports(net.there, *receives, f"{THERE}:5000"))
+        late = runs.enter_context(net.reports(net.there, *receives, f"{LATE}:5000"))
+        server = runs.enter_context(net.starts(net.here, *serves(program, plan_of(folder), f"{THERE}:5000,{LATE}:5000")))
         time.sleep(1)
-        start = time.monotonic()
+        net.runs(net.here, f"ip route add {LATE}/32 via {THERE}")
+        text, whole = late.result(), early.result()
+        said = [f"status {server.returncode}"] if server.wait(30) else []
+        said += complaints_of_lines(server.stderr.read(), f"{LATE}:5000", len(missing_of(text)))
+        said += [] if f"end frames given {FRAMES} missing 0 bad 0 refused 0" in whole else [f"the first modulator: {whole.splitlines()[-1:]}"]
+    return said + complaints_of(text)
+
+
+def tells_the_end(program, folder):
+    """Of a network that is away for three seconds the end is told ten seconds behind the beginning, while the server goes on."""
+    frames, millis = 300, 50
+    with Network() as net, contextlib.ExitStack() as runs:
+        server = runs.enter_context(net.starts(net.here, *serves(program, plan_of(folder, frames), f"{THERE}:5000", millis)))
+        time.sleep(1)
         net.runs(net.here, f"ip route add prohibit {ROUTE}")
-        status = run.wait(120)
-        passed = time.monotonic() - start
-        return ([] if status == 6 else [f"status {status}"]) + ([] if 59 < passed < 62 else [f"after {passed:.1f} seconds"])
+        first = server.stderr.readline()
+        began = time.monotonic()
+        time.sleep(3)
+        net.runs(net.here, f"ip route del prohibit {ROUTE}")
+        second = server.stderr.readline()
+        passed, goes_on = time.monotonic() - began, server.poll() is None
+        said = [] if REFUSED.fullmatch(first.strip()) and ACCEPTED.fullmatch(second.strip()) else [f"standard error has {first!r} and {second!r}"]
+        said += [] if 9.5 < passed < 11 and goes_on else [f"after {passed:.1f} seconds"]
+        status, rest = server.wait(30), server.stderr.read()
+    return said + ([] if status == 0 else [f"status {status}"]) + ([] if not rest else [f"and {rest!r}"])
+
+
+# Four streams of so many bytes make 169 fragments of 256 bytes.
+WIDE_PLAN = """drmplan 2
+carry pft 1 256
+first 0 0
+length {length}
+config 0 0
+mode B
+occupancy 3
+depth long
+msc 0
+sdc 0
+protection 0 1
+room 76
+service e0d201 0 0 5 audio 0 0
+stream 4000 4000 fill 00
+stream 4000 4000 fill 00
+stream 4000 4000 fill 00
+stream 4000 4000 fill 00
+block 0
+audio 0 0 0 1 0 3 0 0 0
+"""
+
+
+def sockets_in(name, addresses):
+    """Sockets that receive at addresses of a namespace, made by a thread that has entered it."""
+    def make():
+        with open(f"/run/netns/{name}", encoding="ascii") as it:
+            if ctypes.CDLL(None, use_errno=True).setns(it.fileno(), CLONE_NEWNET):
+                raise OSError(ctypes.get_errno(), "setns")
+        made = []
+        for at in addresses:
+            made.append(socket.socket(socket.AF_INET, socket.SOCK_DGRAM))
+            made[-1].setsockopt(socket.SOL_SOCKET, socket.SO_RCVBUF, 1 << 22)
+            made[-1].bind(at)
+        return made
+    with concurrent.futures.ThreadPoolExecutor(1) as pool:
+        return pool.submit(make).result()
+
+
+def first_moments(sockets, frames):
+    """When the first fragment of each frame came, by socket; until every frame has, or nothing more comes for five seconds."""
+    moments = {it: {} for it in sockets}
+    with selectors.DefaultSelector() as chosen:
+        for it in sockets:
+            chosen.register(it, selectors.EVENT_READ)
+        while any(len(it) < frames for it in moments.values()):
+            ready = chosen.select(5)
+            if not ready:
+                break
+            now = time.monotonic()
+            for key, _ in ready:
+                number = int.from_bytes(key.fileobj.recv(65_536)[2:4], "big")
+                moments[key.fileobj].setdefault(number, now)
+    return list(moments.values())
+
+
+def one_is_stuck(program, folder):
+    """Of sixteen modulators one has a line that takes nothing: the fifteen others get each frame of 169 fragments at its moment."""
+    frames, millis = 30, 200
+    name = os.path.join(folder, "wide.plan")
+    with open(name, "w", encoding="utf-8") as plan:
+        plan.write(WIDE_PLAN.format(length=frames // 3))
+    with Network() as net, contextlib.ExitStack() as runs:
+        net.runs(net.here, f"ip link add near type veth peer name stuck netns {net.there}")
+        for space, device, at in ((net.here, "near", NEAR), (net.there, "stuck", STUCK)):
+            net.runs(space, f"ip address add {at}/30 dev {device}")
+            net.runs(space, f"ip link set {device} up")
+        net.runs(net.here, "tc qdisc add dev near root tbf rate 8bit burst 1600 limit 100000000")
+        addresses = [(THERE, 5000 + k) for k in range(15)]
+        sockets = [runs.enter_context(it) for it in sockets_in(net.there, addresses)]
+        words = [f"{ip}:{port}" for ip, port in [*addresses[:7], (STUCK, 5000), *addresses[7:]]]
+        server = runs.enter_context(net.starts(net.here, *serves(program, name, ",".join(words), millis)))
+        moments = first_moments(sockets, frames)
+        status, lines = server.wait(30), server.stderr.read().splitlines()
+    said = [] if status == 0 else [f"status {status}"]
+    said += [] if all(len(it) == frames for it in moments) else [f"frames {[len(it) for it in moments]}"]
+    off = max((abs(it[k] - it[0] - k * millis / 1000) for it in moments for k in it if 0 in it), default=0)
+    said += [] if off < 0.1 else [f"{off * 1000:.0f} ms off"]
+    refused = [it for it in map(REFUSED.fullmatch, lines) if it]
+    return said + ([] if refused and all(it["at"] == f"{STUCK}:5000" for it in refused) else [f"standard error has {lines}"])
 
 
 def catches_up(program, folder):
@@ -224,7 +401,7 @@ def waits_to_read(program, folder):
 
 def trials(program, quick):
     """Each trial by its name; None where it can't be run."""
-    can = os.geteuid() == 0 and shutil.which("ip") and shutil.which("nft")
+    can = os.geteuid() == 0 and all(map(shutil.which, ("ip", "tc", "nft")))
     def network(trial, *words, **options):
         return (lambda folder: trial(program, folder, *words, **options)) if can else None
     for name, (breaks, mends) in TROUBLES.items():
@@ -232,8 +409,11 @@ def trials(program, quick):
     yield "gate, a route prohibits", network(sends_through, *TROUBLES["a route prohibits"], gateway=True)
     yield "receive, the interface is down", network(sends_through, ["ip link set there down"], ["ip link set there up"], receiver=True)
     yield "serve, no route from the beginning", network(fails_at_once)
+    yield "serve, a route that comes late", network(route_comes_late)
+    yield "serve, away for three seconds", network(tells_the_end)
+    yield "serve, one of sixteen links is stuck", network(one_is_stuck)
     if not quick:
-        yield "serve, no route for 60 seconds", network(gives_up)
+        yield f"gate, down for {SECONDS_DOWN} seconds", network(is_down_for_long)
     yield "serve, a halt", lambda folder: catches_up(program, folder)
     yield "standard output doesn't block", lambda folder: waits_to_write(program, folder)
     yield "standard input doesn't block", lambda folder: waits_to_read(program, folder)
@@ -261,7 +441,7 @@ def main():
             print(f"{name}: {', '.join(said)}")
     for name, trial in every:
         if trial is None:
-            print(f"{name}: skipped, since it needs root, ip and nft")
+            print(f"{name}: skipped, since it needs root, ip, tc and nft")
     failed = sum(map(bool, answers))
     print(f"edge_network: {len(wanted) - failed} passed, {failed} failed, {len(every) - len(wanted)} skipped")
     sys.exit(failed > 0)

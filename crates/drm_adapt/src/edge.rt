@@ -1,5 +1,6 @@
 //! What a program says to a person, beside what `run` writes.
 
+use crate::names::readable;
 use crate::refusals::Standing;
 use jiff::Timestamp;
 use std::alloc::Global;
@@ -45,8 +46,22 @@ impl<'a, R> Edge<'a, R> {
 }
 
 impl<R: Eprint> Edge<'_, R> {
-    /// Writes a line about an address, a file or a stream.
-    pub fn say<S: Display + Drop, T: Display + Drop>(&self, subject: S, text: T) {
+    /// Writes a line about a file or a word, whose control characters are written so that they can be read.
+    pub fn say_about<T: Display + Drop>(&self, name: &str, text: T) {
+        if let Ok(name) = readable(self.alloc, name) {
+            self.say(name, text);
+        }
+    }
+
+    /// Writes why a call failed that had to do with a file.
+    pub(crate) fn say_fault_of(&self, name: &str, fault: io::Error) {
+        if let Ok(reason) = self.reason(fault) {
+            self.say_about(name, reason);
+        }
+    }
+
+    // Writes a line about an address, a file or a stream.
+    fn say<S: Display + Drop, T: Display + Drop>(&self, subject: S, text: T) {
         let program = self.program;
         let _ = self
             .system

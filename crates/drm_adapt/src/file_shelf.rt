@@ -6,7 +6,6 @@ ghost use Rattle.drm_links.specs.Shelf.{IsFileWithin};
 ghost use Rattle.drm_adapt.specs.Files.{HoldsFile, IsCopy};
 
 use crate::Edge;
-use crate::names::readable;
 use drm_bits::{NoMemory, Octets};
 use drm_links::{Loaded, Shelf};
 use std::alloc::Global;
@@ -17,7 +16,6 @@ use std::rt::Files;
 /// A file that couldn't be loaded.
 #[derive(Drop)]
 struct Unread {
-    /// As a person can read it.
     name: String,
     fault: io::Error,
 }
@@ -43,7 +41,7 @@ impl<'a, R: Files + Eprint> FileShelf<'a, R> {
     /// Writes a line about the load that failed, if one did.
     pub fn say_fault(&self) {
         if let Some(unread) = &self.unread {
-            self.edge.say_fault(&unread.name, unread.fault);
+            self.edge.say_fault_of(&unread.name, unread.fault);
         }
     }
 }
@@ -59,7 +57,7 @@ impl<'a, R: Files + Eprint> Shelf for FileShelf<'a, R> {
             Ok(loaded) => loaded,
             Err(fault) => {
                 // Without memory there is no line.
-                self.unread = match readable(alloc, name) {
+                self.unread = match String::from_str(alloc, name) {
                     Ok(name) => Some(Unread { name, fault }),
                     Err(_) => None,
                 };

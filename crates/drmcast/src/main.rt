@@ -4,7 +4,8 @@
 //! system, and UDP.
 //!
 //! It builds on `drm_top` (`run`, the contract of all commands), `drm_adapt` (the system's files,
-//! streams and sockets) and `cli_program` (the words).
+//! streams and sockets, and what is said of them), `cli_program` (the words) and `cli_mistakes`
+//! (what is wrong with words that are refused).
 //!
 //! What a command does is in the crates `cmd_`, how its words are read in `drm_words`. Several
 //! networks received as one are another program, `drmpaths`.
@@ -14,11 +15,17 @@
 
 #![tactic(auto)]
 
+use cli_mistakes::words_mistake;
 use cli_program::given_words;
 use drm_adapt::{Edge, FileShelf, StreamSink, StreamSource, UdpDock};
 use drm_top::{no_memory, run};
+use std::alloc::Global;
 use std::env;
+use std::io::Eprint;
 use std::process::ExitCode;
+
+/// The status where the words are no command line.
+const WORDS: u8 = 2;
 
 fn main(rt: HostRuntime) -> ExitCode {
     let alloc = rt.alloc();
@@ -29,12 +36,15 @@ fn main(rt: HostRuntime) -> ExitCode {
     let words = given_words(alloc, env::args(&rt));
     let mut shelf = FileShelf::new(&edge);
     let mut dock = UdpDock::new(&edge);
-    let status = match words {
+    let status = match &words {
         Ok(words) => run(
-            &rt, alloc, &words, &mut shelf, &mut input, &mut out, &mut err, &mut dock,
+            &rt, alloc, words, &mut shelf, &mut input, &mut out, &mut err, &mut dock,
         ),
         Err(_) => no_memory(&mut err),
     };
+    if let (Ok(words), WORDS) = (&words, status.code) {
+        say_mistake(&edge, alloc, words);
+    }
     dock.say_faults();
     shelf.say_fault();
     if let Some(fault) = input.fault() {
@@ -44,4 +54,11 @@ fn main(rt: HostRuntime) -> ExitCode {
         edge.say_fault("standard output", fault);
     }
     ExitCode::from(status.code)
+}
+
+// Which word is wrong, and what could stand there.
+fn say_mistake<R: Eprint>(edge: &Edge<'_, R>, alloc: Global, words: &[String]) {
+    if let Some(mistake) = words_mistake(alloc, words) {
+        edge.say_about(mistake.word.unwrap_or("no words"), mistake.expected);
+    }
 }

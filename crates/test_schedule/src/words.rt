@@ -1,6 +1,7 @@
 //! What words ask for.
 
 use crate::wrong::has_none;
+use cli_mistakes::words_mistake;
 use drm_bits::Octets;
 use drm_links::Address;
 use drm_schedule::{Carry, Live};
@@ -339,10 +340,12 @@ fn are_asked(alloc: Global, words: &[String], expected: &str) -> bool {
     }
 }
 
-// Whether the words of this line ask for what is shown so.
+// Whether the words of this line ask for what is shown so, and no mistake is found in them.
 fn ask(alloc: Global, line: &str, expected: &str) -> bool {
     let mut words = Vec::new(alloc);
-    put_words(alloc, line, &mut words) && are_asked(alloc, &words, expected)
+    put_words(alloc, line, &mut words)
+        && are_asked(alloc, &words, expected)
+        && words_mistake(alloc, &words).is_none()
 }
 
 fn is_right(alloc: Global, line: &str) -> bool {

@@ -1,0 +1,247 @@
+//! The commands as a person sees them: the plain words and the options of each.
+
+use crate::value::{Value, Word};
+
+/// The plain words of a command, and its options.
+#[derive(Clone, Copy, Drop)]
+pub struct Command {
+    pub name: &'static str,
+    pub words: &'static [Word],
+    /// Whether the command reads a capture, a FAC or units from standard input.
+    pub reads_input: bool,
+    pub options: &'static [Word],
+}
+
+const NAME: Word = Word {
+    name: "NAME",
+    value: Value::Name,
+};
+
+const SCRIPT: Word = Word {
+    name: "SCRIPT",
+    value: Value::Name,
+};
+
+const FROM: Word = Word {
+    name: "FROM",
+    value: Value::Address,
+};
+
+const ADDRESS: Word = Word {
+    name: "ADDR",
+    value: Value::Address,
+};
+
+const ADDRESSES: Word = Word {
+    name: "ADDRS",
+    value: Value::Addresses { least: 1, most: 16 },
+};
+
+const SEVERAL: Word = Word {
+    name: "ADDRS",
+    value: Value::Addresses { least: 2, most: 4 },
+};
+
+const TO: Word = Word {
+    name: "to",
+    value: Value::Addresses { least: 1, most: 16 },
+};
+
+const CARRY: Word = Word {
+    name: "CARRY",
+    value: Value::Carry,
+};
+
+const LIVE: Word = Word {
+    name: "live",
+    value: Value::Streams,
+};
+
+const PACE: Word = Word {
+    name: "pace",
+    value: Value::Number {
+        least: 0,
+        most: 10_000,
+    },
+};
+
+const FROM_FRAME: Word = Word {
+    name: "from",
+    value: Value::Number {
+        least: 0,
+        most: 1_000_000,
+    },
+};
+
+const STREAM: Word = Word {
+    name: "STREAM",
+    value: Value::Number { least: 0, most: 3 },
+};
+
+const PID: Word = Word {
+    name: "PID",
+    value: Value::Number { least: 0, most: 3 },
+};
+
+const LENGTH: Word = Word {
+    name: "LENGTH",
+    value: Value::Number {
+        least: 1,
+        most: 255,
+    },
+};
+
+const SIZE: Word = Word {
+    name: "N",
+    value: Value::Number {
+        least: 1,
+        most: 1000,
+    },
+};
+
+const WINDOW: Word = Word {
+    name: "window",
+    value: Value::Number { least: 1, most: 64 },
+};
+
+const REACH: Word = Word {
+    name: "reach",
+    value: Value::Number {
+        least: 1,
+        most: 32_767,
+    },
+};
+
+const FIRST: Word = Word {
+    name: "first",
+    value: Value::Number {
+        least: 0,
+        most: 65_535,
+    },
+};
+
+const FRAMES: Word = Word {
+    name: "frames",
+    value: Value::Number {
+        least: 1,
+        most: 3_000_000,
+    },
+};
+
+const IDLE: Word = Word {
+    name: "idle",
+    value: Value::Number {
+        least: 1,
+        most: 1_000_000,
+    },
+};
+
+const LIMIT: Word = Word {
+    name: "limit",
+    value: Value::Number {
+        least: 1,
+        most: 4_294_967_295,
+    },
+};
+
+const PATHS_LIMIT: Word = Word {
+    name: "limit",
+    value: Value::Number {
+        least: 1,
+        most: 1_000_000,
+    },
+};
+
+const PACKETS: &[Word] = &[WINDOW, REACH, FIRST, FRAMES];
+
+const READING: &[Word] = &[WINDOW, REACH, FIRST, FRAMES, IDLE, LIMIT];
+
+/// The commands of `drmcast`.
+pub const COMMANDS: &[Command] = &[
+    Command {
+        name: "fac",
+        words: &[],
+        reads_input: true,
+        options: &[],
+    },
+    Command {
+        name: "check",
+        words: &[NAME],
+        reads_input: false,
+        options: &[],
+    },
+    Command {
+        name: "serve",
+        words: &[NAME],
+        reads_input: false,
+        options: &[TO, PACE, FROM_FRAME, LIVE],
+    },
+    Command {
+        name: "receive",
+        words: &[ADDRESSES],
+        reads_input: true,
+        options: READING,
+    },
+    Command {
+        name: "count",
+        words: &[ADDRESS],
+        reads_input: true,
+        options: READING,
+    },
+    Command {
+        name: "air",
+        words: &[NAME, SCRIPT],
+        reads_input: false,
+        options: &[WINDOW],
+    },
+    Command {
+        name: "show",
+        words: &[],
+        reads_input: true,
+        options: &[],
+    },
+    Command {
+        name: "convert",
+        words: &[CARRY],
+        reads_input: true,
+        options: PACKETS,
+    },
+    Command {
+        name: "gate",
+        words: &[FROM, ADDRESSES, CARRY],
+        reads_input: false,
+        options: READING,
+    },
+    Command {
+        name: "pack",
+        words: &[PID, LENGTH],
+        reads_input: true,
+        options: &[],
+    },
+    Command {
+        name: "unpack",
+        words: &[STREAM, PID, LENGTH],
+        reads_input: true,
+        options: PACKETS,
+    },
+    Command {
+        name: "texts",
+        words: &[STREAM],
+        reads_input: true,
+        options: PACKETS,
+    },
+    Command {
+        name: "exercise",
+        words: &[SIZE],
+        reads_input: false,
+        options: &[],
+    },
+];
+
+/// The words of `drmpaths`, which has no command.
+pub const PATHS: Command = Command {
+    name: "drmpaths",
+    words: &[SEVERAL],
+    reads_input: false,
+    options: &[WINDOW, REACH, FIRST, FRAMES, IDLE, PATHS_LIMIT],
+};
