@@ -12,9 +12,10 @@ schedule agree in three things, and `compare` says of each feed where it differs
 - a reconfiguration is reported before the same frame by each that gave a frame of its countdown;
 - if none misses a frame, all report the same.
 
-Frames that some missed are counted apart from those whose bits differ, and so are reconfigurations whose countdown some missed. The
-status is 0 if all that the feeds share is alike; 1 if bits differ, or what is reported of a reconfiguration, or if no item is in all feeds;
-and else 7, as of a report, if some missed what others have. `-` as a name is standard input; a pipe is read to its end.
+Frames that some missed are counted apart from those whose bits differ, and so is what some alone
+report after a missed countdown. The status is 0 if all that the feeds share is alike; 1 if bits differ, or a reconfiguration is reported
+otherwise, or no item is in all feeds; and else 7, as of a report, if some missed what others have. `-` as a name is standard input; a pipe
+is read to its end.
 """
 import itertools
 import sys
@@ -27,6 +28,9 @@ ALIKE, DIFFER, MISSED = 0, 1, 7
 # The pieces of a frame's line: the word that has each, and its name.
 PIECES = {3: "count", 5: "mode", 7: "FAC", 9: "SDC block", 11: "description", 13: "multiplex"}
 BLOCK, IN_BYTES = 9, (7, 9, 11, 13)
+# What is counted, in the order in which it is printed.
+BITS, OTHERWISE = "frames whose bits differ", "reconfigurations reported otherwise"
+LOST, ALONE = "frames that some missed", "switch or resumed of some alone, after a missed countdown"
 
 
 class Row:
@@ -109,8 +113,7 @@ class Comparison:
         self.first = next((row.feed.ahead for row in found if row.feed.ahead is not None), None)
         self.begin, self.end = max(row.begin for row in found), min(row.end() for row in found)
         self.common = max(0, self.end - self.begin)
-        # In the order in which they are counted at the end.
-        self.counts = dict.fromkeys(("frames whose bits differ", "frames that some missed", "reconfigurations reported otherwise", "reconfigurations whose countdown some missed"), 0)
+        self.counts = dict.fromkeys((BITS, OTHERWISE, LOST, ALONE), 0)
 
     def run(self):
         """Compares, one item of each feed at a time, and gives the status."""
@@ -119,10 +122,9 @@ class Comparison:
                 self.frames(at, [words for _, words in items])
                 self.reconfigurations(at, [before for before, _ in items])
         self.print_sums()
-        differ, missed, otherwise, unannounced = self.counts.values()
-        if differ or otherwise or not self.common:
+        if self.counts[BITS] or self.counts[OTHERWISE] or not self.common:
             return DIFFER
-        return MISSED if missed or unannounced else ALIKE
+        return MISSED if self.counts[LOST] or self.counts[ALONE] else ALIKE
 
     def frames(self, at, items):
         """The item with this count, of each feed."""
@@ -131,16 +133,16 @@ class Comparison:
         if found:
             where, there = found
             has = iter(there)
-            self.note("frames whose bits differ", at, where, [next(has) if words[0] == "frame" else words[0] for words in items])
+            self.note(BITS, at, where, [next(has) if words[0] == "frame" else words[0] for words in items])
         elif given and len(given) < len(items):
-            self.note("frames that some missed", at, "", ["given" if words[0] == "frame" else words[0] for words in items])
+            self.note(LOST, at, "", ["given" if words[0] == "frame" else words[0] for words in items])
 
     def reconfigurations(self, at, befores):
         """What stands before it. A switch is due in a feed if and only if the last countdown of which it gave a frame was to this item."""
         if any((before == "switch") != (row.announced == at) for row, before in zip(self.found, befores)):
-            self.note("reconfigurations reported otherwise", at, "", [before or "nothing" for before in befores])
+            self.note(OTHERWISE, at, "", [before or "nothing" for before in befores])
         elif len(set(befores)) > 1:
-            self.note("reconfigurations whose countdown some missed", at, "", [before or "nothing" for before in befores])
+            self.note(ALONE, at, "", [before or "nothing" for before in befores])
 
     def note(self, what, at, where, there):
         """Counts an item in which feeds differ, and prints what each has there, the first of each kind."""

@@ -94,10 +94,10 @@ class Compare(unittest.TestCase):
         # One frame of the countdown is enough; without it, or from the new configuration on, nothing can be reported.
         self.assertEqual(self.compared(whole, running.report(*reconfigured(missed=(3, 5, 6))))[1][-1], "frames that some missed: 3")
         status, lines = self.compared(whole, running.report(*reconfigured(missed=(3, 4, 5))))
-        self.assertEqual((status, lines[-2:]), (7, ["frames that some missed: 3", "reconfigurations whose countdown some missed: 1"]))
+        self.assertEqual((status, lines[-2:]), (7, ["frames that some missed: 3", "switch or resumed of some alone, after a missed countdown: 1"]))
         self.assertEqual(lines[-6:-3], ["dlfc 6:", "  a.txt feed 1: switch", "  b.txt feed 1: nothing"])
         status, lines = self.compared(whole, running.report(*reconfigured(6)))
-        self.assertEqual((status, lines[-1]), (7, "reconfigurations whose countdown some missed: 1"))
+        self.assertEqual((status, lines[-1]), (7, "switch or resumed of some alone, after a missed countdown: 1"))
         # A report that no receiver of the schedule makes: the switch a frame late, or none although the countdown was given.
         late = reconfigured()
         late[6:8] = late[7], "switch 7"
