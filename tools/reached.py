@@ -10,7 +10,8 @@ Counted are the lines of definitions and comments, without imports and empty one
 library defines, and the types that the code declares, aren't counted.
 
 A list of what is believed has a table behind each line "Reached from `FILE`:", with the files of each crate, and their number and
-lines below it. With --check the list is compared with what is reached, with --write it is made anew.
+lines below it; behind "Reached from `FILE`, but not from `OTHER`:" with those that FILE adds to what OTHER reaches. With --check the
+list is compared with what is reached, with --write it is made anew.
 """
 import collections
 import itertools
@@ -22,7 +23,7 @@ import command_line
 
 TOP = pathlib.Path(__file__).resolve().parent.parent
 IMPORT = re.compile(r"^\s*(?:ghost )?use Rattle\.(\w+)\.specs\.([\w.]+)", re.MULTILINE)
-LISTED = re.compile(r"^Reached from `(.+)`:\n(?:\n\|.*(?:\n\|.*)*\n\n.*\n)?", re.MULTILINE)
+LISTED = re.compile(r"^Reached from `([^`]+)`(?:, but not from `([^`]+)`)?:\n(?:\n\|.*(?:\n\|.*)*\n\n.*\n)?", re.MULTILINE)
 
 
 def file_of(crate, path):
@@ -63,18 +64,19 @@ def name_of(file):
     return "`" + "/".join(file.relative_to(TOP).with_suffix("").parts[3:]) + "`"
 
 
-def section(start):
-    """What a list says of a file: the line that names it, the table of what is reached, and the sums."""
-    crates = by_crate(reached(TOP / start))
+def section(start, other):
+    """What a list says of a file, beside what another one reaches: the line that names it, the table of what is reached, and the sums."""
+    crates = by_crate(reached(TOP / start) - (reached(TOP / other) if other else set()))
     rows = [f"| `{crate}` | {', '.join(map(name_of, files))} |" for crate, files in crates.items()]
     files = [file for some in crates.values() for file in some]
     lines = sum(map(lines_of, files))
     sums = f"{len(files):,} files of {len(crates)} crates, with {lines:,} lines of definitions and comments."
-    return "\n".join([f"Reached from `{start}`:", "", "| crate | files of its `specs` |", "|---|---|", *rows, "", sums, ""])
+    named = f"Reached from `{start}`, but not from `{other}`:" if other else f"Reached from `{start}`:"
+    return "\n".join([named, "", "| crate | files of its `specs` |", "|---|---|", *rows, "", sums, ""])
 
 
 def made_anew(text):
-    return LISTED.sub(lambda found: section(found[1]), text)
+    return LISTED.sub(lambda found: section(found[1], found[2]), text)
 
 
 def compare(file):

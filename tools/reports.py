@@ -22,9 +22,22 @@ ITEMS = ("frame", "missing", "bad")
 # The count of frames begins again at 0 behind this many.
 COUNTS = 1 << 32
 
+FRAMES_A_SUPER_FRAME = 3
+
 
 class NoReport(Exception):
     """A line that no report has."""
+
+
+def frames_ahead(words):
+    """How many frames ahead of this one the reconfiguration begins to which its FAC counts down; None if it counts down to none.
+
+    ES 201 980, 6.3: bits 1 and 2 of the FAC say which frame of the super frame it is (0 and 3 are the first), bits 15 to 17 are the
+    reconfiguration index.
+    """
+    fac = int(words[7], 16)
+    identity, index = fac >> 69 & 3, fac >> 54 & 7
+    return FRAMES_A_SUPER_FRAME * index - identity % 3 if index else None
 
 
 def parsed(line, number):
@@ -57,15 +70,15 @@ class Feed:
 
 
 class Report:
-    """A report in a file, of which one line is held at a time. Standard input, `-`, is kept in a file of its own until the end."""
+    """A report in a file, of which one line is held at a time. Standard input, `-`, or a pipe is kept in a file of its own until the end."""
 
     def __init__(self, path):
         self.path = path
-        if path == "-":
-            self.file = tempfile.TemporaryFile()
-            shutil.copyfileobj(sys.stdin.buffer, self.file)
-        else:
-            self.file = open(path, "rb")
+        self.file = sys.stdin.buffer if path == "-" else open(path, "rb")
+        if path == "-" or not self.file.seekable():
+            kept = tempfile.TemporaryFile()
+            shutil.copyfileobj(self.file, kept)
+            self.file = kept
         self.feeds = list(self.found())
 
     def found(self):

@@ -16,7 +16,8 @@ use Rattle.law_delivery.specs.Sent.{Arrival}
 use Rattle.recv_reading.specs.State.{is_full}
 use Rattle.recv_reading.specs.First.{first_of}
 use Rattle.cmd_convert.specs.Converting.{ItemOutput, ConvertsAll, text_of, lines_of}
-use Rattle.law_convert.specs.Laws.{under, IsFirstOf, AllInTime, MayBeFrameLimit, IsItsCapture, Converting, ConvertingEarly, KnowsFirst, ConversionsAreCaptures, IsOfFirstFrames, BrokenConversions}
+use Rattle.law_delivery.specs.OtherCarry.{under}
+use Rattle.law_convert.specs.Laws.{IsFirstOf, AllInTime, MayBeFrameLimit, IsItsCapture, Converting, ConvertingEarly, KnowsFirst, ConversionsAreCaptures, IsOfFirstFrames, BrokenConversions}
 use Rattle.law_convert.proofs.Firsts.{knows_first, first_of_all}
 use Rattle.law_convert.proofs.Packets.{AreFrom, all_written}
 use Rattle.law_convert.proofs.Delivery.{AreAll, IsCollected}

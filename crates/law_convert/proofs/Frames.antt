@@ -11,8 +11,9 @@ use Rattle.drm_server.specs.Frames.{IsPacketAt}
 use Rattle.drm_server.specs.Datagrams.{IsDatagramAt, AreFirst, AreOfFrame}
 use Rattle.dcp_sender.specs.CarriesText.{CarriesText}
 use Rattle.dcp_sender.specs.Packets.{sequence_of}
-use Rattle.law_convert.specs.Laws.{under, IsFirstOf}
-use Rattle.law_convert.proofs.OtherCarry.{packet_under}
+use Rattle.law_delivery.specs.OtherCarry.{under}
+use Rattle.law_convert.specs.Laws.{IsFirstOf}
+use Rattle.law_delivery.proofs.OtherCarry.{packet_under}
 
 -- some first ones of a list in which each place has its datagram
 first_ones : (plan : Plan) (t : ℕ) (datagrams : List (List ℕ)) → ((i : ℕ) → i < length datagrams → IsDatagramAt plan t i (slice_index_or datagrams i []))

@@ -30,8 +30,9 @@ use Rattle.cmd_convert.specs.Converting.{ItemOutput, ConvertsAll, text_of, lines
 use Rattle.recv_reading.proofs.Reaching.{one_way}
 use Rattle.recv_reading.proofs.Ways.{Starts, starts_more, starts_up_to, taken_starts, finished_starts, taken_first, all_before}
 use Rattle.recv_reading.proofs.First.{given_first}
-use Rattle.law_convert.specs.Laws.{under, IsFirstOf, AllInTime, MayBeFrameLimit, KnowsFirst, IsOfSomeFrames, HaltedConversions}
-use Rattle.law_convert.proofs.OtherCarry.{packet_under}
+use Rattle.law_delivery.specs.OtherCarry.{under}
+use Rattle.law_convert.specs.Laws.{IsFirstOf, AllInTime, MayBeFrameLimit, KnowsFirst, IsOfSomeFrames, HaltedConversions}
+use Rattle.law_delivery.proofs.OtherCarry.{packet_under}
 use Rattle.law_convert.proofs.Packets.{IsPacketOf, AreFrom, IsWritten, all_written}
 use Rattle.law_convert.proofs.Firsts.{knows_first}
 use Rattle.law_convert.proofs.Delivery.{AreAll, IsCollected}

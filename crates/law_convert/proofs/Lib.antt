@@ -1,4 +1,3 @@
-pub mod OtherCarry
 pub mod Frames
 pub mod Packets
 pub mod Hearing

@@ -12,7 +12,8 @@ use Rattle.drm_server.specs.Frames.{IsPacketAt}
 use Rattle.drm_server.specs.Datagrams.{AreOfFrame, AreOfFrames}
 use Rattle.drm_server.proofs.DatagramLemmas.{next_frame}
 use Rattle.cmd_convert.specs.Converting.{ItemOutput, ConvertsItem, ConvertsAll, text_of, lines_of}
-use Rattle.law_convert.specs.Laws.{under, IsFirstOf}
+use Rattle.law_delivery.specs.OtherCarry.{under}
+use Rattle.law_convert.specs.Laws.{IsFirstOf}
 use Rattle.law_convert.proofs.Frames.{IsOfFrame, of_frame}
 
 -- The item is the packet of frame t.

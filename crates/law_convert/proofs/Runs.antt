@@ -25,7 +25,8 @@ use Rattle.cmd_convert.specs.Converted.{are_clean}
 use Rattle.cmd_convert.proofs.PartLemmas.{front_of_all, no_lines_before}
 use Rattle.recv_reading.specs.Packets.{AreEnough, AreReadBy, HasEnough}
 use Rattle.recv_reading.specs.declared.options.PacketRange.{PacketRange}
-use Rattle.law_convert.specs.Laws.{under, AllInTime, NoneIsTooLarge, ConversionsAreCaptures, IsOfFirstFrames, BrokenConversions, IsOfSomeFrames, HaltedConversions, CapturesAreConverted}
+use Rattle.law_delivery.specs.OtherCarry.{under}
+use Rattle.law_convert.specs.Laws.{AllInTime, NoneIsTooLarge, ConversionsAreCaptures, IsOfFirstFrames, BrokenConversions, IsOfSomeFrames, HaltedConversions, CapturesAreConverted}
 
 -- ---- what is told of an input
 

@@ -15,6 +15,7 @@ use Rattle.drm_schedule.specs.Valid.{IsSchedule}
 use Rattle.drm_timeline.specs.Numbers.{frame_count, packet_size}
 use Rattle.drm_server.specs.Datagrams.{AreOfFrames}
 use Rattle.drm_server.specs.Capture.{IsCapture, IsPrefixOfCapture}
+use Rattle.law_delivery.specs.OtherCarry.{under}
 use Rattle.law_delivery.specs.Sent.{Arrival, pairs_in, IsDeliveryOf, IsInTime}
 use Rattle.capture_reader.specs.Capture.{IsCaptureOf, End}
 use Rattle.cmd_faults.specs.declared.fault.Fault.{Fault}
@@ -25,10 +26,6 @@ use Rattle.recv_reading.specs.declared.options.PacketRange.{PacketRange}
 use Rattle.recv_reading.specs.State.{is_full}
 use Rattle.cmd_convert.specs.Run.{IsConversion, IsConversionBroken, ConvertEnds}
 use Rattle.recv_reading.specs.First.{first_of}
-
--- the schedule with this carry in place of its own
-abbrev pub under : Carry → Plan → Plan
-under carry plan = record plan { carry = carry }
 
 -- A delivery of a valid schedule from its first frame on, with any foreign datagrams in it, in which each frame is in time.
 pub record AllInTime (plan : Plan) (window reach : ℕ) (first : Option ℕ) (arrivals : List Arrival) (datagrams : List (List ℕ)) : Type 0 where

@@ -18,3 +18,4 @@ pub mod ForeignDatagrams
 pub mod ServedFrames
 pub mod AllAtOnce
 pub mod WaysLemmas
+pub mod OtherCarry

@@ -1,3 +1,4 @@
+pub mod OtherCarry
 pub mod Sent
 pub mod Given
 pub mod Laws

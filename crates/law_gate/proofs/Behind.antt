@@ -13,8 +13,8 @@ use Rattle.law_delivery.specs.Sent.{Arrival, OfSchedule, Foreign, AreSent, IsSen
 use Rattle.law_delivery.specs.Given.{IsServed, IsServedWhere, IsItemBy, IsAFrame}
 use Rattle.law_delivery.proofs.Numbering.{frame_is}
 use Rattle.law_frame_lines.specs.Laws.{ServedLines}
-use Rattle.law_convert.specs.Laws.{under}
-use Rattle.law_convert.proofs.OtherCarry.{frame_under}
+use Rattle.law_delivery.specs.OtherCarry.{under}
+use Rattle.law_delivery.proofs.OtherCarry.{frame_under}
 use Rattle.drm_gate.specs.Passing.{sent_of}
 use Rattle.law_gate.specs.Laws.{IsAmong, IsDeliveryPassedOn, PassesSchedules, ComesAgain, GivesServed, ServedBehindOne, ServedBehindTwo, pairs_given}
 

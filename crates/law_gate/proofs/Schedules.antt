@@ -29,9 +29,9 @@ use Rattle.law_delivery.proofs.Lengths.{af_long, packet_long}
 use Rattle.law_delivery.proofs.Needed.{needed_of, some_needed}
 use Rattle.law_delivery.proofs.Numbering.{frame_within}
 use Rattle.law_delivery.proofs.Packets.{IsChosen, ArePackets, delivered, filler, filler_af, filler_is}
-use Rattle.law_convert.specs.Laws.{under}
+use Rattle.law_delivery.specs.OtherCarry.{under}
 use Rattle.law_convert.proofs.Hearing.{Hears, hears}
-use Rattle.law_convert.proofs.OtherCarry.{packet_under}
+use Rattle.law_delivery.proofs.OtherCarry.{packet_under}
 use Rattle.drm_gate.specs.Passing.{Outcome, OutcomeOf, OutcomesOf, datagrams_of}
 use Rattle.law_gate.specs.Laws.{pairs_where, pairs_by, PassesSchedules}
 use Rattle.law_gate.proofs.Listed.{gather}

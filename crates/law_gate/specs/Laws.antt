@@ -22,7 +22,7 @@ use Rattle.law_delivery.specs.Given.{IsServed, IsAFrame}
 use Rattle.report_text.specs.Report.{item_line}
 use Rattle.law_frame_lines.specs.Line.{IsFrameLine}
 use Rattle.recv_reading.specs.declared.options.ReceiveOptions.{ReceiveOptions}
-use Rattle.law_convert.specs.Laws.{under}
+use Rattle.law_delivery.specs.OtherCarry.{under}
 use Rattle.drm_gate.specs.Passing.{Outcome, sent_of}
 use Rattle.drm_gate.specs.Run.{IsOnward}
 

@@ -4,7 +4,7 @@ use Rattle.mdi_items.specs.RoundTrip.{Parts, BlockBytes}
 use Rattle.dcp_pft.specs.declared.carry.Carry.{Carry}
 use Rattle.drm_schedule.specs.declared.plan.Plan.{Plan}
 use Rattle.drm_server.specs.Frames.{HasBlockWhere, IsFrameAt, IsPacketAt}
-use Rattle.law_convert.specs.Laws.{under}
+use Rattle.law_delivery.specs.OtherCarry.{under}
 
 block_under : (carry : Carry) (plan : Plan) (first : Bool) (sf room : ℕ) (block : Option BlockBytes) → HasBlockWhere first plan sf room block → HasBlockWhere first (under carry plan) sf room block
 block_under carry plan true sf room block (bytes, same, at) = (
