@@ -56,7 +56,7 @@ done
 for script in watch check_drmcast playout interleave report pcap explain record pace units messages; do
     install -D -m 755 "$here/tools/$script.py" "$into/lib/drmcast/$script.py"
 done
-for shared in command_line datagrams metrics reports schedule_faults schedule_told schedules; do
+for shared in command_line datagrams metrics playlists reports schedule_faults schedule_told schedules; do
     install -D -m 644 "$here/tools/$shared.py" "$into/lib/drmcast/$shared.py"
 done
 for document in docs/{OPERATION,SECURITY,SCHEDULE,FORMATS,TOUR,WIRESHARK,FIGURES}.md CHANGELOG.md LICENSE; do

@@ -216,7 +216,7 @@ class Schedule:
                 self.length = int(words[0])
             elif kind == "config":
                 self.configurations.append(Configuration(line))
-            elif kind != "drmplan":
+            elif self.configurations:
                 self.configurations[-1].take(line)
 
     def end_of(self, index):
