@@ -95,20 +95,17 @@ def streams_of(live):
 def faults_of_live(one, live):
     """The live streams that no configuration of a schedule has: their bytes would never be read."""
     for stream in streams_of(live):
-        if not any(schedules.Schedule(one.text).sizes(stream)):
+        if not schedules.Schedule(one.text).has(stream):
             yield f"line {one.line}: {one.name} has no stream {stream}, which --live names"
 
 
-def warnings_of_live(entries, live):
-    """Where a live stream changes its size, which an encoder or `interleave.py` can't know."""
+def changes_of_live(entries, live):
+    """Where a live stream changes its size, which an encoder can't know."""
     for stream in streams_of(live):
-        last = None
-        for one in entries:
-            for place, size in enumerate(schedules.Schedule(one.text).sizes(stream), 1):
-                if last is not None and size != last[0]:
-                    yield (f"line {one.line}: stream {stream} has {size} bytes a frame in configuration {place} of {one.name}, "
-                           f"and {last[0]} in configuration {last[1]} of {last[2]}; what feeds it has to change with it")
-                last = size, place, one.name
+        found = [(one.line, *size) for one in entries for size in schedules.sizes([(one.name, schedules.Schedule(one.text))], stream)]
+        for (_, before, where_before), (line, size, where) in zip(found, found[1:]):
+            if size != before:
+                yield f"line {line}: stream {stream} has {where}, and {where_before}; what feeds it has to change with it"
 
 
 def warnings_of_clocks(one, pace):
@@ -123,8 +120,9 @@ def warnings_of_clocks(one, pace):
                        f"that would be \"clock {begins // DAY_MILLIS + MJD_OF_1970} {begins // HOUR_MILLIS % 24} {begins // MINUTE_MILLIS % 60}\"")
 
 
-def read(path, program, pace, live=None):
-    """The schedules of a list, and what is to be looked at though it is no fault; raises what is wrong."""
+def read(path, program, pace, live=None, interleaved=False):
+    """The schedules of a list, and what is to be looked at though it is no fault; raises what is wrong. What `interleave.py` feeds has one
+    size of each stream, so a change of it is a fault then."""
     entries, found, status = [], [], 0
     for number, begin, name in named(path):
         try:
@@ -133,9 +131,10 @@ def read(path, program, pace, live=None):
         except Wrong as fault:
             found += fault.texts
             status = status or fault.status
+    changes = list(changes_of_live(entries, live))
     if not found:
-        found = list(faults(entries, pace)) if entries else ["there is no schedule in it"]
+        found = list(faults(entries, pace)) + (changes if interleaved else []) if entries else ["there is no schedule in it"]
     if found:
         raise Wrong([f"{path} {text}" for text in found], status or WRONG_LIST)
-    warnings = [text for one in entries for text in warnings_of_clocks(one, pace)] + list(warnings_of_live(entries, live))
+    warnings = [text for one in entries for text in warnings_of_clocks(one, pace)] + changes
     return entries, [f"{path} {text}" for text in warnings]

@@ -16,8 +16,8 @@ and a live stream that changes its size.
 
 `drmcast serve` is run for each schedule, with one pace between the last frame of one and the first of the next. If the playout is
 started within a schedule, or a server fails, it goes on at the next super frame. With --live one server after another takes the bytes
-of these streams from standard input, and none takes more than its frames need. With --while-fed it ends as soon as nobody can write to
-standard input any more; else the schedules' own content goes out from then on.
+of these streams from standard input, and none takes more than its frames need. When that ends the schedules' own content goes out. With
+--interleaved, if it comes from `interleave.py`, the playout ends instead, and a live stream that changes its size is refused.
 
 When the list has changed it is read again, and taken if what is on air, or waited for, stands in it as it was; so lines can be added. An hour
 and ten minutes before the list ends it says so. --metrics writes what it does to a file each five seconds, in the text format of Prometheus:
@@ -25,7 +25,7 @@ whether something is on air, the super frame, the seconds to the end of the list
 taken and refused.
 
 The status is 0 after Ctrl-C or TERM, and after a check alone; 3 if the list is wrong; 9 when it has ended, since nothing is on air then; 10
-after the end of standard input with --while-fed; and that of `drmcast` if it refuses a schedule or the words.
+if with --interleaved standard input has ended; and that of `drmcast` if it refuses a schedule or the words.
 """
 import contextlib
 import os
@@ -108,7 +108,7 @@ class ListFile:
         return self.seen is not None and self.seen != before
 
     def read(self):
-        return playlists.read(self.options.list, self.options.program, self.options.pace, self.options.live)
+        return playlists.read(self.options.list, self.options.program, self.options.pace, self.options.live, self.options.interleaved)
 
     def read_from(self, one):
         """What it has now from this schedule on, which has to be there as it was."""
@@ -146,11 +146,11 @@ class Playout:
         poll.register(self.stop.readable, select.POLLIN)
         if server is not None:
             poll.register(server, select.POLLIN)
-        if self.options.while_fed:
+        if self.options.interleaved:
             # Of the input it is only asked whether it has lost its writers.
             poll.register(sys.stdin.fileno(), 0)
         ready = [descriptor for descriptor, _ in poll.poll(max(0.0, seconds) * 1000)]
-        self.unfed = self.options.while_fed and sys.stdin.fileno() in ready
+        self.unfed = self.options.interleaved and sys.stdin.fileno() in ready
         return server is not None and server.fileno() in ready
 
     def end(self):
@@ -190,7 +190,8 @@ class Playout:
         passed = [minutes for minutes in AHEAD_MINUTES if 0 < left <= minutes * 60_000]
         if passed and self.said_end != (self.end(), min(passed)):
             self.said_end = (self.end(), min(passed))
-            say(f"the list ends at {moment(self.end())}, in {round(left / 60_000)} minutes; then nothing is on air")
+            minutes = -(-left // 60_000)
+            say(f"the list ends at {moment(self.end())}, in {minutes} minute{'' if minutes == 1 else 's'}; then nothing is on air")
 
     def state(self):
         """What there is to see, by the names of the metrics."""
@@ -289,13 +290,13 @@ def arguments_of(words):
     parser.add_argument("--to", metavar="ADDR", help="send there, also to several, joined by commas; without it the list is checked alone")
     parser.add_argument("--pace", type=command_line.number(1, 10_000), default=400, metavar="MS", help="milliseconds a frame (400)")
     parser.add_argument("--live", metavar="LIST", help="streams that take their bytes from standard input, as 0 or 0,1")
-    parser.add_argument("--while-fed", action="store_true", help="end when nobody can write to standard input any more")
+    parser.add_argument("--interleaved", action="store_true", help="standard input comes from interleave.py; end when that does")
     parser.add_argument("--metrics", metavar="FILE", help="write what it does to this file")
     parser.add_argument("--link", metavar="NAME", help="the label `link` of the metrics (the name of their file, without .prom)")
     parser.add_argument("--program", type=command_line.program, default="drmcast", help="the program (drmcast, by the path)")
     options = parser.parse_args(words)
-    if options.while_fed and not options.live:
-        parser.error("--while-fed goes with --live")
+    if options.interleaved and not options.live:
+        parser.error("--interleaved goes with --live")
     return options
 
 

@@ -224,9 +224,17 @@ class Schedule:
         following = self.configurations[index + 1:]
         return following[0].start if following else self.length
 
-    def sizes(self, stream):
-        """The bytes that a stream has in a frame of each configuration, in their order; 0 where there is no such stream."""
-        return [config.streams[stream].size if stream < len(config.streams) else 0 for config in self.configurations]
+    def has(self, stream):
+        """Whether a configuration has a stream of this number."""
+        return any(stream < len(config.streams) for config in self.configurations)
+
+
+def sizes(named, stream):
+    """How many bytes a stream has in a frame of each configuration of these schedules, each a name and a schedule, and where that is so."""
+    for name, schedule in named:
+        for place, config in enumerate(schedule.configurations, 1):
+            size = config.streams[stream].size if stream < len(config.streams) else 0
+            yield size, f"{size} bytes a frame in configuration {place} of {name}"
 
 
 def entity_size(line):

@@ -47,7 +47,7 @@ class Playlists(stations.Station):
         self.list((playlists.now() + 3_600_000, "a.plan"))
         status, out, err = self.ran("--to", "localhost:5000")
         self.assertEqual((status, out, err), (2, "", "playout.py: serve --to localhost:5000 --pace 20 --from 1000000 -- a.plan: drmcast: words\n"))
-        self.assertEqual(self.ran("--to", "127.0.0.1:9", "--while-fed")[0], 2)
+        self.assertEqual(self.ran("--to", "127.0.0.1:9", "--interleaved")[0], 2)
 
     def test_live_streams_that_are_not_there(self):
         self.plan("a.plan", 0, 0, 10)
@@ -60,7 +60,8 @@ class Playlists(stations.Station):
         status, _, err = self.ran("--live", "0")
         self.assertEqual((status, err.splitlines()), (0, [
             f"playout.py: it.list line 2: stream 0 has {size} bytes a frame in configuration {place} of b.plan, and {before}; what feeds it has to change with it"
-            for size, place, before in ((500, 1, "484 in configuration 1 of a.plan"), (484, 2, "500 in configuration 1 of b.plan"))]))
+            for size, place, before in ((500, 1, "484 bytes a frame in configuration 1 of a.plan"), (484, 2, "500 bytes a frame in configuration 1 of b.plan"))]))
+        self.assertEqual(self.ran("--live", "0", "--interleaved")[::2], (3, err))
 
     def test_clocks(self):
         self.plan("a.plan", 0, 0, 10_000, "config 0 0\nclock 61398 18 0\nconfig 1000 2\nclock 61398 18 1\n")

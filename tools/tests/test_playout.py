@@ -100,7 +100,7 @@ class Playout(stations.Station):
             running.until(lambda: len(self.log()) == 1 and path.exists())
             running.until(lambda: "playout_on_air" in path.read_text(encoding="ascii"))
             _, out, _ = running.stop(playing)
-        self.assertRegex(out.decode(), r"Z the list ends at \S+, in 1 minutes; then nothing is on air\n")
+        self.assertRegex(out.decode(), r"Z the list ends at \S+, in 1 minute; then nothing is on air\n")
         values = dict(re.findall(r'^drmcast_playout_(\w+)\{link="it"\} (\S+)$', path.read_text(encoding="ascii"), re.MULTILINE))
         self.assertEqual(set(values), {name.removeprefix("playout_") for name in metrics.PLAYOUT_METRICS})
         self.assertEqual((values["on_air"], values["failures_total"], values["changes_taken_total"]), ("0", "0", "0"))
@@ -157,7 +157,7 @@ class Playout(stations.Station):
     def test_what_feeds_it_is_gone(self):
         self.plan("a.plan", 0, 0, 1000)
         self.list((playlists.now() - 1000, "a.plan"))
-        words = running.words(*self.words("--to", "127.0.0.1:9", "--live", "0", "--while-fed"))
+        words = running.words(*self.words("--to", "127.0.0.1:9", "--live", "0", "--interleaved"))
         with subprocess.Popen(words, cwd=self.folder, stdin=subprocess.PIPE, stdout=subprocess.PIPE, stderr=subprocess.PIPE) as playing:
             running.until(lambda: len(self.log()) == 1)
             out, err = playing.communicate(timeout=running.WAIT_SECONDS)
