@@ -17,6 +17,7 @@ METRICS = {
     "last_frame_timestamp_seconds": ("gauge", "When the last frame came, in seconds since 1970; 0 before the first one."),
     "longest_gap_seconds": ("gauge", "The longest time without a frame in the last hour."),
     "recently_lost_frames": ("gauge", "Frames that were missing or bad in the last hour."),
+    "in_vain_seconds": ("gauge", "How long datagrams have come of which none gave a frame, as of a server that began again; else 0."),
 }
 # The same of a playout.
 PLAYOUT_METRICS = {
