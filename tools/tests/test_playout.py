@@ -23,10 +23,10 @@ class Playout(stations.Station):
         return status, err
 
     def three(self, begin):
-        """Three schedules one behind the other, of 10, 5 and 8 super frames."""
+        """Three schedules one behind the other, of 5, 3 and 4 super frames."""
         number, count = 65_530, 4_294_967_290
         lines = []
-        for name, super_frames in (("a.plan", 10), ("b.plan", 5), ("c.plan", 8)):
+        for name, super_frames in (("a.plan", 5), ("b.plan", 3), ("c.plan", 4)):
             self.plan(name, number, count, super_frames)
             lines.append((begin, name))
             number, count = (number + 3 * super_frames) % 65_536, (count + 3 * super_frames) % (1 << 32)
@@ -52,11 +52,11 @@ class Playout(stations.Station):
         self.assertEqual(said[-1], "the list has ended, and nothing is on air")
 
     def test_live_streams_of_one_after_another(self):
-        lines = self.three(playlists.now() + 300)
+        lines = self.three(playlists.now() + 1000)
         given = bytes(range(100))
         self.assertEqual(self.ran("--to", "127.0.0.1:9", "--live", "0,1", given=given)[::2], (9, ""))
         self.assertEqual([words for _, words in self.log()], [["serve", "--to", "127.0.0.1:9", "--pace", str(PACE), "--live", "0,1", "--", name] for _, name in lines])
-        self.assertEqual(self.folder.joinpath("taken").read_bytes(), given[:3 * 23])
+        self.assertEqual(self.folder.joinpath("taken").read_bytes(), given[:3 * 12])
 
     def test_it_goes_on_within_a_schedule(self):
         self.plan("a.plan", 0, 0, 1000)
