@@ -4,7 +4,8 @@
 # usage: contrib/debian-package.sh [FOLDER]
 #
 # FOLDER is that of install.sh. It writes drmcast_VERSION_ARCHITECTURE.deb into the current folder, with the version of the file
-# VERSION. It needs dpkg-dev and binutils, and installs nothing. SOURCE_DATE_EPOCH is heeded.
+# VERSION, and the date of that version in CHANGELOG.md. It needs dpkg-dev and binutils, and installs nothing. SOURCE_DATE_EPOCH is
+# heeded.
 
 set -eu
 
@@ -34,7 +35,8 @@ if ! [[ $version =~ ^[0-9][0-9A-Za-z.+~]*$ ]]; then
 fi
 architecture=$(dpkg --print-architecture)
 maintainer='Vattaupe <maintainers@users.noreply.vattaupe.example>'
-SOURCE_DATE_EPOCH=${SOURCE_DATE_EPOCH-$(stat -c %Y "$here/VERSION")}
+released=$(sed -n "s/^## ${version//./\\.} (\([0-9-]*\))\$/\1/p" "$here/CHANGELOG.md")
+SOURCE_DATE_EPOCH=${SOURCE_DATE_EPOCH-$(date -u -d "${released:-no date}" +%s)}
 export SOURCE_DATE_EPOCH
 folder=$(mktemp -d)
 trap 'rm -rf "$folder"' EXIT
@@ -49,6 +51,7 @@ install -d "$root/etc/drmcast" "$root/DEBIAN"
 
 # What a package has in place of LICENSE, and of a change log of another kind.
 rm -f "$documents/LICENSE"
+sed -i 's/](LICENSE)/](copyright)/g' "$documents"/*.md
 cat > "$documents/copyright" <<END
 Format: https://www.debian.org/doc/packaging-manuals/copyright-format/1.0/
 Upstream-Name: drmcast

@@ -49,7 +49,8 @@ _drmcast() {
     esac
 }
 
-complete -F _drmcast drmcast
+# Where nothing of its own is to be completed, as behind < and >, Bash completes names of files.
+complete -o default -F _drmcast drmcast
 
 _drmpaths() {
     local words
@@ -61,4 +62,4 @@ _drmpaths() {
     esac
 }
 
-complete -F _drmpaths drmpaths
+complete -o default -F _drmpaths drmpaths

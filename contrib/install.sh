@@ -27,6 +27,8 @@ if [ $# -gt 1 ]; then
 fi
 here=$(cd "$(dirname "$0")/.." && pwd)
 version=$(cat "$here/VERSION")
+released=$(sed -n "s/^## ${version//./\\.} (\([0-9-]*\))\$/\1/p" "$here/CHANGELOG.md")
+[ -n "$released" ] || refuse "CHANGELOG.md doesn't say when version $version was released"
 prefix=${PREFIX-/usr/local}
 while [ "${prefix%/}" != "$prefix" ]; do
     prefix=${prefix%/}
@@ -40,6 +42,7 @@ case $prefix in
     *[\"\'\\%\$$'\n']*) refuse "PREFIX has a quote, a backslash, %, \$ or a new line: $prefix" ;;
 esac
 into=${DESTDIR-}$prefix
+documents=$into/share/doc/drmcast
 for name in drmcast drmpaths; do
     program=${1:-$here/crates/$name/out}/$name
     if [ ! -f "$program" ] || [ ! -x "$program" ]; then
@@ -50,20 +53,32 @@ done
 for name in drmcast drmpaths; do
     install -D -m 755 "${1:-$here/crates/$name/out}/$name" "$into/bin/$name"
     install -D -m 644 "$here/docs/$name.1" "$into/share/man/man1/$name.1"
-    sed -i "1s/\"drmcast[^\"]*\"/\"drmcast $version\"/" "$into/share/man/man1/$name.1"
+    sed -i "1s/\"[0-9-]*\" \"drmcast[^\"]*\"/\"$released\" \"drmcast $version\"/" "$into/share/man/man1/$name.1"
     install -D -m 644 "$here/contrib/drmcast.bash" "$into/share/bash-completion/completions/$name"
 done
-for script in watch check_drmcast playout interleave report pcap explain record pace units messages; do
-    install -D -m 755 "$here/tools/$script.py" "$into/lib/drmcast/$script.py"
+# The last line is what the sessions of the documents need besides.
+for script in {watch,check_drmcast,playout,interleave,report,pcap,explain,record,pace,units,messages}.py \
+    {drop,deliveries,tshark_show}.py loopback.sh; do
+    install -D -m 755 "$here/tools/$script" "$into/lib/drmcast/$script"
 done
-for shared in command_line datagrams metrics reports; do
+for shared in command_line datagrams metrics playlists reports schedule_faults schedule_told schedules; do
     install -D -m 644 "$here/tools/$shared.py" "$into/lib/drmcast/$shared.py"
 done
-for document in docs/{OPERATION,SECURITY,SCHEDULE,FORMATS,TOUR,WIRESHARK,FIGURES}.md CHANGELOG.md LICENSE; do
-    install -D -m 644 "$here/$document" "$into/share/doc/drmcast/$(basename "$document")"
+for document in docs/{OPERATION,SECURITY,SCHEDULE,FORMATS,TOUR,WIRESHARK,FIGURES,PROMISES,PROVED,BELIEVED,DECISIONS}.md README.md CHANGELOG.md LICENSE; do
+    install -D -m 644 "$here/$document" "$documents/$(basename "$document")"
 done
 for example in "$here"/examples/*; do
-    install -D -m 644 "$example" "$into/share/doc/drmcast/examples/$(basename "$example")"
+    install -D -m 644 "$example" "$documents/examples/$(basename "$example")"
+done
+# All documents stand in one folder. A link to what isn't installed is its text alone.
+for document in "$documents"/*.md; do
+    sed -i -E 's#\]\((\.\./)?docs/#](#g; s#\]\(\.\./([A-Zcde])#](\1#g; s#\]\((\.\./)?tools/#](../../../lib/drmcast/#g' "$document"
+    grep -oE '\]\([^)#]+' "$document" | cut -c 3- | sort -u | while read -r target; do
+        case $target in
+            http*) ;;
+            *) [ -e "$documents/$target" ] || sed -i -E "s#\\[([^]]*)\\]\\(${target//./\\.}(\#[^)]*)?\\)#\\1#g" "$document" ;;
+        esac
+    done
 done
 install -d "$into/lib/systemd/system"
 for unit in "$here"/contrib/systemd/*.service; do

@@ -6,7 +6,8 @@
 It prints one line, and its status is
 
     0  if the last frame came within the last S seconds,
-    1  if it did, and in the last hour more than N frames were missing or bad, or none came for longer than S seconds,
+    1  if it did, and in the last hour more than N frames were missing or bad, or none came for longer than S seconds, or datagrams come of
+       which none gives a frame,
     2  if none has come for longer than S seconds, or none ever,
     3  if that can't be said: the file can't be read or is another one, or a word of the command line is wrong.
 
@@ -27,12 +28,14 @@ def judged(values, most_missing, most_gap, now):
     """The status, and what is said."""
     last, lost, longest = values["last_frame_timestamp_seconds"], values["recently_lost_frames"], values["longest_gap_seconds"]
     if last <= 0:
-        return CRITICAL, "no frame yet"
-    gap = max(0.0, now - last)
+        return CRITICAL, "no frame yet" + (", though datagrams come: they are refused" if values["in_vain_seconds"] else "")
+    gap, in_vain = max(0.0, now - last), values["in_vain_seconds"]
     said = f"last frame {gap:.0f} s ago, in the last hour {lost:.0f} lost and {longest:.1f} s the longest gap"
+    if in_vain:
+        said += f"; datagrams come, and none gives a frame since {in_vain:.0f} s: late or refused, as after a server that began again"
     if gap > most_gap:
         return CRITICAL, said
-    return (WARNING if lost > most_missing or longest > most_gap else OK), said
+    return (WARNING if lost > most_missing or longest > most_gap or in_vain else OK), said
 
 
 def arguments():

@@ -2,7 +2,7 @@
 """Draws deliveries of a schedule at random, and compares the reports of `air` with those that they call for.
 
 A delivery is some of the schedule's datagrams: some never come, some twice, and many in another order. What it calls for is
-worked out here anew, from the definitions in docs/FORMATS.md, and shares no code with the program: the frames are read out of
+worked out here anew, from the definitions in FORMATS.md, and shares no code with the program: the frames are read out of
 a plain capture, and of each packet it's counted what came before it was closed. It prints how many reports were compared, and
 ends with 1 if one differs.
 """

@@ -1,16 +1,21 @@
 #!/usr/bin/env python3
-"""Explains what is wrong with a schedule: which line it is, what the reason means, and what usually helps.
+"""Explains what is wrong with a schedule: which line it is, what the reason means, how such a line is written, and what helps.
 
     explain.py evening.plan
+    explain.py evening.plan --tell                                 # what a schedule says, in words
     explain.py evening.plan --program /opt/drmcast/bin/drmcast
 
-It asks `drmcast check` for the first fault. SCHEDULE.md has the rules. The status is that of `drmcast`.
+It asks `drmcast check` for the first fault. SCHEDULE.md has the rules. --tell says each configuration as an engineer would read it aloud:
+mode, bandwidth, constellations, and of each service its kbit/s, coder and language. The status is that of `drmcast`.
 """
+import os
 import re
-import subprocess
 import sys
 
 import command_line
+import schedule_faults
+import schedule_told
+import schedules
 
 MEANINGS = {
     "utf8": "The line has bytes that are no UTF-8.",
@@ -31,14 +36,13 @@ MEANINGS = {
     "content-short": "The file has fewer bytes than the stream takes until the next configuration starts.",
 }
 HELPS = {
-    "word": "Compare the line with the table of SCHEDULE.md. A name or a path with a space in it can't be written.",
+    "word": "A name or a path with a space in it can't be written.",
     "order": "The first lines are drmplan, carry, first and length. In version 2 the lines from mode to clock come before the first block, the entity lines behind it.",
     "number": "Numbers have no sign, no point and no 0x.",
     "missing": "drmcast names the config line of the configuration in which something is missing.",
     "countdown": "A later configuration wants a countdown of 1 to 7 super frames.",
     "fit": "A larger room, shorter labels, fewer entities in the blocks before a start, or a longer countdown.",
-    "packet-size": "Shorter streams, or fewer of them. The first frame's packet has 86 bytes and 3 a stream, room, and of each stream 8 bytes, A and B.",
-    "content-short": "The stream takes A + B bytes a frame, three frames a super frame.",
+    "packet-size": "Shorter streams, or fewer of them.",
     "services": "Each audio service has one audio line with its short id, each data service an app line.",
 }
 
@@ -64,35 +68,60 @@ def looks(raw, whole):
 
 
 def explain(path, number, reason):
+    """Prints what is wrong in this line."""
     print(f"{path}, line {number}: {reason}")
     with open(path, "rb") as file:
         whole = file.read()
-    lines = whole.split(b"\n")
-    if 1 <= number <= len(lines) and not (number == len(lines) and not lines[-1]):
-        raw = lines[number - 1]
+    listed = whole.split(b"\n")
+    raw = listed[number - 1] if 1 <= number <= len(listed) else b""
+    if raw or 1 <= number < len(listed):
         print(f"  {raw.decode('utf-8', 'backslashreplace')[:200]}")
     else:
-        raw = b""
         print("  (behind the last line)" if number else "  (the whole text)")
     print(MEANINGS.get(reason, "SCHEDULE.md says what this reason means."))
-    for text in looks(raw, whole) or ([HELPS[reason]] if reason in HELPS else []):
+    said = looks(raw, whole) or list(schedule_faults.said(whole.decode("utf-8", "replace"), number, reason))
+    for text in said + ([HELPS[reason]] if reason in HELPS else []):
         print(text)
+
+
+def unreadable(path):
+    """Prints which of the files that a schedule names can't be read, and why."""
+    try:
+        with open(path, "rb") as file:
+            text = file.read().decode("utf-8", "replace")
+    except OSError as fault:
+        print(command_line.reason(fault))
+        return
+    for line in schedules.lines(text):
+        if line.words[0] == "stream" and line.words[3:4] == ["file"]:
+            try:
+                with open(line.words[4], "rb") as opened:
+                    opened.read(1)
+            except OSError as fault:
+                print(f"{path}, line {line.number}: {command_line.reason(fault)}")
+    print(f"Files are looked for from the folder in which drmcast runs, here {os.getcwd()}.")
 
 
 def main():
     parser = command_line.parser(__doc__)
     parser.add_argument("schedule", type=command_line.file)
+    parser.add_argument("--tell", action="store_true", help="say in words what is in the schedule")
     parser.add_argument("--program", type=command_line.program, default="drmcast", help="the program (drmcast, by the path)")
     options = parser.parse_args()
-    asked = subprocess.run([options.program, "check", "--", options.schedule], stdout=subprocess.DEVNULL, stderr=subprocess.PIPE, text=True, check=False)
-    found = re.search(r"schedule line (\d+): ([a-z0-9-]+)", asked.stderr)
+    status, text, complaint = schedules.checked(options.program, options.schedule)
+    found = re.search(r"schedule line (\d+): ([a-z0-9-]+)", complaint)
     if found:
         explain(options.schedule, int(found.group(1)), found.group(2))
-    elif asked.returncode == 4:
-        print(f"{options.schedule}, or a file that one of its stream lines names, can't be read. Files are looked for from the folder in which drmcast runs.")
+    elif status == 4:
+        unreadable(options.schedule)
+    elif status:
+        print(complaint)
+    elif options.tell:
+        for line in schedule_told.told(schedules.Schedule(text)):
+            print(line)
     else:
-        print(asked.stderr.strip() or f"{options.schedule} has no fault.")
-    sys.exit(asked.returncode)
+        print(f"{options.schedule} has no fault.")
+    sys.exit(status)
 
 
 if __name__ == "__main__":

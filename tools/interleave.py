@@ -4,8 +4,13 @@
     mkfifo radio.fifo picture.fifo
     interleave.py 0:484:radio.fifo 1:116:picture.fifo | drmcast serve evening.plan --live 0,1 --to 192.0.2.7:5000 --pace 400
 
-Each word is a stream of the schedule, how many bytes it has in a frame (both its parts), and the FIFO or file that they come from. A
-frame has one piece of each, in the order of the streams' numbers, and is written when all of them have come.
+    interleave.py --schedule evening.plan 0:radio.fifo 1:picture.fifo | drmcast serve evening.plan --live 0,1 --to 192.0.2.7:5000 --pace 400
+
+Each word is a stream of the schedule, how many bytes it has in a frame (both its parts), and the FIFO or file that they come from. With
+--schedule the bytes are those that `drmcast check` says, and with --list those of the schedules in a list of `playout.py`; then they need not
+be given, and if they are given and are others, or aren't the same everywhere, that is named, and nothing is written: the server would take
+other bytes for each stream than its own. A frame has one piece of each, in the order of the streams' numbers, and is written when all of them
+have come.
 
 An encoder that stops doesn't stop the others. If a piece isn't whole a second (--late) after the first one of its frame, another one is
 written in its place: a byte again and again (--fill), or the next piece of a file (--fill-file), whose bytes are used from its
@@ -18,20 +23,23 @@ it left of a piece is dropped too; whoever opens the FIFO next begins a piece.
 
 It ends after --frames, by Ctrl-C or TERM, if nobody reads any more, or when all bytes come from files and all of these have ended.
 Which streams are replaced, from which frame on, is said on standard error, and at the end how many frames were written. The status
-is 7 if a piece was replaced.
+is 7 if a piece was replaced; and 3, or that of `drmcast check`, if the schedules are wrong or the streams aren't theirs.
 """
 import argparse
 import itertools
 import os
+import re
 import select
 import stat
 import sys
 import time
 
 import command_line
+import playlists
+import schedules
 
 MOST_STREAMS, MOST_BYTES = 4, 8190
-REPLACED = 7
+REPLACED, OTHER_STREAMS = 7, 3
 
 
 class Source:
@@ -159,11 +167,11 @@ class Interleaving:
 
 
 def encoder(word):
-    """A stream, its bytes in a frame, and where they come from."""
+    """A stream, its bytes in a frame (None if they aren't given), and where they come from."""
     stream, _, rest = word.partition(":")
-    size, _, name = rest.partition(":")
+    size, _, name = rest.partition(":") if re.match("[0-9]+:", rest) else ("", "", rest)
     if not name:
-        raise argparse.ArgumentTypeError(f"{word} isn't STREAM:BYTES:NAME, as 0:484:radio.fifo")
+        raise argparse.ArgumentTypeError(f"{word} is neither STREAM:BYTES:NAME, as 0:484:radio.fifo, nor STREAM:NAME")
     number = command_line.number(0, MOST_STREAMS - 1)(stream)
     try:
         kind = os.stat(name).st_mode
@@ -171,7 +179,7 @@ def encoder(word):
         raise argparse.ArgumentTypeError(command_line.reason(fault)) from None
     if not stat.S_ISREG(kind) and not stat.S_ISFIFO(kind):
         raise argparse.ArgumentTypeError(f"{name} is neither a FIFO nor a file")
-    return number, command_line.number(1, MOST_BYTES)(size), name
+    return number, command_line.number(1, MOST_BYTES)(size) if size else None, name
 
 
 def byte(word):
@@ -202,16 +210,55 @@ def fillers(size, byte_value, name):
     return itertools.cycle([pieces[at:at + size] for at in range(0, len(pieces), size)])
 
 
+def named_schedules(parser, options):
+    """The schedules that the command line names, each with its name, as `drmcast check` reads them; a refusal ends the script."""
+    names = options.schedule + [name for _, _, name in (playlists.named(options.list) if options.list else ())]
+    try:
+        program = command_line.program(options.program) if names else ""
+    except argparse.ArgumentTypeError as fault:
+        parser.error(str(fault))
+    for name in dict.fromkeys(names):
+        status, text, complaint = schedules.checked(program, name)
+        if status:
+            command_line.complain(f"{name}: {'; '.join(complaint.splitlines())}")
+            sys.exit(status)
+        yield name, schedules.Schedule(text)
+
+
+def faults_of_sizes(named, sources):
+    """Where the schedules have another size of a stream than is given, or than somewhere else."""
+    for stream, size, _ in sources:
+        wanted = None if size is None else (size, f"{size} bytes a frame here")
+        for found in schedules.sizes(named, stream):
+            wanted = wanted or found
+            if found[0] != wanted[0] or not found[0]:
+                yield f"stream {stream} has {found[1]}" + (f", and {wanted[1]}" if found is not wanted else "")
+                break
+
+
+def sized(parser, options):
+    """The sources with their bytes in a frame."""
+    named = list(named_schedules(parser, options))
+    found = list(faults_of_sizes(named, options.sources))
+    for text in found:
+        command_line.complain(text)
+    if found:
+        sys.exit(OTHER_STREAMS)
+    return [(stream, next(schedules.sizes(named, stream), (size,))[0], name) for stream, size, name in options.sources]
+
+
 def sources_of(parser, options):
     """The sources by their streams' numbers, each with its fillers."""
     streams = [stream for stream, _, _ in options.sources]
     files = dict(options.fill_file)
     if len(set(streams)) < len(streams):
         parser.error("a stream stands there twice")
+    if not options.schedule and options.list is None and any(size is None for _, size, _ in options.sources):
+        parser.error("each word is STREAM:BYTES:NAME, or there is a --schedule or a --list that has the bytes")
     if set(files) - set(streams):
         parser.error(f"stream {min(set(files) - set(streams))} has a file of fillers, but no bytes")
     found = []
-    for stream, size, name in sorted(options.sources):
+    for stream, size, name in sorted(sized(parser, options)):
         filler = fillers(size, options.fill, files.get(stream))
         found.append(Source(stream, size, name))
         found[-1].fillers = filler
@@ -221,6 +268,9 @@ def sources_of(parser, options):
 def main():
     parser = command_line.parser(__doc__)
     parser.add_argument("sources", metavar="STREAM:BYTES:NAME", nargs="+", type=encoder)
+    parser.add_argument("--schedule", type=command_line.file, default=[], action="append", metavar="NAME", help="take the bytes from this schedule")
+    parser.add_argument("--list", type=command_line.file, metavar="LIST", help="and from those in this list of playout.py")
+    parser.add_argument("--program", default="drmcast", help="the program that checks them (drmcast, by the path)")
     parser.add_argument("--late", type=command_line.number(1, 3_600_000), default=1000, metavar="MS", help="replace a piece that is so late (1000)")
     parser.add_argument("--fill", type=byte, default=b"\0", metavar="HH", help="with this byte (00)")
     parser.add_argument("--fill-file", type=fill_file, default=[], action="append", metavar="STREAM:FILE", help="or with the pieces of this file")

@@ -2,9 +2,9 @@
 # Serves a schedule over the loopback to two receivers at once, and checks what they report. Then it does so again with
 # every tenth datagram dropped on the way, which the schedule's fragments must make up for.
 #
-# usage: tools/loopback.sh PROGRAM [SCHEDULE [PACE]]
+# usage: loopback.sh PROGRAM [SCHEDULE [PACE]]
 #
-# SCHEDULE is examples/evening.plan where it isn't told. PACE is how many milliseconds the servers rest between frames, 40
+# SCHEDULE is evening.plan of the examples where it isn't told. PACE is how many milliseconds the servers rest between frames, 40
 # where it isn't told; a receiver that can't keep up loses datagrams in its socket's buffer, and the checks say so. The
 # ports 47810 to 47813 must be free. It prints a line for each check, and ends with 1 if one fails.
 
@@ -22,7 +22,10 @@ fi
 
 here=$(cd "$(dirname "$0")" && pwd)
 program=$1
-schedule=${2:-$here/../examples/evening.plan}
+examples=$here/../examples
+# Where this is installed they stand with the documents.
+[ -d "$examples" ] || examples=$here/../../share/doc/drmcast/examples
+schedule=${2:-$examples/evening.plan}
 pace=${3:-40}
 
 receivers=(47810 47811)

@@ -1,4 +1,4 @@
-"""What `watch.py` counts, as a file in the text format of Prometheus: written by it, and read by `check_drmcast.py`."""
+"""What `watch.py` counts and `playout.py` does, as files in the text format of Prometheus; `check_drmcast.py` reads the former."""
 import os
 import pathlib
 import re
@@ -17,6 +17,17 @@ METRICS = {
     "last_frame_timestamp_seconds": ("gauge", "When the last frame came, in seconds since 1970; 0 before the first one."),
     "longest_gap_seconds": ("gauge", "The longest time without a frame in the last hour."),
     "recently_lost_frames": ("gauge", "Frames that were missing or bad in the last hour."),
+    "in_vain_seconds": ("gauge", "How long datagrams have come of which none gave a frame, as of a server that began again; else 0."),
+}
+# The same of a playout.
+PLAYOUT_METRICS = {
+    "playout_on_air": ("gauge", "1 while a server sends, else 0."),
+    "playout_super_frame": ("gauge", "The super frame that is due, of the schedule whose moment it is."),
+    "playout_list_seconds": ("gauge", "The seconds to the end of the list; then nothing is on air."),
+    "playout_failures_total": ("counter", "Servers that ended before their schedule did."),
+    "playout_changes_taken_total": ("counter", "Changes of the list that were taken."),
+    "playout_changes_refused_total": ("counter", "Changes of the list that were refused."),
+    "playout_written_timestamp_seconds": ("gauge", "When this was written, in seconds since 1970."),
 }
 SAMPLE = re.compile(r'([a-z_]+)\{link="((?:[^"\\\n]|\\.)*)"\} ([0-9]+(?:\.[0-9]+)?(?:e[+-]?[0-9]+)?)')
 MOST_BYTES = 65_536
@@ -26,11 +37,11 @@ class NoMetrics(Exception):
     """A file that isn't one of these."""
 
 
-def as_text(link, values):
+def as_text(link, values, kinds=METRICS):
     """The text of these values for a link."""
     label = link.replace("\\", "\\\\").replace('"', '\\"').replace("\n", "\\n")
     return "".join(f'# HELP {PREFIX}{name} {said}\n# TYPE {PREFIX}{name} {kind}\n{PREFIX}{name}{{link="{label}"}} {values[name]}\n'
-                   for name, (kind, said) in METRICS.items())
+                   for name, (kind, said) in kinds.items())
 
 
 def read(path):
@@ -50,8 +61,8 @@ def read(path):
 class Metrics:
     """The file with the metrics of a link; nothing is written if `path` is None."""
 
-    def __init__(self, path, link):
-        self.path = path
+    def __init__(self, path, link, kinds=METRICS):
+        self.path, self.kinds = path, kinds
         self.link = link if link is not None else pathlib.Path(path or "").stem
         self.failed = False
         self.written = False
@@ -70,7 +81,7 @@ class Metrics:
         try:
             with command_line.written_whole(self.path) as out:
                 os.fchmod(out.fileno(), 0o644)
-                out.write(as_text(self.link, values).encode(errors="replace"))
+                out.write(as_text(self.link, values, self.kinds).encode(errors="replace"))
         except OSError as fault:
             if not self.written:
                 raise

@@ -9,7 +9,8 @@
 out, in the order of the file: over Ethernet (with VLAN tags), Linux cooked captures (both versions), the BSD loopback, and raw IP;
 of IPv4 and IPv6; and IP fragments put together, since a packet that is carried whole is longer than what an Ethernet carries. A
 file that is no pcap (pcapng, say) is first made one by Wireshark's `editcap`. With `--port` those to or from this port are taken;
-what is no packet, so that the reading of the capture would end there, is left out, and counted on standard error.
+what is no packet, so that the reading of the capture would end there, is left out, and counted on standard error. So are packets
+of which the file keeps less than there was: a snap length, which `tcpdump -s 0` doesn't have.
 """
 import shutil
 import struct
@@ -39,15 +40,20 @@ def as_pcap(path):
 
 
 def frames(data, path):
-    """The kind of the link and the bytes of each frame."""
+    """The kind of the link, the bytes of each frame, and whether these aren't all that it had."""
     order = ">" if data[0] == 0xA1 else "<"
     if len(data) < 24:
         sys.exit(f"{path}: the head of the file is cut")
     kind, at = struct.unpack(order + "I", data[20:24])[0] & 0xFFFF, 24
     while at + 16 <= len(data):
-        held = struct.unpack(order + "I", data[at + 8:at + 12])[0]
-        yield kind, data[at + 16:at + 16 + held]
+        held, had = struct.unpack(order + "II", data[at + 8:at + 16])
+        yield kind, data[at + 16:at + 16 + held], held < had
         at += 16 + held
+
+
+def snap_length(data):
+    """How much of a packet the file keeps at most."""
+    return struct.unpack((">" if data[0] == 0xA1 else "<") + "I", data[16:20])[0]
 
 
 def past_tags(kind, rest):
@@ -95,6 +101,11 @@ class Fragments:
         return None
 
 
+def is_udp(packet):
+    """Whether a packet, or what there is of it, is UDP or a fragment that may be."""
+    return packet[:1] and (packet[0] >> 4 == 4 and packet[9:10] == bytes([UDP]) or packet[0] >> 4 == 6 and packet[6:7] in (bytes([UDP]), bytes([FRAGMENT])))
+
+
 def transport(packet, fragments):
     """The UDP packet of an IP packet, where it is one and whole."""
     if len(packet) >= 20 and packet[0] >> 4 == 4 and packet[9] == UDP:
@@ -112,9 +123,12 @@ def transport(packet, fragments):
 
 def read(path, port):
     """Writes the datagrams in a file of packets as a capture."""
-    fragments, taken, left_out = Fragments(), 0, 0
-    for kind, frame in frames(as_pcap(path), path):
-        udp = transport(network(kind, frame, path), fragments)
+    fragments, taken, left_out, cut = Fragments(), 0, 0, 0
+    data = as_pcap(path)
+    for kind, frame, is_cut in frames(data, path):
+        packet = network(kind, frame, path)
+        cut += bool(is_cut and is_udp(packet))
+        udp = transport(packet, fragments)
         if udp is None or len(udp) < 8 or (port is not None and port not in struct.unpack(">HH", udp[:4])):
             continue
         payload = udp[8:int.from_bytes(udp[4:6], "big") or None]
@@ -124,6 +138,8 @@ def read(path, port):
         else:
             left_out += 1
     print(f"{taken} datagrams, {left_out} others left out, {len(fragments.open)} in pieces that never became whole", file=sys.stderr)
+    if cut:
+        print(f"{cut} packets are cut, since the file keeps {snap_length(data)} bytes of each at most (its snap length); tcpdump -s 0 keeps them whole", file=sys.stderr)
 
 
 def write(path, millis, port):

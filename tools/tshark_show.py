@@ -1,7 +1,7 @@
 #!/usr/bin/env python3
 """Compares what `show` prints of captures with what tshark reads in the same bytes, packet by packet.
 
-PROGRAM is crates/drmcast/out/drmcast, and each CAPTURE a file that `serve` wrote. Of a fragment are compared its byte, the number
+PROGRAM is drmcast, and each CAPTURE a file that `serve` wrote. Of a fragment are compared its byte, the number
 of its packet, its own and their number, its length, its code and its addresses; of an AF packet its byte, number and length,
 whether its check value counts, and the names and lengths of its items. Where tshark finds a check value that differs, `show`
 is to say that the packet is bad. Each packet that differs is named, ten at the most, and then the status is 1.

@@ -106,6 +106,20 @@ class Pcap(unittest.TestCase):
             self.assertEqual(pathlib.Path(f"{folder}/it.capture").read_bytes(), running.fragment(0) + running.fragment(1))
             self.assertEqual((status, err), (0, f"2 datagrams, {len(NO_PACKETS)} others left out, 0 in pieces that never became whole\n"))
 
+    def test_a_snap_length(self):
+        with tempfile.TemporaryDirectory() as folder:
+            path = pathlib.Path(folder, "it.pcap")
+            datagrams.pcap(path, [running.fragment(0), running.fragment(1, bytes(100))])
+            # The second packet without its last bytes, as a snap length of 64 leaves it: 20 + 8 + 14 + 100 bytes are 142.
+            whole = path.read_bytes()
+            head, first = whole[:16] + (64).to_bytes(4, "little") + whole[20:24], 16 + 28 + len(running.fragment(0))
+            second = whole[24 + first:]
+            path.write_bytes(head + whole[24:24 + first] + second[:8] + (64).to_bytes(4, "little") + second[12:16] + second[16:16 + 64])
+            status, out, err = running.run("pcap.py", "read", path)
+        self.assertEqual((status, out[:2], err.splitlines()), (0, "PF", [
+            "1 datagrams, 1 others left out, 0 in pieces that never became whole",
+            "1 packets are cut, since the file keeps 64 bytes of each at most (its snap length); tcpdump -s 0 keeps them whole"]))
+
     def test_bad_input_writes_nothing(self):
         with tempfile.TemporaryDirectory() as folder:
             path = pathlib.Path(folder, "it.pcap")

@@ -14,6 +14,23 @@ VERSION = running.TOP.joinpath("VERSION").read_text(encoding="ascii").strip()
 UNITS = sorted(path.name for path in CONTRIB.joinpath("systemd").glob("*.service"))
 
 
+def anchors(text):
+    """What a link into a document may name: its headings, as a browser of the repository spells them."""
+    plain = re.sub(r"^```.*?^```", "", text, flags=re.DOTALL | re.MULTILINE)
+    return {re.sub(r"[^\w\- ]", "", heading.lower()).replace(" ", "-") for heading in re.findall("^#+ (.*)$", plain, re.MULTILINE)}
+
+
+def dead_links(folder):
+    """The links of the documents in a folder that lead nowhere."""
+    for document in sorted(folder.rglob("*.md")):
+        text = document.read_text(encoding="utf-8")
+        for target in re.findall(r"\]\(([^)\s]+)\)", re.sub(r"^```.*?^```|`[^`\n]*`(?!\])", "", text, flags=re.DOTALL | re.MULTILINE)):
+            name, _, anchor = target.partition("#")
+            path = document.parent / name if name else document
+            if not target.startswith("http") and not (path.exists() and (not anchor or anchor in anchors(path.read_text(encoding="utf-8")))):
+                yield f"{document.name}: {target}"
+
+
 class Install(unittest.TestCase):
     def setUp(self):
         folder = tempfile.TemporaryDirectory()
@@ -55,6 +72,21 @@ class Install(unittest.TestCase):
                         self.assertTrue(os.access(f"{self.folder}/dest{path}", os.X_OK), path)
                     self.assertNotIn("@PREFIX@", root.joinpath("lib/systemd/system", name).read_text(encoding="utf-8"))
 
+    def test_documents(self):
+        self.assertEqual(self.installed(self.built, prefix="/usr/local"), (0, ""))
+        root = self.folder / "dest/usr/local"
+        documents = root / "share/doc/drmcast"
+        self.assertEqual([*dead_links(documents), *dead_links(running.TOP)], [])
+        # A link that leads somewhere in both is still one.
+        tour, readme = (documents.joinpath(name).read_text(encoding="utf-8") for name in ("TOUR.md", "README.md"))
+        for link, text in (("examples/one-service.plan", tour), ("../../../lib/drmcast/drop.py", tour), ("SCHEDULE.md#codes-of-service-and-audio", readme)):
+            self.assertIn(f"]({link})", text)
+        # What their sessions run is there.
+        sessions = re.findall(r"^[$>] (.*)$", tour + documents.joinpath("WIRESHARK.md").read_text(encoding="utf-8"), re.MULTILINE)
+        for folder, path in (("tools", "lib/drmcast"), ("examples", "share/doc/drmcast/examples")):
+            needed = {name for line in sessions for name in re.findall(rf"\b{folder}/([\w.-]+)", line)}
+            self.assertEqual([name for name in sorted(needed) if not root.joinpath(path, name).exists()], [])
+
     def test_scripts_run_where_they_are_installed(self):
         self.assertEqual(self.installed(self.built, prefix="/usr"), (0, ""))
         folder = self.folder / "dest/usr/lib/drmcast"
@@ -79,6 +111,10 @@ class Install(unittest.TestCase):
 
 
 class Version(unittest.TestCase):
+    def test_it_was_released(self):
+        changes = running.TOP.joinpath("CHANGELOG.md").read_text(encoding="utf-8")
+        self.assertEqual(len(re.findall(rf"^## {re.escape(VERSION)} \(\d{{4}}-\d\d-\d\d\)$", changes, re.MULTILINE)), 1)
+
     def test_the_manual_pages_have_it(self):
         for name in ("drmcast", "drmpaths"):
             first = running.TOP.joinpath("docs", f"{name}.1").read_text(encoding="ascii").splitlines()[0]

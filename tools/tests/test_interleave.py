@@ -163,9 +163,30 @@ class Interleave(unittest.TestCase):
             script.stdout.close()
             self.assertEqual(self.said(script), (["0 frames; replaced 0 of stream 0"], 141))
 
+    def test_sizes_of_the_schedules(self):
+        program, a, b = self.file("drmcast", b"#!/bin/sh\nfor name; do :; done\nexec cat \"$name\""), self.file("a", pieces(0, 3, 2)), self.file("b", pieces(1, 2, 2))
+        program.chmod(0o755)
+        both = b"config 0 0\nstream 1 2 fill 00\nstream 0 2 fill 00\n"
+        one, other = self.file("one.plan", both), self.file("other.plan", both + b"config 9 2\nstream 0 3 file x\n")
+        listed = self.file("it.list", f"2026-12-24T18:00:00Z {one}\n# and\n2026-12-24T19:00:00Z {other}\n".encode())
+        checks = "--program", program
+        with self.started(f"0:{a}", f"1:2:{b}", "--schedule", one, *checks) as script:
+            self.assertEqual(script.stdout.read(), bytes.fromhex("a0a0a0b0b0a1a1a1b1b1"))
+            self.assertEqual(self.said(script)[1], 0)
+        for words, said in (((f"0:{a}", "--list", listed), None), ((f"0:4:{a}", "--schedule", one), f"stream 0 has 3 bytes a frame in configuration 1 of {one}, and 4 bytes a frame here"),
+                            ((f"0:{a}", f"1:{b}", "--list", listed), f"stream 1 has 0 bytes a frame in configuration 2 of {other}, and 2 bytes a frame in configuration 1 of {one}"),
+                            ((f"2:{a}", "--schedule", other), f"stream 2 has 0 bytes a frame in configuration 1 of {other}")):
+            with self.subTest(words=words):
+                status, out, err = running.run("interleave.py", *words, *checks)
+                self.assertEqual((status, out) if said else status, (3, "") if said else 0)
+                self.assertIn(f"interleave.py: {said}\n" if said else "2 frames", err)
+        program.write_text("#!/bin/sh\necho 'drmcast: schedule line 7: fit' >&2; exit 3\n", encoding="ascii")
+        self.assertEqual(running.run("interleave.py", f"0:{a}", "--schedule", one, *checks), (3, "", f"interleave.py: {one}: drmcast: schedule line 7: fit\n"))
+        self.assertEqual(running.run("interleave.py", f"0:{a}", "--schedule", one, "--program", "/nowhere/drmcast")[0], 2)
+
     def test_words(self):
         a = self.file("a", b"")
-        for words in ((), ("a",), ("0:1",), ("4:1:{a}",), ("0:0:{a}",), ("0:8191:{a}",), ("0:1:/nowhere",), ("0:1:/dev/null",), ("0:1:{a}", "0:2:{a}"),
+        for words in ((), ("a",), ("0:1",), ("4:1:{a}",), ("0:0:{a}",), ("0:8191:{a}",), ("0:1:/nowhere",), ("0:1:/dev/null",), ("0:1:{a}", "0:2:{a}"), ("0:{a}",), ("0:",),
                       ("0:1:{a}", "--fill", "0"), ("0:1:{a}", "--fill", "0x"), ("0:1:{a}", "--fill", " 00"), ("0:1:{a}", "--late", "0"), ("0:1:{a}", "--frames", "0")):
             with self.subTest(words=words):
                 self.assertEqual(running.run("interleave.py", *(word.format(a=a) for word in words))[0], 2)

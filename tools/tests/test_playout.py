@@ -1,75 +1,20 @@
-"""`playout.py`: what it says of a list, and when and with which words it runs a program that stands in for `drmcast`."""
-import pathlib
+"""`playout.py`: when and with which words it runs a program that stands in for `drmcast`, and what it does meanwhile."""
+import os
+import re
 import signal
-import tempfile
+import subprocess
 import unittest
 
 import running
+import stations
+from stations import PACE
 
+import metrics
+import playlists
 import playout
 
-# `check` prints the schedule's text. `serve` notes when it was begun with which words, and lasts as long as it would; with live streams it
-# takes a byte for each frame. It fails once with the status in a file, if there is one.
-PROGRAM = """#!/bin/sh
-for name; do :; done
-if grep -q wrong "$name"; then
-    echo "drmcast: schedule line 7: fit" >&2
-    exit 3
-fi
-case $1 in check) exec cat "$name" ;; esac
-since=0 pace=0 live= words=$*
-while [ $# -gt 1 ]; do
-    case $1 in
-        --from) since=$2 ;;
-        --pace) pace=$2 ;;
-        --live) live=$2 ;;
-    esac
-    shift
-done
-frames=$((3 * ($(sed -n 's/^length //p' "$name") - since)))
-[ $frames -gt 0 ] || exit 0
-echo "$(date +%s%N) $words" >> {folder}/log
-if [ -e {folder}/failing ]; then
-    status=$(cat {folder}/failing)
-    rm {folder}/failing
-    exit "$status"
-fi
-[ -z "$live" ] || head -c $frames >> {folder}/taken
-millis=$(((frames - 1) * pace))
-exec sleep $((millis / 1000)).$(printf %03d $((millis % 1000)))
-"""
-PACE = 20
 
-
-class Playout(unittest.TestCase):
-    def setUp(self):
-        folder = tempfile.TemporaryDirectory()
-        self.addCleanup(folder.cleanup)
-        self.folder = pathlib.Path(folder.name)
-        self.program = self.folder / "drmcast"
-        self.program.write_text(PROGRAM.replace("{folder}", folder.name), encoding="ascii")
-        self.program.chmod(0o755)
-
-    def list(self, *lines):
-        """A list of these lines, each a moment and a name, or as it stands."""
-        texts = [line if isinstance(line, str) else f"{playout.moment(line[0])} {line[1]}" for line in lines]
-        self.folder.joinpath("it.list").write_text("\n".join(texts) + "\n", encoding="utf-8")
-
-    def plan(self, name, number, count, super_frames, rest=""):
-        self.folder.joinpath(name).write_text(f"drmplan 2\ncarry plain\nfirst {number} {count}\nlength {super_frames}\n{rest}", encoding="ascii")
-
-    def words(self, *more):
-        return "playout.py", "it.list", "--program", self.program, "--pace", PACE, *more
-
-    def ran(self, *more, given=""):
-        return running.run(*self.words(*more), cwd=self.folder, given=given)
-
-    def log(self):
-        """When each server was begun, and its words."""
-        path = self.folder / "log"
-        lines = [line.split(" ") for line in path.read_text(encoding="ascii").splitlines()] if path.exists() else []
-        return [(int(at) // 1_000_000, words) for at, *words in lines]
-
+class Playout(stations.Station):
     def stopped_after(self, servers):
         """The status and the complaints of a playout that is stopped as soon as it has begun so many servers."""
         with running.start(*self.words("--to", "127.0.0.1:9"), cwd=self.folder) as playing:
@@ -78,10 +23,10 @@ class Playout(unittest.TestCase):
         return status, err
 
     def three(self, begin):
-        """Three schedules one behind the other, of 10, 5 and 8 super frames."""
+        """Three schedules one behind the other, of 5, 3 and 4 super frames."""
         number, count = 65_530, 4_294_967_290
         lines = []
-        for name, super_frames in (("a.plan", 10), ("b.plan", 5), ("c.plan", 8)):
+        for name, super_frames in (("a.plan", 5), ("b.plan", 3), ("c.plan", 4)):
             self.plan(name, number, count, super_frames)
             lines.append((begin, name))
             number, count = (number + 3 * super_frames) % 65_536, (count + 3 * super_frames) % (1 << 32)
@@ -89,42 +34,33 @@ class Playout(unittest.TestCase):
         self.list("# three of them", "", *lines)
         return lines
 
-    def test_moments(self):
-        self.assertEqual(playout.millis("2000-01-02T00:00:00Z"), 946_771_200_000)
-        self.assertEqual(playout.millis("2026-12-24T18:00:00.25Z"), playout.millis("2026-12-24T18:00:00Z") + 250)
-        for at in (946_684_800_000, 1_795_943_658_860, 1_795_943_658_007):
-            self.assertEqual(playout.millis(playout.moment(at)), at)
-        for word in ("1999-12-24T18:00:00Z", "2026-13-24T18:00:00Z", "2026-12-24 18:00", "2026-12-24T18:00:00", "2026-12-24T25:00:00Z", "18:00"):
-            with self.assertRaises(ValueError, msg=word):
-                playout.millis(word)
-
     def test_where_a_schedule_is_begun(self):
-        one = playout.Entry(1, 10_000, "a", 0, 0, 100)
+        one = playlists.Entry(1, 10_000, "a", 0, 0, 100, "")
         for at, wanted in ((0, (0, 10_000)), (10_000, (0, 10_000)), (10_001, (1, 11_200)), (11_200, (1, 11_200)), (11_201, (2, 12_400))):
             self.assertEqual(playout.place(one, 400, at), wanted, at)
 
     def test_each_begins_at_its_moment(self):
-        begin = playout.now() + 2500
+        begin = playlists.now() + 2500
         lines = self.three(begin)
         status, out, err = self.ran("--to", "127.0.0.1:9")
-        self.assertEqual((status, err), (0, ""))
+        self.assertEqual((status, err), (9, ""))
         self.assertEqual([words for _, words in self.log()], [["serve", "--to", "127.0.0.1:9", "--pace", str(PACE), "--", name] for _, name in lines])
         for (at, _), (due, _) in zip(self.log(), lines):
             self.assertGreaterEqual(at, due)
         said = [line.partition(" ")[2] for line in out.splitlines()]
-        self.assertEqual(said[0], f"nothing is on air; a.plan begins at {playout.moment(begin)}")
-        self.assertEqual(said[-1], "the list has ended")
+        self.assertEqual(said[0], f"nothing is on air; a.plan begins at {playlists.moment(begin)}")
+        self.assertEqual(said[-1], "the list has ended, and nothing is on air")
 
     def test_live_streams_of_one_after_another(self):
-        lines = self.three(playout.now() + 500)
+        lines = self.three(playlists.now() + 1000)
         given = bytes(range(100))
-        self.assertEqual(self.ran("--to", "127.0.0.1:9", "--live", "0,1", given=given)[::2], (0, ""))
+        self.assertEqual(self.ran("--to", "127.0.0.1:9", "--live", "0,1", given=given)[::2], (9, ""))
         self.assertEqual([words for _, words in self.log()], [["serve", "--to", "127.0.0.1:9", "--pace", str(PACE), "--live", "0,1", "--", name] for _, name in lines])
-        self.assertEqual(self.folder.joinpath("taken").read_bytes(), given[:3 * 23])
+        self.assertEqual(self.folder.joinpath("taken").read_bytes(), given[:3 * 12])
 
     def test_it_goes_on_within_a_schedule(self):
         self.plan("a.plan", 0, 0, 1000)
-        begin = playout.now() - 1000
+        begin = playlists.now() - 1000
         self.list((begin, "a.plan"))
         self.assertEqual(self.stopped_after(1)[0], 0)
         at, words = self.log()[0]
@@ -135,61 +71,98 @@ class Playout(unittest.TestCase):
 
     def test_a_server_that_fails(self):
         self.plan("a.plan", 0, 0, 1000)
-        self.list((playout.now() - 1000, "a.plan"))
+        self.list((playlists.now() - 1000, "a.plan"))
         self.folder.joinpath("failing").write_text("6", encoding="ascii")
         status, err = self.stopped_after(2)
         self.assertEqual((status, err), (0, "playout.py: drmcast serve of a.plan ended with status 6\n"))
         first, second = (int(words[words.index("--from") + 1]) for _, words in self.log())
         self.assertGreater(second, first + 15)
         self.folder.joinpath("failing").write_text("3", encoding="ascii")
-        self.list((playout.now() + 1000, "a.plan"))
-        self.assertEqual(self.ran("--to", "127.0.0.1:9")[0], 3)
+        self.list((playlists.now() + 300, "a.plan"))
+        status, out, _ = self.ran("--to", "127.0.0.1:9")
+        self.assertEqual((status, "ended" in out), (3, False))
 
     def test_signals(self):
         for signalled in (signal.SIGTERM, signal.SIGINT):
             self.plan("a.plan", 0, 0, 1000)
-            self.list((playout.now() + 300, "a.plan"))
+            self.list((playlists.now() + 300, "a.plan"))
             count = len(self.log())
             with running.start(*self.words("--to", "127.0.0.1:9"), cwd=self.folder) as playing:
                 running.until(lambda: len(self.log()) > count)
                 status, out, err = running.stop(playing, signalled)
             self.assertEqual((status, err, out.decode().splitlines()[-1].partition(" ")[2]), (0, "", "stopped"))
 
-    def test_what_is_on_air(self):
-        hour = 3_600_000
-        self.plan("a.plan", 0, 0, 3000 * 400 // PACE)
-        begin = playout.now() - hour // 2
-        self.list((begin, "a.plan"))
-        status, out, _ = self.ran()
-        self.assertEqual(status, 0)
-        self.assertRegex(out, rf" on air: a.plan, super frame 300\d\d of 60000, until {playout.moment(begin + hour)}\n")
-        self.list((begin - hour, "a.plan"))
-        self.assertEqual(self.ran("--to", "127.0.0.1:9")[0], 3)
+    def test_its_end_and_what_it_does(self):
+        self.plan("a.plan", 0, 0, 1000)
+        self.list((playlists.now() - 1000, "a.plan"))
+        path = self.folder / "it.prom"
+        with running.start(*self.words("--to", "127.0.0.1:9", "--metrics", path), cwd=self.folder) as playing:
+            running.until(lambda: len(self.log()) == 1 and path.exists())
+            running.until(lambda: "playout_on_air" in path.read_text(encoding="ascii"))
+            _, out, _ = running.stop(playing)
+        self.assertRegex(out.decode(), r"Z the list ends at \S+, in 1 minute; then nothing is on air\n")
+        values = dict(re.findall(r'^drmcast_playout_(\w+)\{link="it"\} (\S+)$', path.read_text(encoding="ascii"), re.MULTILINE))
+        self.assertEqual(set(values), {name.removeprefix("playout_") for name in metrics.PLAYOUT_METRICS})
+        self.assertEqual((values["on_air"], values["failures_total"], values["changes_taken_total"]), ("0", "0", "0"))
+        self.assertLess(16, int(values["super_frame"]))
+        self.assertAlmostEqual(float(values["list_seconds"]), 59, delta=5)
 
-    def test_gaps_overlaps_and_first_lines(self):
-        self.plan("a.plan", 65_530, 0, 10)
-        self.plan("b.plan", 24, 30, 10)
-        self.plan("c.plan", 54, 61, 10)
-        begin = playout.millis("2026-12-24T18:00:00Z")
-        self.list((begin, "a.plan"), (begin + 1600, "b.plan"), (begin + 2100, "c.plan"))
-        status, out, err = self.ran("--to", "127.0.0.1:9")
-        self.assertEqual((status, out, self.log()), (3, "", []))
-        self.assertEqual(err.splitlines(), [f"playout.py: it.list {text}" for text in (
-            "line 2: a gap of 1 s: a.plan ends at 2026-12-24T18:00:00.600Z, and b.plan begins at 2026-12-24T18:00:01.600Z",
-            "line 3: an overlap of 0.1 s: b.plan ends at 2026-12-24T18:00:02.200Z, and c.plan begins at 2026-12-24T18:00:02.100Z",
-            'line 3: c.plan has the line "first 54 61"; to go on from b.plan it would be "first 54 60"')])
+    def playing(self, begin):
+        """A playout of this list by itself, whose servers nobody starts."""
+        self.list(*begin)
+        options = playout.arguments_of([str(self.folder / "it.list"), "--to", "127.0.0.1:9", "--pace", str(PACE), "--program", str(self.program)])
+        entries, _ = playout.ListFile(options).read()
+        return playout.Playout(options, entries, None)
 
-    def test_bad_lists(self):
-        self.plan("wrong.plan", 0, 0, 10, "wrong")
-        for line, status, said in (("18:00 a.plan", 3, "no moment"), ("2026-12-24T18:00:00Z", 3, "isn't a moment and a file"), ("# nothing", 3, "no schedule"),
-                                   ("2026-12-24T18:00:00Z wrong.plan", 3, "drmcast: schedule line 7: fit"), ("\u00e4", 3, "isn't a moment")):
-            self.list(line)
-            found = self.ran("--to", "127.0.0.1:9")
-            self.assertEqual((found[0], found[1], found[2].count("\n")), (status, "", 1), line)
-            self.assertIn(said, found[2])
-        self.folder.joinpath("it.list").write_bytes(b"\xff\n")
-        self.assertEqual(self.ran()[0], 1)
-        self.assertEqual(running.run("playout.py", "/nowhere", "--program", self.program)[0], 2)
+    def test_an_hour_and_ten_minutes_ahead(self):
+        said, playout_say = [], playout.say
+        self.addCleanup(setattr, playout, "say", playout_say)
+        playout.say = said.append
+        self.plan("a.plan", 0, 0, 200_000)
+        self.addCleanup(os.chdir, os.getcwd())
+        os.chdir(self.folder)
+        one = self.playing([(playlists.now(), "a.plan")])
+        self.addCleanup(setattr, playout, "now", playout.now)
+        for minutes, wanted in ((61, []), (60, ["60"]), (59, []), (11, []), (10, ["10"]), (3, []), (-1, [])):
+            playout.now = lambda at=one.end() - minutes * 60_000: at
+            one.says_end()
+            self.assertEqual([re.search("in ([0-9]+) minutes", text)[1] for text in said], wanted, minutes)
+            said.clear()
+
+    def test_a_list_that_changes(self):
+        said, complained = [], []
+        for name, value in (("say", said.append), ("now", playlists.now)):
+            self.addCleanup(setattr, playout, name, getattr(playout, name))
+            setattr(playout, name, value)
+        self.addCleanup(setattr, playout.command_line, "complain", playout.command_line.complain)
+        playout.command_line.complain = complained.append
+        self.addCleanup(os.chdir, os.getcwd())
+        os.chdir(self.folder)
+        begin = playlists.now() - 60_000
+        for name, number in (("a.plan", 0), ("b.plan", 6000 % 65536)):
+            self.plan(name, number, number, 2000)
+        one = self.playing([(begin, "a.plan")])
+        for lines, taken, refused, left in (([(begin, "a.plan")], 0, 0, 1), ([(begin, "a.plan"), (begin + 120_000, "b.plan")], 1, 0, 2),
+                                            ([(begin, "a.plan"), (begin + 120_001, "b.plan")], 1, 1, 2), ([(begin + 120_000, "b.plan")], 1, 2, 2),
+                                            (["# now", (begin, "a.plan")], 2, 2, 1)):
+            self.list(*lines)
+            one.due = 0.0
+            one.looks()
+            self.assertEqual((one.taken, one.refused, len(one.entries)), (taken, refused, left), lines)
+        self.assertEqual([text.partition(",")[0].partition(";")[0] for text in said if "change" in text],
+                         ["the list has changed", *["the changed list is refused"] * 2, "the list has changed"])
+        self.assertRegex(complained[0], "it.list line 2: a gap of 0.001 s: a.plan ends at [^ ]+, and b.plan begins at")
+        self.assertRegex(complained[1], "it.list a.plan of [^ ]+ isn't in it as it was")
+
+    def test_what_feeds_it_is_gone(self):
+        self.plan("a.plan", 0, 0, 1000)
+        self.list((playlists.now() - 1000, "a.plan"))
+        words = running.words(*self.words("--to", "127.0.0.1:9", "--live", "0", "--interleaved"))
+        with subprocess.Popen(words, cwd=self.folder, stdin=subprocess.PIPE, stdout=subprocess.PIPE, stderr=subprocess.PIPE) as playing:
+            running.until(lambda: len(self.log()) == 1)
+            out, err = playing.communicate(timeout=running.WAIT_SECONDS)
+        self.assertEqual((playing.returncode, err), (10, b"playout.py: standard input has lost its writer, so the live streams get nothing more\n"))
+        self.assertIn(b"begins: a.plan", out)
 
 
 if __name__ == "__main__":

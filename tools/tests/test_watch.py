@@ -10,6 +10,7 @@ import unittest
 import running
 
 import metrics
+import watch
 
 REPORT = running.report(running.frame(0, 0), "missing 1 had 2 of 9", "switch 2", running.frame(2, 2), "resumed 3", running.frame(3, 3),
                         "bad 4 af crc", "refused 7 dcp sync", refused=20)
@@ -62,6 +63,60 @@ class Pipe(unittest.TestCase):
             watching.stdin.write(REPORT.encode())
             watching.stdin.close()
             self.assertEqual((watching.wait(running.WAIT_SECONDS), watching.stderr.read()), (141, b""))
+
+
+class InVain(unittest.TestCase):
+    """Datagrams of which none gives a frame."""
+
+    def test_how_long_a_report_may_be_silent(self):
+        for command, wanted in (("drmcast receive 0.0.0.0:5000 --idle 600", 65.0), ("drmcast receive 0.0.0.0:5000 --reach 450 --idle=600", 65.0), ("drmcast receive 0.0.0.0:5000", 31.0),
+                                ("drmcast receive 0.0.0.0:5000,0.0.0.0:5001", None), ("drmpaths 0.0.0.0:5000,0.0.0.0:5001", None), ("", None)):
+            self.assertEqual(watch.patience(command.split()), wanted, command)
+
+    def test_a_report_that_goes_on_without_a_line(self):
+        watched = watch.Watch(60.0, patience=0.0)
+        self.assertEqual(watched.in_vain(), 0.0)
+        watched.take("feed 1")
+        time.sleep(0.01)
+        self.assertGreater(watched.in_vain(), 0.005)
+        watched.patience = 10.0
+        self.assertEqual(watched.in_vain(), 0.0)
+        watched.patience = 0.0
+        watched.take("end idle given 0 missing 0 bad 0 refused 0")
+        self.assertEqual(watched.in_vain(), 0.0)
+
+    def test_lines_of_count(self):
+        whole = "count given 150 missing 1 bad 0 refused 3 kept 2100 repeated 0 late 300\n"
+        status, out, err = running.run("watch.py", given=whole)
+        self.assertEqual((status, err, of(out.splitlines()[1])), (7, "", "given 150 missing 1 bad 0 longest gap G s switches 0 resumed 0 refused 3"))
+        watched = watch.Watch(60.0)
+        for line, in_vain in ((whole, False), ("count given 0 missing 0 bad 0 refused 0 kept 0 repeated 0 late 2400", True), (whole, False),
+                              ("count given 0 missing 0 bad 0 refused 0 kept 0 repeated 0 late 0", False)):
+            watched.take(line.rstrip("\n"))
+            self.assertEqual(watched.in_vain() > 0, in_vain, line)
+
+    def test_it_is_said_once(self):
+        said = []
+        self.addCleanup(setattr, watch.command_line, "complain", watch.command_line.complain)
+        watch.command_line.complain = said.append
+        watched = watch.Watch(60.0, patience=0.0)
+        following = watch.Following(watched, None, 60.0, metrics.Metrics(None, None), None)
+        for line in ("feed 1", None, running.frame(0, 0), "end idle given 1 missing 0 bad 0 refused 0", None):
+            if line:
+                watched.take(line)
+            time.sleep(0.002)
+            following.due()
+        self.assertEqual([text.partition(",")[0] for text in said], ["datagrams come", "datagrams give frames again"])
+
+
+class Stamps(unittest.TestCase):
+    def test_each_line_has_its_moment(self):
+        status, out, _ = running.run("watch.py", "--stamp", given=REPORT)
+        stamped = [line for line in out.splitlines() if " longest gap " not in line]
+        self.assertEqual((status, [line.partition(" ")[2] for line in stamped]), (7, REPORT.splitlines()))
+        for line in stamped:
+            self.assertRegex(line, r"^2\d{3}-\d\d-\d\dT\d\d:\d\d:\d\d\.\d{3}Z ")
+        self.assertEqual(running.run("watch.py", "--stamp", "--format", "csv", given=REPORT)[0], 2)
 
 
 class Command(unittest.TestCase):
@@ -148,6 +203,8 @@ class Check(unittest.TestCase):
         self.assertEqual(self.checked(*limits, longest_gap_seconds=31), 1)
         self.assertEqual(self.checked(*limits, last_frame_timestamp_seconds=time.time() - 40), 2)
         self.assertEqual(self.checked(*limits, last_frame_timestamp_seconds=0), 2)
+        self.assertEqual(self.checked(*limits, in_vain_seconds=70), 1)
+        self.assertEqual(self.checked(*limits, in_vain_seconds=70, last_frame_timestamp_seconds=time.time() - 70), 2)
 
     def test_what_cannot_be_said(self):
         for words in (["/nowhere"], ["/dev/null"], [__file__], ["/"], [], [__file__, "--gap", "x"]):
