@@ -7,6 +7,10 @@ become ports of 127.1.2.3, whose four numbers differ. Where silence ends a run, 
 its name.
 Each case that ends otherwise is named, with what differs. Status 1 where one does. A case over sockets that differs is tried
 twice more, with nothing beside it, since the system may drop a datagram or come late on a busy machine.
+
+On standard error the program writes lines of its own behind what a case says: which word is wrong, behind `words`; which address, file or
+stream it was, behind a fault; and when sends to an address are refused and accepted again. A case is compared without these lines. What
+they say is tried by itself (LINES).
 """
 import concurrent.futures
 import pathlib
@@ -27,6 +31,10 @@ IDLE = "10"
 MOST_DATAGRAMS = 400
 # as many bytes as are sent at once and a socket surely keeps up with
 MOST_BYTES = 1_000_000
+# what may be written about an address at any moment
+REFUSALS = re.compile(rb"^\w+: [\d.]+:\d+: (refused since \S+: .*|accepted again, \d+ datagrams lost)\n", re.MULTILINE)
+# the line behind a refusal of the words, and the lines behind a fault of the outside
+WORDS, FAULTS = 2, (4, 5, 6)
 FAILING = re.compile(r"-(fails|room|piece)$|^(failed|idle|out-prefix|differs)$")
 ADDRESS = re.compile(r"\d+\.\d+\.\d+\.\d+:\d+")
 
@@ -195,6 +203,17 @@ def words_of(program, case, ports):
     return [*words[:commands], "--idle", IDLE, *words[commands:]]
 
 
+def is_said(name, case, err):
+    """Whether standard error has what the case says, and behind it what this program adds for its status."""
+    err = REFUSALS.sub(b"", err)
+    if not err.startswith(case.err):
+        return False
+    added = err[len(case.err):].splitlines(keepends=True)
+    if not all(it.startswith(f"{name}: ".encode()) and it.endswith(b"\n") for it in added):
+        return False
+    return len(added) == 1 if case.status == WORDS else not added or case.status in FAULTS
+
+
 def differences(program, case):
     """What of a run differs from what the case says."""
     targets = case.targets()
@@ -227,8 +246,67 @@ def differences(program, case):
             it.close()
     said = [f"status {ran.returncode}"] if ran.returncode != case.status else []
     said += ["out"] if out != case.out else []
-    said += ["err"] if err != case.err else []
+    said += ["err"] if not is_said(pathlib.Path(program).name, case, err) else []
     return said + [f"sent {at}" for at in targets if got[at] != case.sent[at]]
+
+
+# What is said behind a refusal of the words or a fault, by the words: the last line of standard error. Expected is what this system says.
+LINES = {
+    "drmcast": {
+        "": "no words: a command comes first, one of fac check serve receive count air show convert gate pack unpack texts exercise",
+        "serv it": "serv: a command comes first, one of fac check serve receive count air show convert gate pack unpack texts exercise",
+        "show l.cap": "l.cap: show reads standard input: < l.cap",
+        "receive l.cap": "l.cap: ADDRS: an address is four numbers and a port, as 192.0.2.7:5000; 1 to 16 of them, all different, are joined by "
+                         "commas; a capture comes on standard input: < l.cap",
+        "check": "check: NAME is missing: the name of a file",
+        "check a b": "b: check takes no further word",
+        "air a": "a: SCRIPT is missing: the name of a file",
+        "serve a --to localhost:5000": "localhost:5000: --to: an address is four numbers and a port, as 192.0.2.7:5000; 1 to 16 of them, all "
+                                       "different, are joined by commas",
+        "serve a --to 127.0.0.1": "127.0.0.1: --to: an address is four numbers and a port, as 192.0.2.7:5000; 1 to 16 of them, all different, "
+                                  "are joined by commas",
+        "serve a --pace 10001": "10001: --pace: a number from 0 to 10000",
+        "serve a --window 8": "--window: the options of serve are --to --pace --from --live",
+        "fac --window=8": "--window=8: fac has no options",
+        "serve a --pace 1 --pace 2": "--pace: this option is given twice",
+        "serve a --pace": "--pace: this option has a value behind it",
+        "serve a -p 1": "-p: the options of serve are --to --pace --from --live",
+        "serve a --live 1,0": "1,0: --live: streams are numbers from 0 to 3, rising, joined by commas",
+        "convert pft 2 1400": "pft: this is one word: pft:2:1400",
+        "convert pft:9:1400": "pft:9:1400: CARRY: packets are carried plain, or pft:M:MTU with M 0 to 5 and MTU 128 to 1500, as pft:2:1400",
+        "unpack 1 1": "1: LENGTH is missing: a number from 1 to 255",
+        "check nosuch.plan": "nosuch.plan: No such file or directory (2)",
+        "check .": ".: Is a directory (21)",
+        "check a\nb": "a\\x0ab: No such file or directory (2)",
+        "receive 203.0.113.1:5000": "203.0.113.1:5000: Cannot assign requested address (99)",
+    },
+    "drmpaths": {
+        "": "drmpaths: ADDRS is missing: an address is four numbers and a port, as 192.0.2.7:5000; 2 to 4 of them, all different, are joined by commas",
+        "127.0.0.1:5000": "127.0.0.1:5000: ADDRS: an address is four numbers and a port, as 192.0.2.7:5000; 2 to 4 of them, all different, are "
+                          "joined by commas",
+        "127.0.0.1:1,127.0.0.1:2 --limit 1000001": "1000001: --limit: a number from 1 to 1000000",
+        "203.0.113.1:5000,203.0.113.2:5000": "203.0.113.1:5000: Cannot assign requested address (99)",
+    },
+}
+
+
+def other_lines(program):
+    """Each of the words behind which something else is said, or nothing; and a full disk and a closed stream."""
+    name = pathlib.Path(program).name
+    with tempfile.TemporaryDirectory() as room:
+        for words, line in LINES[name].items():
+            ran = subprocess.run([program, *words.split(" ")] if words else [program], cwd=room, stdin=subprocess.DEVNULL, capture_output=True, check=False)
+            said = ran.stderr.decode(errors="replace").splitlines()
+            if len(said) != 2 or said[1] != f"{name}: {line}":
+                yield f"{name} {words}: {said}"
+    if name == "drmcast":
+        with open("/dev/full", "wb") as full:
+            ran = subprocess.run([program, "fac"], input=bytes.fromhex("26084e0d2010a10012"), stdout=full, stderr=subprocess.PIPE, check=False)
+        if ran.stderr != b"drmcast: write fault\ndrmcast: standard output: No space left on device (28)\n":
+            yield f"drmcast fac > /dev/full: {ran.stderr}"
+        ran = subprocess.run(["sh", "-c", '"$0" fac <&-', program], capture_output=True, check=False)
+        if ran.stderr != b"drmcast: read fault\ndrmcast: standard input: Bad file descriptor (9)\n":
+            yield f"drmcast fac <&-: {ran.stderr}"
 
 
 def main():
@@ -248,6 +326,9 @@ def main():
         if said:
             failed += 1
             print(f"{case.place}: {case.name}: {', '.join(said)}")
+    for each in other_lines(program):
+        failed += 1
+        print(f"a line of standard error: {each}")
     print(f"edge: {len(cases) - failed} passed, {failed} failed, {len(whole) - len(cases)} skipped")
     sys.exit(failed > 0)
 
