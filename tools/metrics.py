@@ -1,4 +1,4 @@
-"""What `watch.py` counts and `playout.py` does, as files in the text format of Prometheus; `check_drmcast.py` reads the former."""
+"""What `watch.py` counts and `playout.py` does, as files in the text format of Prometheus, which `check_drmcast.py` reads."""
 import os
 import pathlib
 import re
@@ -21,6 +21,7 @@ METRICS = {
 }
 # The same of a playout.
 PLAYOUT_METRICS = {
+    "playout_due": ("gauge", "1 if the list has a schedule at this moment, else 0."),
     "playout_on_air": ("gauge", "1 while a server sends, else 0."),
     "playout_super_frame": ("gauge", "The super frame that is due, of the schedule whose moment it is."),
     "playout_list_seconds": ("gauge", "The seconds to the end of the list; then nothing is on air."),
@@ -50,9 +51,9 @@ def read(path):
         text = file.read(MOST_BYTES).decode("utf-8", "replace")
     found = [SAMPLE.fullmatch(line) for line in text.splitlines() if line and not line.startswith("#")]
     if not all(found):
-        raise NoMetrics(f"{path} has a line that is no metric of watch.py")
+        raise NoMetrics(f"{path} has a line that is no metric of watch.py or playout.py")
     values = {name[len(PREFIX):]: float(value) for name, _, value in (sample.groups() for sample in found) if name.startswith(PREFIX)}
-    lacking = [name for name in METRICS if name not in values]
+    lacking = [name for name in (PLAYOUT_METRICS if "playout_on_air" in values else METRICS) if name not in values]
     if lacking:
         raise NoMetrics(f"{path} has no {PREFIX}{lacking[0]}")
     return found[0].group(2), values

@@ -21,7 +21,7 @@ of these streams from standard input, and none takes more than its frames need. 
 
 When the list has changed it is read again, and taken if what is on air, or waited for, stands in it as it was; so lines can be added. An hour
 and ten minutes before the list ends it says so. --metrics writes what it does to a file each five seconds, in the text format of Prometheus:
-whether something is on air, the super frame, the seconds to the end of the list, servers that failed, and changes of the list that were
+whether something is due and is on air, the super frame, the seconds to the end of the list, servers that failed, and changes of the list that were
 taken and refused.
 
 The status is 0 after Ctrl-C or TERM, and after a check alone; 3 if the list is wrong; 9 when it has ended, since nothing is on air then; 10
@@ -198,7 +198,8 @@ class Playout:
         one, at = self.entries[0], now()
         due = (at - one.begin) // (FRAMES * self.options.pace)
         return {
-            "playout_on_air": int(self.on_air), "playout_super_frame": min(max(due, 0), one.super_frames - 1),
+            "playout_due": int(one.begin <= at < following(one, self.options.pace)[0]), "playout_on_air": int(self.on_air),
+            "playout_super_frame": min(max(due, 0), one.super_frames - 1),
             "playout_list_seconds": max(0.0, (self.end() - at) / 1000), "playout_failures_total": self.failures, "playout_changes_taken_total": self.taken,
             "playout_changes_refused_total": self.refused, "playout_written_timestamp_seconds": at / 1000,
         }
@@ -210,9 +211,10 @@ class Playout:
             left = due - time.monotonic()
             if left <= 0:
                 return due
+            if left > RETRY_SECONDS:
+                self.looks()
             # The clock of the day may be set meanwhile.
-            self.looks()
-            self.waits(None, min(left, LOOK_SECONDS))
+            self.waits(None, min(due - time.monotonic(), LOOK_SECONDS))
         return None
 
     def serve(self, one, later):
@@ -222,6 +224,7 @@ class Playout:
         with subprocess.Popen(words, stdin=None if self.options.live else subprocess.DEVNULL, stdout=subprocess.PIPE) as server:
             say(f"begins: {one.name}, super frame {later} of {one.super_frames}, until {moment(following(one, self.options.pace)[0])}")
             self.on_air = True
+            self.written.write(self.state())
             try:
                 while not self.waits(server.stdout, LOOK_SECONDS) and not self.is_over():
                     self.looks()

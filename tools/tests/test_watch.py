@@ -185,11 +185,12 @@ class Command(unittest.TestCase):
 
 
 class Check(unittest.TestCase):
-    def checked(self, *options, **values):
+    def checked(self, *options, kinds=metrics.METRICS, **values):
         with tempfile.TemporaryDirectory() as folder:
             path = pathlib.Path(folder, "it.prom")
-            given = dict.fromkeys(metrics.METRICS, 0) | {"last_frame_timestamp_seconds": time.time() - 2} | values
-            path.write_text(metrics.as_text("nord", given), encoding="utf-8")
+            now = time.time() - 2
+            given = dict.fromkeys(kinds, 0) | {"last_frame_timestamp_seconds": now, "playout_written_timestamp_seconds": now, "playout_list_seconds": 5000} | values
+            path.write_text(metrics.as_text("nord", given, kinds), encoding="utf-8")
             status, out, err = running.run("check_drmcast.py", path, *options)
         self.assertEqual((out.count("\n"), err), (1, ""))
         self.assertEqual(out.split()[1], ("OK", "WARNING", "CRITICAL", "UNKNOWN")[status])
@@ -205,6 +206,11 @@ class Check(unittest.TestCase):
         self.assertEqual(self.checked(*limits, last_frame_timestamp_seconds=0), 2)
         self.assertEqual(self.checked(*limits, in_vain_seconds=70), 1)
         self.assertEqual(self.checked(*limits, in_vain_seconds=70, last_frame_timestamp_seconds=time.time() - 70), 2)
+
+    def test_a_playout(self):
+        for wanted, values in ((0, {}), (0, {"playout_due": 1, "playout_on_air": 1}), (2, {"playout_due": 1}), (1, {"playout_list_seconds": 3599}),
+                               (2, {"playout_written_timestamp_seconds": time.time() - 40})):
+            self.assertEqual(self.checked(kinds=metrics.PLAYOUT_METRICS, **values), wanted, values)
 
     def test_what_cannot_be_said(self):
         for words in (["/nowhere"], ["/dev/null"], [__file__], ["/"], [], [__file__, "--gap", "x"]):
