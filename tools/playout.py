@@ -269,7 +269,7 @@ class Playout:
 
     def run(self):
         """Sends one schedule after another; gives the status of the script."""
-        self.written.write(self.state())
+        self.looks()
         while True:
             status = self.play(self.entries[0])
             if len(self.entries) == 1 and not self.is_over() and self.file.changed():
