@@ -39,24 +39,19 @@ class Playout(stations.Station):
         for at, wanted in ((0, (0, 10_000)), (10_000, (0, 10_000)), (10_001, (1, 11_200)), (11_200, (1, 11_200)), (11_201, (2, 12_400))):
             self.assertEqual(playout.place(one, 400, at), wanted, at)
 
-    def test_each_begins_at_its_moment(self):
+    def test_each_begins_at_its_moment_and_takes_its_bytes(self):
         begin = playlists.now() + 2500
         lines = self.three(begin)
-        status, out, err = self.ran("--to", "127.0.0.1:9")
+        given = bytes(range(100))
+        status, out, err = self.ran("--to", "127.0.0.1:9", "--live", "0,1", given=given)
         self.assertEqual((status, err), (9, ""))
-        self.assertEqual([words for _, words in self.log()], [["serve", "--to", "127.0.0.1:9", "--pace", str(PACE), "--", name] for _, name in lines])
+        self.assertEqual([words for _, words in self.log()], [["serve", "--to", "127.0.0.1:9", "--pace", str(PACE), "--live", "0,1", "--", name] for _, name in lines])
         for (at, _), (due, _) in zip(self.log(), lines):
             self.assertGreaterEqual(at, due)
+        self.assertEqual(self.folder.joinpath("taken").read_bytes(), given[:3 * 12])
         said = [line.partition(" ")[2] for line in out.splitlines()]
         self.assertEqual(said[0], f"nothing is on air; a.plan begins at {playlists.moment(begin)}")
         self.assertEqual(said[-1], "the list has ended, and nothing is on air")
-
-    def test_live_streams_of_one_after_another(self):
-        lines = self.three(playlists.now() + 1000)
-        given = bytes(range(100))
-        self.assertEqual(self.ran("--to", "127.0.0.1:9", "--live", "0,1", given=given)[::2], (9, ""))
-        self.assertEqual([words for _, words in self.log()], [["serve", "--to", "127.0.0.1:9", "--pace", str(PACE), "--live", "0,1", "--", name] for _, name in lines])
-        self.assertEqual(self.folder.joinpath("taken").read_bytes(), given[:3 * 12])
 
     def test_it_goes_on_within_a_schedule(self):
         self.plan("a.plan", 0, 0, 1000)
