@@ -107,6 +107,11 @@ class Lines(Unit, unittest.TestCase):
             self.program(program, "#!/bin/sh\nexit 9\n")
             self.assertEqual(self.ran(name, TO="a", LIST="a", FROM="a", CARRY="a", AT="a")[0], 9, name)
 
+    def test_sections_that_they_name(self):
+        for path in UNITS.iterdir():
+            for section, document in re.findall(r'see "([^"]+)" in ([A-Z]+\.md)', path.read_text(encoding="ascii").replace("\n# ", " ")):
+                self.assertRegex(running.TOP.joinpath("docs", document).read_text(encoding="utf-8"), rf"(?m)^#+ {re.escape(section)}$", path.name)
+
     def test_a_schedule_that_began_is_not_begun_again(self):
         for name, restarts, kept in (("serve", "no", None), ("playout", "on-failure", "2 3 4 9"), ("live", "on-failure", "2 3 4 9")):
             text = self.unit(name)
