@@ -6,7 +6,7 @@
 A server, a gateway and a receiver go on while a route, an address or an interface is gone or a packet filter drops what is sent, for half
 a second or for more than a minute, and say on standard error when that began and when it ended; a modulator whose route comes late is
 served from then on, and one whose line is stuck keeps fifteen others from no moment; a single address that is wrong from the beginning
-ends the run at once. After a halt a server's frames go out at most four times as fast as the pace until they are on time; streams that
+ends the run at once. A group's address is sent to and received at where the kernel joins it (docs/OPERATION.md, "By multicast"). After a halt a server's frames go out at most four times as fast as the pace until they are on time; streams that
 don't block are waited for. What needs a network is tried in network namespaces of its own, which want root, `ip` and `tc` (iproute2) and
 `nft` (nftables), and is skipped where one of these isn't there. It takes about 90 seconds, most of them a network that is down for 66;
 --quick leaves that out. Status 1 where one of the trials fails.
@@ -36,6 +36,8 @@ FRAMES, PACE = 150, 20
 HERE, THERE = "10.77.0.1", "10.77.0.2"
 # a second address of the receiver's, to which no route leads at first
 LATE = "10.99.0.1"
+# groups of multicast
+GROUP, OTHER_GROUP = "239.1.2.3", "239.1.2.4"
 # the ends of a link of its own, which is stuck
 NEAR, STUCK = "10.78.0.1", "10.78.0.2"
 ROUTE = f"{THERE}/32"
@@ -55,7 +57,8 @@ SIDE_BY_SIDE = 4
 SECONDS_DOWN = 66
 REFUSED = re.compile(r"drmcast: (?P<at>[\d.:]+): refused since (?P<since>\d{4}-\d\d-\d\dT\d\d:\d\d:\d\dZ): (?P<reason>[^()]+) \(\d+\)")
 ACCEPTED = re.compile(r"drmcast: (?P<at>[\d.:]+): accepted again, (?P<lost>\d+) datagrams lost")
-CLONE_NEWNET = 0x40000000
+# what Linux has and Python's modules don't name
+CLONE_NEWNET, IP_RECVTTL = 0x40000000, 12
 NUMBERS = itertools.count()
 
 
@@ -331,6 +334,78 @@ def one_is_stuck(program, folder):
     return said + ([] if refused and all(it["at"] == f"{STUCK}:5000" for it in refused) else [f"standard error has {lines}"])
 
 
+def joins(net, name, device, group):
+    """Has the kernel of a namespace join a group, as docs/OPERATION.md says."""
+    net.runs(name, f"ip address add {group}/32 dev {device} autojoin")
+
+
+def goes_to_a_group(program, folder, gateway=False):
+    """A group's address is received at, and sent to over a route, with a gateway between two groups too; the membership survives that the interface is down."""
+    receives = [program, "receive", f"{OTHER_GROUP if gateway else GROUP}:5000", "--first", "0", "--frames", str(FRAMES), "--idle", "50"]
+    with Network() as net, contextlib.ExitStack() as runs:
+        net.runs(net.here, "ip route add 239.0.0.0/8 dev here")
+        net.runs(net.there, "ip route add 239.0.0.0/8 dev there")
+        joins(net, net.there, "there", GROUP)
+        at = net.there
+        if gateway:
+            joins(net, net.here, "here", OTHER_GROUP)
+            gate = runs.enter_context(net.starts(net.there, program, "gate", f"{GROUP}:5000", f"{OTHER_GROUP}:5000", "pft:1:1400",
+                                                 "--first", "0", "--frames", str(FRAMES), "--idle", "50"))
+            waits_for_socket(gate)
+            at = net.here
+        modulator = runs.enter_context(net.starts(at, *receives))
+        waits_for_socket(modulator)
+        server = runs.enter_context(net.starts(net.here, *serves(program, plan_of(folder), f"{GROUP}:5000")))
+        if gateway:
+            whole = modulator.stdout.read()
+            said = [] if f"end frames given {FRAMES} missing 0 bad 0 refused 0" in whole else [f"{whole.splitlines()[-1:]}"]
+        else:
+            seen = list(itertools.islice(modulator.stdout, 20))
+            for state in ("down", "up"):
+                net.runs(net.there, f"ip link set there {state}")
+                time.sleep(0.3)
+            said = complaints_of("".join([*seen, *modulator.stdout]))
+        return said + ([f"status {server.returncode}"] if server.wait(30) else [])
+
+
+def hears_no_group(program, folder):
+    """Without membership a receiver has no frame and status 0; a second receiver of one group and port on one host is a link fault."""
+    receives = [program, "receive", f"{GROUP}:5000", "--first", "0"]
+    with Network() as net, contextlib.ExitStack() as runs:
+        net.runs(net.here, "ip route add 239.0.0.0/8 dev here")
+        first = runs.enter_context(net.starts(net.there, *receives, "--idle", "20"))
+        waits_for_socket(first)
+        second = runs.enter_context(net.starts(net.there, *receives))
+        said = [f"the second one: status {second.returncode}"] if second.wait(30) != 6 else []
+        lines = second.stderr.read()
+        said += [] if lines == f"drmcast: link fault\ndrmcast: {GROUP}:5000: Address already in use (98)\n" else [lines]
+        server = runs.enter_context(net.starts(net.here, *serves(program, plan_of(folder, 30), f"{GROUP}:5000")))
+        text = first.stdout.read()
+        said += [] if text.endswith("end idle given 0 missing 0 bad 0 refused 0\n") else [text]
+        return said + [f"status {run.returncode}" for run in (first, server) if run.wait(30)]
+
+
+def has_time_to_live(program, folder):
+    """What goes to a group has a time to live of 1, and of 16 by a packet filter."""
+    chain = "add table ip drmcast; add chain ip drmcast out { type filter hook output priority mangle; }; add rule ip drmcast out ip daddr 239.0.0.0/8 ip ttl set 16"
+    said = []
+    with Network() as net:
+        net.runs(net.here, "ip route add 239.0.0.0/8 dev here")
+        joins(net, net.there, "there", GROUP)
+        [into] = sockets_in(net.there, [(GROUP, 5000)])
+        with into:
+            into.settimeout(10)
+            into.setsockopt(socket.IPPROTO_IP, IP_RECVTTL, 1)
+            for wanted in (1, 16):
+                with net.starts(net.here, *serves(program, plan_of(folder, 3), f"{GROUP}:5000")):
+                    _, about, _, _ = into.recvmsg(65_536, 1024)
+                lives = [int.from_bytes(data[:4], sys.byteorder) for _, kind, data in about if kind == socket.IP_TTL]
+                said += [] if lives == [wanted] else [f"a time to live of {lives}, not {wanted}"]
+                if wanted == 1:
+                    net.runs(net.here, ["nft", chain])
+    return said
+
+
 def catches_up(program, folder):
     """After a halt of two seconds frames go out at most four times as fast as the pace, and are on time in the end."""
     millis, frames = 40, 150
@@ -412,6 +487,10 @@ def trials(program, quick):
     yield "serve, a route that comes late", network(route_comes_late)
     yield "serve, away for three seconds", network(tells_the_end)
     yield "serve, one of sixteen links is stuck", network(one_is_stuck)
+    yield "multicast, the interface is down", network(goes_to_a_group)
+    yield "multicast, a gateway", network(goes_to_a_group, gateway=True)
+    yield "multicast, no membership", network(hears_no_group)
+    yield "multicast, the time to live", network(has_time_to_live)
     if not quick:
         yield f"gate, down for {SECONDS_DOWN} seconds", network(is_down_for_long)
     yield "serve, a halt", lambda folder: catches_up(program, folder)

@@ -1,63 +1,63 @@
 //! The commands as a person sees them: the plain words and the options of each.
 
-use crate::value::{Value, Word};
+use crate::value::{Argument, Value};
 
 /// The plain words of a command, and its options.
 #[derive(Clone, Copy, Drop)]
 pub struct Command {
     pub name: &'static str,
-    pub words: &'static [Word],
+    pub words: &'static [Argument],
     /// Whether the command reads a capture, a FAC or units from standard input.
     pub reads_input: bool,
-    pub options: &'static [Word],
+    pub options: &'static [Argument],
 }
 
-const NAME: Word = Word {
+const NAME: Argument = Argument {
     name: "NAME",
     value: Value::Name,
 };
 
-const SCRIPT: Word = Word {
+const SCRIPT: Argument = Argument {
     name: "SCRIPT",
     value: Value::Name,
 };
 
-const FROM: Word = Word {
+const FROM: Argument = Argument {
     name: "FROM",
     value: Value::Address,
 };
 
-const ADDRESS: Word = Word {
+const ADDRESS: Argument = Argument {
     name: "ADDR",
     value: Value::Address,
 };
 
-const ADDRESSES: Word = Word {
+const ADDRESSES: Argument = Argument {
     name: "ADDRS",
     value: Value::Addresses { least: 1, most: 16 },
 };
 
-const SEVERAL: Word = Word {
+const SEVERAL: Argument = Argument {
     name: "ADDRS",
     value: Value::Addresses { least: 2, most: 4 },
 };
 
-const TO: Word = Word {
+const TO: Argument = Argument {
     name: "to",
     value: Value::Addresses { least: 1, most: 16 },
 };
 
-const CARRY: Word = Word {
+const CARRY: Argument = Argument {
     name: "CARRY",
     value: Value::Carry,
 };
 
-const LIVE: Word = Word {
+const LIVE: Argument = Argument {
     name: "live",
     value: Value::Streams,
 };
 
-const PACE: Word = Word {
+const PACE: Argument = Argument {
     name: "pace",
     value: Value::Number {
         least: 0,
@@ -65,7 +65,7 @@ const PACE: Word = Word {
     },
 };
 
-const FROM_FRAME: Word = Word {
+const FROM_FRAME: Argument = Argument {
     name: "from",
     value: Value::Number {
         least: 0,
@@ -73,17 +73,17 @@ const FROM_FRAME: Word = Word {
     },
 };
 
-const STREAM: Word = Word {
+const STREAM: Argument = Argument {
     name: "STREAM",
     value: Value::Number { least: 0, most: 3 },
 };
 
-const PID: Word = Word {
+const PID: Argument = Argument {
     name: "PID",
     value: Value::Number { least: 0, most: 3 },
 };
 
-const LENGTH: Word = Word {
+const LENGTH: Argument = Argument {
     name: "LENGTH",
     value: Value::Number {
         least: 1,
@@ -91,7 +91,7 @@ const LENGTH: Word = Word {
     },
 };
 
-const SIZE: Word = Word {
+const SIZE: Argument = Argument {
     name: "N",
     value: Value::Number {
         least: 1,
@@ -99,12 +99,12 @@ const SIZE: Word = Word {
     },
 };
 
-const WINDOW: Word = Word {
+const WINDOW: Argument = Argument {
     name: "window",
     value: Value::Number { least: 1, most: 64 },
 };
 
-const REACH: Word = Word {
+const REACH: Argument = Argument {
     name: "reach",
     value: Value::Number {
         least: 1,
@@ -112,7 +112,7 @@ const REACH: Word = Word {
     },
 };
 
-const FIRST: Word = Word {
+const FIRST: Argument = Argument {
     name: "first",
     value: Value::Number {
         least: 0,
@@ -120,7 +120,7 @@ const FIRST: Word = Word {
     },
 };
 
-const FRAMES: Word = Word {
+const FRAMES: Argument = Argument {
     name: "frames",
     value: Value::Number {
         least: 1,
@@ -128,7 +128,7 @@ const FRAMES: Word = Word {
     },
 };
 
-const IDLE: Word = Word {
+const IDLE: Argument = Argument {
     name: "idle",
     value: Value::Number {
         least: 1,
@@ -136,7 +136,7 @@ const IDLE: Word = Word {
     },
 };
 
-const LIMIT: Word = Word {
+const LIMIT: Argument = Argument {
     name: "limit",
     value: Value::Number {
         least: 1,
@@ -144,7 +144,7 @@ const LIMIT: Word = Word {
     },
 };
 
-const PATHS_LIMIT: Word = Word {
+const PATHS_LIMIT: Argument = Argument {
     name: "limit",
     value: Value::Number {
         least: 1,
@@ -152,9 +152,9 @@ const PATHS_LIMIT: Word = Word {
     },
 };
 
-const PACKETS: &[Word] = &[WINDOW, REACH, FIRST, FRAMES];
+const PACKETS: &[Argument] = &[WINDOW, REACH, FIRST, FRAMES];
 
-const READING: &[Word] = &[WINDOW, REACH, FIRST, FRAMES, IDLE, LIMIT];
+const READING: &[Argument] = &[WINDOW, REACH, FIRST, FRAMES, IDLE, LIMIT];
 
 /// The commands of `drmcast`.
 pub const COMMANDS: &[Command] = &[

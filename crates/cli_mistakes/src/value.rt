@@ -48,7 +48,7 @@ impl Display for Value {
 
 /// What stands in one place, and what it is called.
 #[derive(Clone, Copy, Drop)]
-pub struct Word {
+pub struct Argument {
     pub name: &'static str,
     pub value: Value,
 }

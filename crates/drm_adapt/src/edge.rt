@@ -1,7 +1,7 @@
 //! What a program says to a person, beside what `run` writes.
 
 use crate::names::readable;
-use crate::refusals::Standing;
+use crate::refusals::Acceptance;
 use jiff::Timestamp;
 use std::alloc::Global;
 use std::fmt::Display;
@@ -76,12 +76,12 @@ impl<R: Eprint> Edge<'_, R> {
     }
 
     /// Writes how the sends to an address stand, of which so many datagrams are lost.
-    pub(crate) fn say_standing(&self, dest: SocketAddr, standing: Standing, lost: u64) {
-        match standing {
-            Standing::Accepted => {
+    pub(crate) fn say_acceptance(&self, dest: SocketAddr, acceptance: Acceptance, lost: u64) {
+        match acceptance {
+            Acceptance::Accepted => {
                 self.say(dest, format_args!("accepted again, {lost} datagrams lost"));
             }
-            Standing::Refused { since, reason } => {
+            Acceptance::Refused { since, reason } => {
                 if let Ok(reason) = self.reason(reason) {
                     self.say_refused(dest, since, &reason);
                 }

@@ -11,7 +11,7 @@ const SECONDS_BETWEEN_LINES: u64 = 10;
 
 /// How the sends of a link stand.
 #[derive(Clone, Copy, Drop)]
-pub(crate) enum Standing {
+pub(crate) enum Acceptance {
     /// The last one was taken, or none was made.
     Accepted,
     /// The last one wasn't.
@@ -25,7 +25,7 @@ pub(crate) enum Standing {
 /// How the sends of a link have gone, and what a person was told.
 #[derive(Clone, Copy, Drop)]
 pub(crate) struct Sends {
-    standing: Standing,
+    acceptance: Acceptance,
     /// Whether one has succeeded.
     has_succeeded: bool,
     /// Datagrams that were refused since the last line that said that they are accepted.
@@ -39,7 +39,7 @@ pub(crate) struct Sends {
 impl Sends {
     pub(crate) fn new() -> Self {
         Sends {
-            standing: Standing::Accepted,
+            acceptance: Acceptance::Accepted,
             has_succeeded: false,
             lost: 0,
             is_news: false,
@@ -48,7 +48,7 @@ impl Sends {
     }
 
     pub(crate) fn is_refused(&self) -> bool {
-        matches!(self.standing, Standing::Refused { .. })
+        matches!(self.acceptance, Acceptance::Refused { .. })
     }
 
     /// Datagrams that were refused since the last line that said that they are accepted.
@@ -79,7 +79,7 @@ impl Sends {
     fn accepts(&mut self) {
         self.has_succeeded = true;
         if self.is_refused() {
-            self.standing = Standing::Accepted;
+            self.acceptance = Acceptance::Accepted;
             self.is_news = true;
         }
     }
@@ -88,24 +88,24 @@ impl Sends {
         self.lost = self.lost.saturating_add(1);
         if !self.is_refused() {
             let since = SystemTime::now(clock).ok();
-            self.standing = Standing::Refused { since, reason };
+            self.acceptance = Acceptance::Refused { since, reason };
             self.is_news = true;
         }
     }
 
     /// What a person is to be told now, if anything.
-    pub(crate) fn news<R: Clock>(&self, clock: &R) -> Option<Standing> {
+    pub(crate) fn news<R: Clock>(&self, clock: &R) -> Option<Acceptance> {
         if self.is_news && self.is_due(clock) {
-            Some(self.standing)
+            Some(self.acceptance)
         } else {
             None
         }
     }
 
     /// What a person hasn't been told yet, however short ago the last line was.
-    pub(crate) fn last_news(&self) -> Option<Standing> {
+    pub(crate) fn last_news(&self) -> Option<Acceptance> {
         if self.is_news {
-            Some(self.standing)
+            Some(self.acceptance)
         } else {
             None
         }

@@ -4,7 +4,7 @@ ghost use Rattle.std.specs.Prelude.{◌≡◌, ◌≤◌, None, IfOk, length};
 
 use crate::Edge;
 use crate::pace::Pace;
-use crate::refusals::{Sends, Standing, is_network_away};
+use crate::refusals::{Acceptance, Sends, is_network_away};
 use drm_links::{Came, Link, Sent};
 use std::io::{self, Eprint, ErrorKind};
 use std::net::{SocketAddr, UdpSocket};
@@ -113,12 +113,13 @@ impl<'a, R: Clock + Eprint> UdpLink<'a, R> {
     }
 
     // Writes how the sends stand, where that is news.
-    fn tell(&mut self, dest: SocketAddr, news: Option<Standing>)
+    fn tell(&mut self, dest: SocketAddr, news: Option<Acceptance>)
         ensures faults { (self.new).faults ≡ (self.old).faults }
         ensures idles { (self.new).idles ≡ (self.old).idles }
     {
-        if let Some(standing) = news {
-            self.edge.say_standing(dest, standing, self.sends.lost());
+        if let Some(acceptance) = news {
+            self.edge
+                .say_acceptance(dest, acceptance, self.sends.lost());
             self.sends.are_told(self.edge.system);
         }
     }
