@@ -1,63 +1,63 @@
 //! The commands as a person sees them: the plain words and the options of each.
 
-use crate::value::{Argument, Value};
+use crate::value::{Allowed, Value};
 
 /// The plain words of a command, and its options.
 #[derive(Clone, Copy, Drop)]
 pub struct Command {
     pub name: &'static str,
-    pub words: &'static [Argument],
+    pub words: &'static [Allowed],
     /// Whether the command reads a capture, a FAC or units from standard input.
     pub reads_input: bool,
-    pub options: &'static [Argument],
+    pub options: &'static [Allowed],
 }
 
-const NAME: Argument = Argument {
+const NAME: Allowed = Allowed {
     name: "NAME",
     value: Value::Name,
 };
 
-const SCRIPT: Argument = Argument {
+const SCRIPT: Allowed = Allowed {
     name: "SCRIPT",
     value: Value::Name,
 };
 
-const FROM: Argument = Argument {
+const FROM: Allowed = Allowed {
     name: "FROM",
     value: Value::Address,
 };
 
-const ADDRESS: Argument = Argument {
+const ADDRESS: Allowed = Allowed {
     name: "ADDR",
     value: Value::Address,
 };
 
-const ADDRESSES: Argument = Argument {
+const ADDRESSES: Allowed = Allowed {
     name: "ADDRS",
     value: Value::Addresses { least: 1, most: 16 },
 };
 
-const SEVERAL: Argument = Argument {
+const SEVERAL: Allowed = Allowed {
     name: "ADDRS",
     value: Value::Addresses { least: 2, most: 4 },
 };
 
-const TO: Argument = Argument {
+const TO: Allowed = Allowed {
     name: "to",
     value: Value::Addresses { least: 1, most: 16 },
 };
 
-const CARRY: Argument = Argument {
+const CARRY: Allowed = Allowed {
     name: "CARRY",
     value: Value::Carry,
 };
 
-const LIVE: Argument = Argument {
+const LIVE: Allowed = Allowed {
     name: "live",
     value: Value::Streams,
 };
 
-const PACE: Argument = Argument {
+const PACE: Allowed = Allowed {
     name: "pace",
     value: Value::Number {
         least: 0,
@@ -65,7 +65,7 @@ const PACE: Argument = Argument {
     },
 };
 
-const FROM_FRAME: Argument = Argument {
+const FROM_FRAME: Allowed = Allowed {
     name: "from",
     value: Value::Number {
         least: 0,
@@ -73,17 +73,17 @@ const FROM_FRAME: Argument = Argument {
     },
 };
 
-const STREAM: Argument = Argument {
+const STREAM: Allowed = Allowed {
     name: "STREAM",
     value: Value::Number { least: 0, most: 3 },
 };
 
-const PID: Argument = Argument {
+const PID: Allowed = Allowed {
     name: "PID",
     value: Value::Number { least: 0, most: 3 },
 };
 
-const LENGTH: Argument = Argument {
+const LENGTH: Allowed = Allowed {
     name: "LENGTH",
     value: Value::Number {
         least: 1,
@@ -91,7 +91,7 @@ const LENGTH: Argument = Argument {
     },
 };
 
-const SIZE: Argument = Argument {
+const SIZE: Allowed = Allowed {
     name: "N",
     value: Value::Number {
         least: 1,
@@ -99,12 +99,12 @@ const SIZE: Argument = Argument {
     },
 };
 
-const WINDOW: Argument = Argument {
+const WINDOW: Allowed = Allowed {
     name: "window",
     value: Value::Number { least: 1, most: 64 },
 };
 
-const REACH: Argument = Argument {
+const REACH: Allowed = Allowed {
     name: "reach",
     value: Value::Number {
         least: 1,
@@ -112,7 +112,7 @@ const REACH: Argument = Argument {
     },
 };
 
-const FIRST: Argument = Argument {
+const FIRST: Allowed = Allowed {
     name: "first",
     value: Value::Number {
         least: 0,
@@ -120,7 +120,7 @@ const FIRST: Argument = Argument {
     },
 };
 
-const FRAMES: Argument = Argument {
+const FRAMES: Allowed = Allowed {
     name: "frames",
     value: Value::Number {
         least: 1,
@@ -128,7 +128,7 @@ const FRAMES: Argument = Argument {
     },
 };
 
-const IDLE: Argument = Argument {
+const IDLE: Allowed = Allowed {
     name: "idle",
     value: Value::Number {
         least: 1,
@@ -136,7 +136,7 @@ const IDLE: Argument = Argument {
     },
 };
 
-const LIMIT: Argument = Argument {
+const LIMIT: Allowed = Allowed {
     name: "limit",
     value: Value::Number {
         least: 1,
@@ -144,7 +144,7 @@ const LIMIT: Argument = Argument {
     },
 };
 
-const PATHS_LIMIT: Argument = Argument {
+const PATHS_LIMIT: Allowed = Allowed {
     name: "limit",
     value: Value::Number {
         least: 1,
@@ -152,9 +152,9 @@ const PATHS_LIMIT: Argument = Argument {
     },
 };
 
-const PACKETS: &[Argument] = &[WINDOW, REACH, FIRST, FRAMES];
+const PACKETS: &[Allowed] = &[WINDOW, REACH, FIRST, FRAMES];
 
-const READING: &[Argument] = &[WINDOW, REACH, FIRST, FRAMES, IDLE, LIMIT];
+const READING: &[Allowed] = &[WINDOW, REACH, FIRST, FRAMES, IDLE, LIMIT];
 
 /// The commands of `drmcast`.
 pub const COMMANDS: &[Command] = &[

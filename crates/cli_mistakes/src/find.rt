@@ -2,7 +2,7 @@
 
 use crate::commands::{COMMANDS, Command, PATHS};
 use crate::mistake::{Expected, Mistake};
-use crate::value::{Argument, Value};
+use crate::value::{Allowed, Value};
 use cli_syntax::{
     Named, WordsFault, address, carry, read_addresses, read_arguments, read_live, within,
 };
@@ -154,7 +154,7 @@ fn beyond(command: Command, text: &str) -> Expected<'_> {
 }
 
 // What could stand in the place of a text that is no such word.
-fn another<'a>(command: Command, word: Argument, text: &'a str, given: &[&'a str]) -> Expected<'a> {
+fn another<'a>(command: Command, word: Allowed, text: &'a str, given: &[&'a str]) -> Expected<'a> {
     match (word.value, given) {
         (Value::Carry, [.., "pft", m, mtu]) => Expected::Pft { m, mtu },
         (Value::Address | Value::Addresses { .. }, [_]) if command.reads_input => {

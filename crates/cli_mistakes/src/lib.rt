@@ -19,4 +19,4 @@ mod value;
 pub use commands::{COMMANDS, Command, PATHS};
 pub use find::{paths_mistake, words_mistake};
 pub use mistake::{Expected, Mistake};
-pub use value::{Argument, Value};
+pub use value::{Allowed, Value};

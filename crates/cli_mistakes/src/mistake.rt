@@ -1,7 +1,7 @@
 //! A mistake in words, and how it is said.
 
 use crate::commands::{COMMANDS, Command};
-use crate::value::Argument;
+use crate::value::Allowed;
 use std::fmt::{self, Display, Formatter};
 
 /// The word that has no place, or the last one before the place in which one is missing, and what could stand there. It is
@@ -24,11 +24,11 @@ pub enum Expected<'a> {
     /// A command.
     Command,
     /// This plain word, which is missing.
-    Missing { word: Argument },
+    Missing { word: Allowed },
     /// Another word for this one.
-    Value { word: Argument },
+    Value { word: Allowed },
     /// Another value of this option.
-    OptionValue { option: Argument },
+    OptionValue { option: Allowed },
     /// Another option, or none.
     Option { of: Command },
     /// A value behind the option.
@@ -40,7 +40,7 @@ pub enum Expected<'a> {
     /// No plain word; what it names comes on standard input.
     Input { of: Command, file: &'a str },
     /// An address, or no plain word; what it names comes on standard input.
-    AddressOrInput { word: Argument, file: &'a str },
+    AddressOrInput { word: Allowed, file: &'a str },
     /// Three words as one.
     Pft { m: &'a str, mtu: &'a str },
 }

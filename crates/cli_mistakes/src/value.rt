@@ -48,7 +48,7 @@ impl Display for Value {
 
 /// What stands in one place, and what it is called.
 #[derive(Clone, Copy, Drop)]
-pub struct Argument {
+pub struct Allowed {
     pub name: &'static str,
     pub value: Value,
 }
