@@ -212,7 +212,11 @@ def fillers(size, byte_value, name):
 
 def named_schedules(parser, options):
     """The schedules that the command line names, each with its name, as `drmcast check` reads them; a refusal ends the script."""
-    names = options.schedule + [name for _, _, name in (playlists.named(options.list) if options.list else ())]
+    try:
+        names = options.schedule + [name for _, _, name in (playlists.named(options.list) if options.list else ())]
+    except playlists.Wrong as fault:
+        command_line.complain(f"{options.list}: {fault}")
+        sys.exit(fault.status)
     try:
         program = command_line.program(options.program) if names else ""
     except argparse.ArgumentTypeError as fault:

@@ -19,7 +19,7 @@ started within a schedule, or a server fails, it goes on at the next super frame
 of these streams from standard input, and none takes more than its frames need. When that ends the schedules' own content goes out. With
 --interleaved, if it comes from `interleave.py`, the playout ends instead, and a live stream that changes its size is refused.
 
-When the list has changed it is read again, and taken if what is on air, or waited for, stands in it as it was; so lines can be added. An hour
+When the list has changed and stands still it is read again, and taken if what is on air, or waited for, stands in it as it was; so lines can be added. An hour
 and ten minutes before the list ends it says so. --metrics writes what it does to a file each five seconds, in the text format of Prometheus:
 whether something is due and is on air, the super frame, the seconds to the end of the list, servers that failed, and changes of the list that were
 taken and refused.
@@ -93,7 +93,7 @@ class ListFile:
 
     def __init__(self, options):
         self.options = options
-        self.seen = self.mark()
+        self.looked = self.seen = self.mark()
 
     def mark(self):
         """What tells one state of the file from another."""
@@ -102,10 +102,13 @@ class ListFile:
             return state.st_mtime_ns, state.st_size, state.st_ino
         return None
 
-    def changed(self):
-        """Whether it has changed since this was asked."""
-        before, self.seen = self.seen, self.mark()
-        return self.seen is not None and self.seen != before
+    def changed(self, still=True):
+        """Whether it has changed, and has stood still since this was asked before; so it isn't read while it is written."""
+        before, self.looked = self.looked, self.mark()
+        if self.looked in (None, self.seen) or still and self.looked != before:
+            return False
+        self.seen = self.looked
+        return True
 
     def read(self):
         return playlists.read(self.options.list, self.options.program, self.options.pace, self.options.live, self.options.interleaved)
@@ -127,10 +130,9 @@ class Playout:
     nobody sets, from which the next schedule may begin; None if none was played to its end just before, so that the moment of the day alone
     says where to begin."""
 
-    def __init__(self, options, entries, stop):
-        self.options, self.entries, self.stop = options, entries, stop
-        self.file = ListFile(options)
-        self.written = metrics.Metrics(options.metrics, options.link, metrics.PLAYOUT_METRICS)
+    def __init__(self, file, entries, stop):
+        self.file, self.options, self.entries, self.stop = file, file.options, entries, stop
+        self.written = metrics.Metrics(self.options.metrics, self.options.link, metrics.PLAYOUT_METRICS)
         self.free = None
         self.on_air = self.unfed = False
         self.failures = self.taken = self.refused = 0
@@ -272,7 +274,7 @@ class Playout:
         self.looks()
         while True:
             status = self.play(self.entries[0])
-            if len(self.entries) == 1 and not self.is_over() and self.file.changed():
+            if len(self.entries) == 1 and not self.is_over() and self.file.changed(still=False):
                 self.takes_change()
             if status or self.is_over() or len(self.entries) == 1:
                 break
@@ -305,8 +307,9 @@ def arguments_of(words):
 
 def main():
     options = arguments_of(sys.argv[1:])
+    file = ListFile(options)
     try:
-        entries, warnings = ListFile(options).read()
+        entries, warnings = file.read()
     except playlists.Wrong as fault:
         for text in fault.texts:
             command_line.complain(text)
@@ -320,7 +323,7 @@ def main():
         return LIST_ENDED
     if options.to is None:
         return 0
-    return Playout(options, entries, command_line.Stop()).run()
+    return Playout(file, entries, command_line.Stop()).run()
 
 
 if __name__ == "__main__":

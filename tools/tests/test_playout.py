@@ -106,8 +106,8 @@ class Playout(stations.Station):
         """A playout of this list by itself, whose servers nobody starts."""
         self.list(*begin)
         options = playout.arguments_of([str(self.folder / "it.list"), "--to", "127.0.0.1:9", "--pace", str(PACE), "--program", str(self.program)])
-        entries, _ = playout.ListFile(options).read()
-        return playout.Playout(options, entries, None)
+        file = playout.ListFile(options)
+        return playout.Playout(file, file.read()[0], None)
 
     def test_an_hour_and_ten_minutes_ahead(self):
         said, playout_say = [], playout.say
@@ -139,13 +139,19 @@ class Playout(stations.Station):
         one = self.playing([(begin, "a.plan")])
         for lines, taken, refused, left in (([(begin, "a.plan")], 0, 0, 1), ([(begin, "a.plan"), (begin + 120_000, "b.plan")], 1, 0, 2),
                                             ([(begin, "a.plan"), (begin + 120_001, "b.plan")], 1, 1, 2), ([(begin + 120_000, "b.plan")], 1, 2, 2),
-                                            (["# now", (begin, "a.plan")], 2, 2, 1)):
+                                            (["nothing"], 1, 3, 2), (["# now", (begin, "a.plan")], 2, 3, 1)):
             self.list(*lines)
+            if lines == ["nothing"]:
+                self.folder.joinpath("it.list").write_bytes(b"\xff")
+            before = one.taken, one.refused
+            one.due = 0.0
+            one.looks()
+            self.assertEqual((one.taken, one.refused), before, "it is read once it stands still")
             one.due = 0.0
             one.looks()
             self.assertEqual((one.taken, one.refused, len(one.entries)), (taken, refused, left), lines)
         self.assertEqual([text.partition(",")[0].partition(";")[0] for text in said if "change" in text],
-                         ["the list has changed", *["the changed list is refused"] * 2, "the list has changed"])
+                         ["the list has changed", *["the changed list is refused"] * 3, "the list has changed"])
         self.assertRegex(complained[0], "it.list line 2: a gap of 0.001 s: a.plan ends at [^ ]+, and b.plan begins at")
         self.assertRegex(complained[1], "it.list a.plan of [^ ]+ isn't in it as it was")
 
