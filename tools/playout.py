@@ -257,15 +257,18 @@ class Playout:
             status = self.serve(one, later)
             if status is None:
                 return 0
-            if status in PLAYED:
-                self.free = due + FRAMES * (one.super_frames - later) * pace / 1000
+            end = due + FRAMES * (one.super_frames - later) * pace / 1000
+            if status not in PLAYED:
+                self.failures += 1
+                command_line.complain(f"drmcast serve of {one.name} ended with status {status}")
+            if status in FOR_GOOD:
+                return status
+            # One of several links may have failed; the others have the last frame by now.
+            if status in PLAYED or time.monotonic() > end - 1.5 * pace / 1000:
+                self.free = end
                 if time.monotonic() > self.free - pace / 2000:
                     self.free = time.monotonic() + pace / 1000
                 return 0
-            self.failures += 1
-            command_line.complain(f"drmcast serve of {one.name} ended with status {status}")
-            if status in FOR_GOOD:
-                return status
             self.free = None
             self.waits(None, RETRY_SECONDS)
 

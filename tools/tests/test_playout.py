@@ -43,8 +43,10 @@ class Playout(stations.Station):
         begin = playlists.now() + 2500
         lines = self.three(begin)
         given = bytes(range(100))
+        # The first one's link failed, but it was served to its end.
+        self.folder.joinpath("ending").write_text("6", encoding="ascii")
         status, out, err = self.ran("--to", "127.0.0.1:9", "--live", "0,1", given=given)
-        self.assertEqual((status, err), (9, ""))
+        self.assertEqual((status, err), (9, "playout.py: drmcast serve of a.plan ended with status 6\n"))
         self.assertEqual([words for _, words in self.log()], [["serve", "--to", "127.0.0.1:9", "--pace", str(PACE), "--live", "0,1", "--", name] for _, name in lines])
         for (at, _), (due, _) in zip(self.log(), lines):
             self.assertGreaterEqual(at, due)
