@@ -15,7 +15,8 @@ live stream that a schedule doesn't have. The words of the servers are tried, to
 and a live stream that changes its size.
 
 `drmcast serve` is run for each schedule, with one pace between the last frame of one and the first of the next. If the playout is
-started within a schedule, or a server fails, it goes on at the next super frame. With --live one server after another takes the bytes
+started within a schedule, or a server fails, it goes on at the next super frame; a failure that lasts is said once, and that it is over.
+With --live one server after another takes the bytes
 of these streams from standard input, and none takes more than its frames need. When that ends the schedules' own content goes out. With
 --interleaved, if it comes from `interleave.py`, the playout ends instead, and a live stream that changes its size is refused.
 
@@ -136,6 +137,8 @@ class Playout:
         self.free = None
         self.on_air = self.unfed = False
         self.failures = self.taken = self.refused = 0
+        # What the last server said before it failed, with its status, and what the one at work has said.
+        self.fault, self.heard = None, b""
         self.said_end = (0, 0)
         self.due = time.monotonic()
 
@@ -143,17 +146,49 @@ class Playout:
         return self.stop.asked or self.unfed
 
     def waits(self, server, seconds):
-        """Waits so long at most for a server's end (None: for none), a stop, or the end of what feeds it; gives whether the server ended."""
+        """Waits so long at most for a server's end (None: for none) or its words, a stop, or the end of what feeds it; gives whether the server
+        ended."""
         poll = select.poll()
         poll.register(self.stop.readable, select.POLLIN)
         if server is not None:
-            poll.register(server, select.POLLIN)
+            poll.register(server.stdout, select.POLLIN)
+            poll.register(server.stderr, select.POLLIN)
         if self.options.interleaved:
             # Of the input it is only asked whether it has lost its writers.
             poll.register(sys.stdin.fileno(), 0)
         ready = [descriptor for descriptor, _ in poll.poll(max(0.0, seconds) * 1000)]
         self.unfed = self.options.interleaved and sys.stdin.fileno() in ready
-        return server is not None and server.fileno() in ready
+        if server is not None and server.stderr.fileno() in ready:
+            self.hears(os.read(server.stderr.fileno(), 1 << 16))
+        return server is not None and server.stdout.fileno() in ready
+
+    def hears(self, said):
+        """Passes on what a server says, unless the one before it failed: then only what is new is said, at its end."""
+        self.heard += said
+        if self.fault is None:
+            self.passes_on(said)
+
+    def passes_on(self, said):
+        with contextlib.suppress(OSError):
+            sys.stderr.buffer.write(said)
+            sys.stderr.buffer.flush()
+
+    def tells_failure(self, one, status):
+        """Says that a server failed, and why; not again each second if the next one fails in the same way."""
+        self.failures += 1
+        before, self.fault = self.fault, (status, self.heard)
+        if self.fault != before:
+            if before is not None:
+                self.passes_on(self.heard)
+            again = "" if status in FOR_GOOD else "; one is begun each second, until one is on air again"
+            command_line.complain(f"drmcast serve of {one.name} ended with status {status}{again}")
+
+    def recovers(self, one):
+        """Says that a server is on air after one that failed."""
+        if self.fault is not None:
+            self.fault = None
+            self.passes_on(self.heard)
+            say(f"on air again: {one.name}")
 
     def end(self):
         return following(self.entries[-1], self.options.pace)[0]
@@ -222,18 +257,23 @@ class Playout:
     def serve(self, one, later):
         """Runs the server from this super frame on; gives its status, or None if it is over before."""
         words = server_words(self.options, one.name, later)
+        began, self.heard = time.monotonic(), b""
         # It writes nothing to its output, which ends with it.
-        with subprocess.Popen(words, stdin=None if self.options.live else subprocess.DEVNULL, stdout=subprocess.PIPE) as server:
-            say(f"begins: {one.name}, super frame {later} of {one.super_frames}, until {moment(following(one, self.options.pace)[0])}")
+        with subprocess.Popen(words, stdin=None if self.options.live else subprocess.DEVNULL, stdout=subprocess.PIPE, stderr=subprocess.PIPE) as server:
+            if self.fault is None:
+                say(f"begins: {one.name}, super frame {later} of {one.super_frames}, until {moment(following(one, self.options.pace)[0])}")
             self.on_air = True
             self.written.write(self.state())
             try:
-                while not self.waits(server.stdout, LOOK_SECONDS) and not self.is_over():
+                while not self.waits(server, LOOK_SECONDS) and not self.is_over():
                     self.looks()
+                    if time.monotonic() - began > LOOK_SECONDS:
+                        self.recovers(one)
             finally:
                 self.on_air = False
                 if self.is_over() or sys.exc_info()[0] is not None:
                     server.terminate()
+            self.hears(server.stderr.read())
         return None if self.is_over() else command_line.status_of(server)
 
     def begin(self, one):
@@ -258,14 +298,15 @@ class Playout:
             if status is None:
                 return 0
             end = due + FRAMES * (one.super_frames - later) * pace / 1000
-            if status not in PLAYED:
-                self.failures += 1
-                command_line.complain(f"drmcast serve of {one.name} ended with status {status}")
+            if status in PLAYED:
+                self.recovers(one)
+            else:
+                self.tells_failure(one, status)
             if status in FOR_GOOD:
                 return status
             # One of several links may have failed; the others have the last frame by now.
             if status in PLAYED or time.monotonic() > end - 1.5 * pace / 1000:
-                self.free = end
+                self.fault, self.free = None, end
                 if time.monotonic() > self.free - pace / 2000:
                     self.free = time.monotonic() + pace / 1000
                 return 0

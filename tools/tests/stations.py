@@ -36,6 +36,7 @@ fails() {
     if [ -e "{folder}/$1" ]; then
         status=$(cat "{folder}/$1")
         rm "{folder}/$1"
+        echo "drmcast: link fault" >&2
         exit "$status"
     fi
 }

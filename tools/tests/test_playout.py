@@ -15,6 +15,8 @@ import playout
 
 
 class Playout(stations.Station):
+    FAILED = "playout.py: drmcast serve of a.plan ended with status 6; one is begun each second, until one is on air again"
+
     def stopped_after(self, servers):
         """The status and the complaints of a playout that is stopped as soon as it has begun so many servers."""
         with running.start(*self.words("--to", "127.0.0.1:9"), cwd=self.folder) as playing:
@@ -46,7 +48,7 @@ class Playout(stations.Station):
         # The first one's link failed, but it was served to its end.
         self.folder.joinpath("ending").write_text("6", encoding="ascii")
         status, out, err = self.ran("--to", "127.0.0.1:9", "--live", "0,1", given=given)
-        self.assertEqual((status, err), (9, "playout.py: drmcast serve of a.plan ended with status 6\n"))
+        self.assertEqual((status, err), (9, f"drmcast: link fault\n{self.FAILED}\n"))
         self.assertEqual([words for _, words in self.log()], [["serve", "--to", "127.0.0.1:9", "--pace", str(PACE), "--live", "0,1", "--", name] for _, name in lines])
         for (at, _), (due, _) in zip(self.log(), lines):
             self.assertGreaterEqual(at, due)
@@ -71,7 +73,7 @@ class Playout(stations.Station):
         self.list((playlists.now() - 1000, "a.plan"))
         self.folder.joinpath("failing").write_text("6", encoding="ascii")
         status, err = self.stopped_after(2)
-        self.assertEqual((status, err), (0, "playout.py: drmcast serve of a.plan ended with status 6\n"))
+        self.assertEqual((status, err), (0, f"drmcast: link fault\n{self.FAILED}\n"))
         first, second = (int(words[words.index("--from") + 1]) for _, words in self.log())
         self.assertGreater(second, first + 15)
         self.folder.joinpath("failing").write_text("3", encoding="ascii")
@@ -125,6 +127,30 @@ class Playout(stations.Station):
             one.says_end()
             self.assertEqual([re.search("in ([0-9]+) minutes", text)[1] for text in said], wanted, minutes)
             said.clear()
+
+    def test_a_failure_that_lasts_is_said_once(self):
+        said = []
+        for owner, name in ((playout, "say"), (playout.command_line, "complain")):
+            self.addCleanup(setattr, owner, name, getattr(owner, name))
+            setattr(owner, name, said.append)
+        self.plan("a.plan", 0, 0, 2000)
+        self.addCleanup(os.chdir, os.getcwd())
+        os.chdir(self.folder)
+        one = self.playing([(playlists.now(), "a.plan")])
+        one.passes_on = lambda text: said.append(text.decode()) if text else None
+        failed = self.FAILED.removeprefix("playout.py: ")
+        for words, status, wanted in ((b"link fault\n", 6, ["link fault\n", failed]), (b"link fault\n", 6, []), (b"link fault\n", 6, []),
+                                      (b"no memory\n", 1, ["no memory\n", failed.replace("6", "1")]), (b"no memory\n", 1, []), (b"refused since\n", 0, ["refused since\n", "on air again: a.plan"]),
+                                      (b"accepted again\n", 0, ["accepted again\n"])):
+            one.heard = b""
+            one.hears(words)
+            if status:
+                one.tells_failure(one.entries[0], status)
+            else:
+                one.recovers(one.entries[0])
+            self.assertEqual(said, wanted, (words, status))
+            said.clear()
+        self.assertEqual(one.failures, 5)
 
     def test_a_list_that_changes(self):
         said, complained = [], []
