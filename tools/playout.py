@@ -9,24 +9,24 @@ The list has a line for each schedule: the moment when it begins, in UTC, and it
     2026-12-24T18:00:00Z evening.plan
     2026-12-24T19:00:00Z night.plan
 
-Each schedule begins when the one before it ends, 3 frames of its pace for each of its super frames later, and its `first` line goes on
-from there, so that receivers run on. What isn't so is named, with the line or the moment that would be right, and nothing is sent. So is a
-live stream that a schedule doesn't have. The words of the servers are tried, too. Named alone are a clock line that isn't the moment on air,
-and a live stream that changes its size.
+Each schedule begins when the one before it ends, 3 frames of its pace for each of its super frames later, and its `first` line goes on from
+there, so that receivers run on. What isn't so is named, with the line or the moment that would be right, and nothing is sent. So is a live stream
+that a schedule doesn't have. The words of the servers are tried, too. Named alone are a clock line that isn't the moment on air, and a live
+stream that changes its size.
 
-`drmcast serve` is run for each schedule, with one pace between the last frame of one and the first of the next. If the playout is
-started within a schedule, or a server fails, it goes on at the next super frame; a failure that lasts is said once, and that it is over.
-With --live one server after another takes the bytes
-of these streams from standard input, and none takes more than its frames need. When that ends the schedules' own content goes out. With
---interleaved, if it comes from `interleave.py`, the playout ends instead, and a live stream that changes its size is refused.
+`drmcast serve` is run for each schedule, with one pace between the last frame of one and the first of the next. If the playout is started within
+a schedule, or a server fails, it goes on at the next super frame; a failure that lasts is said once, and that it is over. With --live one server
+after another takes the bytes of these streams from standard input, and none takes more than its frames need. When that ends the schedules' own
+content goes out. With --interleaved, if it comes from `interleave.py`, the playout ends instead, and a live stream that changes its size is
+refused.
 
-When the list has changed and stands still it is read again, and taken if what is on air, or waited for, stands in it as it was; so lines can be added. An hour
-and ten minutes before the list ends it says so. --metrics writes what it does to a file each five seconds, in the text format of Prometheus:
-whether something is due and is on air, the super frame, the seconds to the end of the list, servers that failed, and changes of the list that were
-taken and refused.
+When the list has changed and stands still it is read again, and taken if what is on air, or waited for, stands in it as it was; so lines can be
+added. An hour and ten minutes before the list ends it says so. --metrics writes what it does to a file each five seconds, in the text format of
+Prometheus: whether something is due and is on air, the super frame, the seconds to the end of the list, servers that failed, and changes of the
+list that were taken and refused.
 
-The status is 0 after Ctrl-C or TERM, and after a check alone; 3 if the list is wrong; 9 when it has ended, since nothing is on air then; 10
-if with --interleaved standard input has ended; and that of `drmcast` if it refuses a schedule or the words.
+The status is 0 after Ctrl-C or TERM, and after a check alone; 3 if the list is wrong; 9 when it has ended, since nothing is on air then; 10 if
+with --interleaved standard input has ended; and that of `drmcast` if it refuses a schedule or the words.
 """
 import contextlib
 import os
