@@ -212,7 +212,11 @@ def fillers(size, byte_value, name):
 
 def named_schedules(parser, options):
     """The schedules that the command line names, each with its name, as `drmcast check` reads them; a refusal ends the script."""
-    names = options.schedule + [name for _, _, name in (playlists.named(options.list) if options.list else ())]
+    try:
+        names = options.schedule + [name for _, _, name in (playlists.named(options.list) if options.list else ())]
+    except playlists.Wrong as fault:
+        command_line.complain(f"{options.list}: {fault}")
+        sys.exit(fault.status)
     try:
         program = command_line.program(options.program) if names else ""
     except argparse.ArgumentTypeError as fault:
@@ -265,7 +269,8 @@ def sources_of(parser, options):
     return found
 
 
-def main():
+def arguments_of(words):
+    """The options of these words, and the sources that they name, which are open."""
     parser = command_line.parser(__doc__)
     parser.add_argument("sources", metavar="STREAM:BYTES:NAME", nargs="+", type=encoder)
     parser.add_argument("--schedule", type=command_line.file, default=[], action="append", metavar="NAME", help="take the bytes from this schedule")
@@ -276,8 +281,12 @@ def main():
     parser.add_argument("--fill-file", type=fill_file, default=[], action="append", metavar="STREAM:FILE", help="or with the pieces of this file")
     parser.add_argument("--pace", type=command_line.number(1, 3_600_000), metavar="MS", help="begin a frame so long after the one before it at the latest")
     parser.add_argument("--frames", type=command_line.number(1, 1 << 32), default=sys.maxsize, metavar="N", help="end after N frames")
-    options = parser.parse_args()
-    sources = sources_of(parser, options)
+    options = parser.parse_args(words)
+    return options, sources_of(parser, options)
+
+
+def main():
+    options, sources = arguments_of(sys.argv[1:])
     stop = command_line.Stop()
     interleaving = Interleaving(sources, options.late / 1000, options.pace and options.pace / 1000, stop)
     try:

@@ -4,7 +4,6 @@ import datetime
 import re
 import time
 
-import command_line
 import schedules
 
 Entry = collections.namedtuple("Entry", "line begin name number count super_frames text")
@@ -46,7 +45,12 @@ class Wrong(Exception):
 
 def named(path):
     """The lines of a list that say something: the number of each, its moment and its file as they are written."""
-    for number, line in enumerate(command_line.text(path).split("\n"), 1):
+    try:
+        with open(path, encoding="utf-8") as file:
+            text = file.read()
+    except UnicodeDecodeError as fault:
+        raise Wrong([str(fault)]) from None
+    for number, line in enumerate(text.split("\n"), 1):
         if line.strip() and not line.lstrip().startswith("#"):
             begin, _, name = line.strip().partition(" ")
             yield number, begin, name.strip()
@@ -124,7 +128,11 @@ def read(path, program, pace, live=None, interleaved=False):
     """The schedules of a list, and what is to be looked at though it is no fault; raises what is wrong. What `interleave.py` feeds has one
     size of each stream, so a change of it is a fault then."""
     entries, found, status = [], [], 0
-    for number, begin, name in named(path):
+    try:
+        listed = list(named(path))
+    except Wrong as fault:
+        listed, found = [], fault.texts
+    for number, begin, name in listed:
         try:
             entries.append(entry(program, number, begin, name))
             found += faults_of_live(entries[-1], live)

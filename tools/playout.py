@@ -9,23 +9,24 @@ The list has a line for each schedule: the moment when it begins, in UTC, and it
     2026-12-24T18:00:00Z evening.plan
     2026-12-24T19:00:00Z night.plan
 
-Each schedule begins when the one before it ends, 3 frames of its pace for each of its super frames later, and its `first` line goes on
-from there, so that receivers run on. What isn't so is named, with the line or the moment that would be right, and nothing is sent. So is a
-live stream that a schedule doesn't have. The words of the servers are tried, too. Named alone are a clock line that isn't the moment on air,
-and a live stream that changes its size.
+Each schedule begins when the one before it ends, 3 frames of its pace for each of its super frames later, and its `first` line goes on from
+there, so that receivers run on. What isn't so is named, with the line or the moment that would be right, and nothing is sent. So is a live stream
+that a schedule doesn't have. The words of the servers are tried, too. Named alone are a clock line that isn't the moment on air, and a live
+stream that changes its size.
 
-`drmcast serve` is run for each schedule, with one pace between the last frame of one and the first of the next. If the playout is
-started within a schedule, or a server fails, it goes on at the next super frame. With --live one server after another takes the bytes
-of these streams from standard input, and none takes more than its frames need. When that ends the schedules' own content goes out. With
---interleaved, if it comes from `interleave.py`, the playout ends instead, and a live stream that changes its size is refused.
+`drmcast serve` is run for each schedule, with one pace between the last frame of one and the first of the next. If the playout is started within
+a schedule, or a server fails, it goes on at the next super frame; a failure that lasts is said once, and that it is over. With --live one server
+after another takes the bytes of these streams from standard input, and none takes more than its frames need. When that ends the schedules' own
+content goes out. With --interleaved, if it comes from `interleave.py`, the playout ends instead, and a live stream that changes its size is
+refused.
 
-When the list has changed it is read again, and taken if what is on air, or waited for, stands in it as it was; so lines can be added. An hour
-and ten minutes before the list ends it says so. --metrics writes what it does to a file each five seconds, in the text format of Prometheus:
-whether something is due and is on air, the super frame, the seconds to the end of the list, servers that failed, and changes of the list that were
-taken and refused.
+When the list has changed and stands still it is read again, and taken if what is on air, or waited for, stands in it as it was; so lines can be
+added. An hour and ten minutes before the list ends it says so. --metrics writes what it does to a file each five seconds, in the text format of
+Prometheus: whether something is due and is on air, the super frame, the seconds to the end of the list, servers that failed, and changes of the
+list that were taken and refused.
 
-The status is 0 after Ctrl-C or TERM, and after a check alone; 3 if the list is wrong; 9 when it has ended, since nothing is on air then; 10
-if with --interleaved standard input has ended; and that of `drmcast` if it refuses a schedule or the words.
+The status is 0 after Ctrl-C or TERM, and after a check alone; 3 if the list is wrong; 9 when it has ended, since nothing is on air then; 10 if
+with --interleaved standard input has ended; and that of `drmcast` if it refuses a schedule or the words.
 """
 import contextlib
 import os
@@ -93,7 +94,7 @@ class ListFile:
 
     def __init__(self, options):
         self.options = options
-        self.seen = self.mark()
+        self.looked = self.seen = self.mark()
 
     def mark(self):
         """What tells one state of the file from another."""
@@ -102,10 +103,13 @@ class ListFile:
             return state.st_mtime_ns, state.st_size, state.st_ino
         return None
 
-    def changed(self):
-        """Whether it has changed since this was asked."""
-        before, self.seen = self.seen, self.mark()
-        return self.seen is not None and self.seen != before
+    def changed(self, still=True):
+        """Whether it has changed, and has stood still since this was asked before; so it isn't read while it is written."""
+        before, self.looked = self.looked, self.mark()
+        if self.looked in (None, self.seen) or still and self.looked != before:
+            return False
+        self.seen = self.looked
+        return True
 
     def read(self):
         return playlists.read(self.options.list, self.options.program, self.options.pace, self.options.live, self.options.interleaved)
@@ -127,13 +131,14 @@ class Playout:
     nobody sets, from which the next schedule may begin; None if none was played to its end just before, so that the moment of the day alone
     says where to begin."""
 
-    def __init__(self, options, entries, stop):
-        self.options, self.entries, self.stop = options, entries, stop
-        self.file = ListFile(options)
-        self.written = metrics.Metrics(options.metrics, options.link, metrics.PLAYOUT_METRICS)
+    def __init__(self, file, entries, stop):
+        self.file, self.options, self.entries, self.stop = file, file.options, entries, stop
+        self.written = metrics.Metrics(self.options.metrics, self.options.link, metrics.PLAYOUT_METRICS)
         self.free = None
         self.on_air = self.unfed = False
         self.failures = self.taken = self.refused = 0
+        # What the last server said before it failed, with its status, and what the one at work has said.
+        self.fault, self.heard = None, b""
         self.said_end = (0, 0)
         self.due = time.monotonic()
 
@@ -141,17 +146,49 @@ class Playout:
         return self.stop.asked or self.unfed
 
     def waits(self, server, seconds):
-        """Waits so long at most for a server's end (None: for none), a stop, or the end of what feeds it; gives whether the server ended."""
+        """Waits so long at most for a server's end (None: for none) or its words, a stop, or the end of what feeds it; gives whether the server
+        ended."""
         poll = select.poll()
         poll.register(self.stop.readable, select.POLLIN)
         if server is not None:
-            poll.register(server, select.POLLIN)
+            poll.register(server.stdout, select.POLLIN)
+            poll.register(server.stderr, select.POLLIN)
         if self.options.interleaved:
             # Of the input it is only asked whether it has lost its writers.
             poll.register(sys.stdin.fileno(), 0)
         ready = [descriptor for descriptor, _ in poll.poll(max(0.0, seconds) * 1000)]
         self.unfed = self.options.interleaved and sys.stdin.fileno() in ready
-        return server is not None and server.fileno() in ready
+        if server is not None and server.stderr.fileno() in ready:
+            self.hears(os.read(server.stderr.fileno(), 1 << 16))
+        return server is not None and server.stdout.fileno() in ready
+
+    def hears(self, said):
+        """Passes on what a server says, unless the one before it failed: then only what is new is said, at its end."""
+        self.heard += said
+        if self.fault is None:
+            self.passes_on(said)
+
+    def passes_on(self, said):
+        with contextlib.suppress(OSError):
+            sys.stderr.buffer.write(said)
+            sys.stderr.buffer.flush()
+
+    def tells_failure(self, one, status):
+        """Says that a server failed, and why; not again each second if the next one fails in the same way."""
+        self.failures += 1
+        before, self.fault = self.fault, (status, self.heard)
+        if self.fault != before:
+            if before is not None:
+                self.passes_on(self.heard)
+            again = "" if status in FOR_GOOD else "; one is begun each second, until one is on air again"
+            command_line.complain(f"drmcast serve of {one.name} ended with status {status}{again}")
+
+    def recovers(self, one):
+        """Says that a server is on air after one that failed."""
+        if self.fault is not None:
+            self.fault = None
+            self.passes_on(self.heard)
+            say(f"on air again: {one.name}")
 
     def end(self):
         return following(self.entries[-1], self.options.pace)[0]
@@ -220,18 +257,23 @@ class Playout:
     def serve(self, one, later):
         """Runs the server from this super frame on; gives its status, or None if it is over before."""
         words = server_words(self.options, one.name, later)
+        began, self.heard = time.monotonic(), b""
         # It writes nothing to its output, which ends with it.
-        with subprocess.Popen(words, stdin=None if self.options.live else subprocess.DEVNULL, stdout=subprocess.PIPE) as server:
-            say(f"begins: {one.name}, super frame {later} of {one.super_frames}, until {moment(following(one, self.options.pace)[0])}")
+        with subprocess.Popen(words, stdin=None if self.options.live else subprocess.DEVNULL, stdout=subprocess.PIPE, stderr=subprocess.PIPE) as server:
+            if self.fault is None:
+                say(f"begins: {one.name}, super frame {later} of {one.super_frames}, until {moment(following(one, self.options.pace)[0])}")
             self.on_air = True
             self.written.write(self.state())
             try:
-                while not self.waits(server.stdout, LOOK_SECONDS) and not self.is_over():
+                while not self.waits(server, LOOK_SECONDS) and not self.is_over():
                     self.looks()
+                    if time.monotonic() - began > LOOK_SECONDS:
+                        self.recovers(one)
             finally:
                 self.on_air = False
                 if self.is_over() or sys.exc_info()[0] is not None:
                     server.terminate()
+            self.hears(server.stderr.read())
         return None if self.is_over() else command_line.status_of(server)
 
     def begin(self, one):
@@ -255,15 +297,19 @@ class Playout:
             status = self.serve(one, later)
             if status is None:
                 return 0
+            end = due + FRAMES * (one.super_frames - later) * pace / 1000
             if status in PLAYED:
-                self.free = due + FRAMES * (one.super_frames - later) * pace / 1000
+                self.recovers(one)
+            else:
+                self.tells_failure(one, status)
+            if status in FOR_GOOD:
+                return status
+            # One of several links may have failed; the others have the last frame by now.
+            if status in PLAYED or time.monotonic() > end - 1.5 * pace / 1000:
+                self.fault, self.free = None, end
                 if time.monotonic() > self.free - pace / 2000:
                     self.free = time.monotonic() + pace / 1000
                 return 0
-            self.failures += 1
-            command_line.complain(f"drmcast serve of {one.name} ended with status {status}")
-            if status in FOR_GOOD:
-                return status
             self.free = None
             self.waits(None, RETRY_SECONDS)
 
@@ -272,7 +318,7 @@ class Playout:
         self.looks()
         while True:
             status = self.play(self.entries[0])
-            if len(self.entries) == 1 and not self.is_over() and self.file.changed():
+            if len(self.entries) == 1 and not self.is_over() and self.file.changed(still=False):
                 self.takes_change()
             if status or self.is_over() or len(self.entries) == 1:
                 break
@@ -305,8 +351,9 @@ def arguments_of(words):
 
 def main():
     options = arguments_of(sys.argv[1:])
+    file = ListFile(options)
     try:
-        entries, warnings = ListFile(options).read()
+        entries, warnings = file.read()
     except playlists.Wrong as fault:
         for text in fault.texts:
             command_line.complain(text)
@@ -320,7 +367,7 @@ def main():
         return LIST_ENDED
     if options.to is None:
         return 0
-    return Playout(options, entries, command_line.Stop()).run()
+    return Playout(file, entries, command_line.Stop()).run()
 
 
 if __name__ == "__main__":

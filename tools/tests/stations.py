@@ -8,7 +8,8 @@ import running
 import playlists
 
 # `check` prints the schedule's text. `serve` notes when it was begun with which words, and lasts as long as it would; with live streams it
-# takes a byte for each frame. It fails once with the status in a file, if there is one.
+# takes a byte for each frame. Once it fails at its beginning with the status in the file `failing`, and once at its end with that in
+# `ending`, if they are there.
 PROGRAM = """#!/bin/sh
 for name; do :; done
 if grep -q wrong "$name"; then
@@ -31,14 +32,21 @@ done
 frames=$((3 * ($(sed -n 's/^length //p' "$name") - since)))
 [ $frames -gt 0 ] || exit 0
 echo "$(date +%s%N) $words" >> {folder}/log
-if [ -e {folder}/failing ]; then
-    status=$(cat {folder}/failing)
-    rm {folder}/failing
-    exit "$status"
-fi
+fails() {
+    if [ -e "{folder}/$1" ]; then
+        status=$(cat "{folder}/$1")
+        rm "{folder}/$1"
+        echo "drmcast: link fault" >&2
+        exit "$status"
+    fi
+}
+fails failing
 [ -z "$live" ] || head -c $frames >> {folder}/taken
 millis=$(((frames - 1) * pace))
-exec sleep $((millis / 1000)).$(printf %03d $((millis % 1000)))
+lasts=$((millis / 1000)).$(printf %03d $((millis % 1000)))
+[ -e {folder}/ending ] || exec sleep "$lasts"
+sleep "$lasts"
+fails ending
 """
 PACE = 20
 

@@ -64,12 +64,13 @@ class Record(unittest.TestCase):
     def test_no_room(self):
         port = running.free_port()
         with open("/dev/full", "wb") as full:
-            recording = subprocess.Popen(running.words("record.py", f"127.0.0.1:{port}"), stdout=full, stderr=subprocess.PIPE)
+            recording = subprocess.Popen(running.words("record.py", f"127.0.0.1:{port}", "--silence", 1), stdout=full, stderr=subprocess.PIPE)
         with recording, socket.socket(socket.AF_INET, socket.SOCK_DGRAM) as sender:
             running.until(lambda: running.is_bound(port))
             sender.sendto(running.fragment(0), ("127.0.0.1", port))
-            status, _, err = running.stop(recording)
-        self.assertEqual((status, err), (1, "record.py: standard output: No space left on device\n"))
+            # Its own end, since a signal may come while it ends.
+            _, err = recording.communicate(timeout=running.WAIT_SECONDS)
+        self.assertEqual((recording.returncode, err), (1, b"record.py: standard output: No space left on device\n"))
 
 
 class Drop(unittest.TestCase):

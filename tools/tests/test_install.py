@@ -20,9 +20,9 @@ def anchors(text):
     return {re.sub(r"[^\w\- ]", "", heading.lower()).replace(" ", "-") for heading in re.findall("^#+ (.*)$", plain, re.MULTILINE)}
 
 
-def dead_links(folder):
-    """The links of the documents in a folder that lead nowhere."""
-    for document in sorted(folder.rglob("*.md")):
+def dead_links(*folders):
+    """The links of the documents in these folders that lead nowhere."""
+    for document in sorted(path for folder in folders for path in folder.glob("*.md")):
         text = document.read_text(encoding="utf-8")
         for target in re.findall(r"\]\(([^)\s]+)\)", re.sub(r"^```.*?^```|`[^`\n]*`(?!\])", "", text, flags=re.DOTALL | re.MULTILINE)):
             name, _, anchor = target.partition("#")
@@ -76,7 +76,7 @@ class Install(unittest.TestCase):
         self.assertEqual(self.installed(self.built, prefix="/usr/local"), (0, ""))
         root = self.folder / "dest/usr/local"
         documents = root / "share/doc/drmcast"
-        self.assertEqual([*dead_links(documents), *dead_links(running.TOP)], [])
+        self.assertEqual(list(dead_links(documents, running.TOP, running.TOP / "docs")), [])
         # A link that leads somewhere in both is still one.
         tour, readme = (documents.joinpath(name).read_text(encoding="utf-8") for name in ("TOUR.md", "README.md"))
         for link, text in (("examples/one-service.plan", tour), ("../../../lib/drmcast/drop.py", tour), ("SCHEDULE.md#codes-of-service-and-audio", readme)):

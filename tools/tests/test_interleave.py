@@ -1,4 +1,6 @@
 """`interleave.py` over files and FIFOs: encoders that are late, that stop within a piece and come back, and fillers."""
+import contextlib
+import io
 import os
 import pathlib
 import signal
@@ -188,8 +190,10 @@ class Interleave(unittest.TestCase):
         a = self.file("a", b"")
         for words in ((), ("a",), ("0:1",), ("4:1:{a}",), ("0:0:{a}",), ("0:8191:{a}",), ("0:1:/nowhere",), ("0:1:/dev/null",), ("0:1:{a}", "0:2:{a}"), ("0:{a}",), ("0:",),
                       ("0:1:{a}", "--fill", "0"), ("0:1:{a}", "--fill", "0x"), ("0:1:{a}", "--fill", " 00"), ("0:1:{a}", "--late", "0"), ("0:1:{a}", "--frames", "0")):
-            with self.subTest(words=words):
-                self.assertEqual(running.run("interleave.py", *(word.format(a=a) for word in words))[0], 2)
+            with self.subTest(words=words), contextlib.redirect_stderr(io.StringIO()) as said, self.assertRaises(SystemExit) as end:
+                interleave.arguments_of([word.format(a=a) for word in words])
+            self.assertEqual((end.exception.code, said.getvalue()[:6]), (2, "usage:"))
+        self.assertEqual(running.run("interleave.py")[0], 2)
 
 
 if __name__ == "__main__":

@@ -82,7 +82,7 @@ class Playlists(stations.Station):
             self.assertEqual((found[0], found[1], found[2].count("\n")), (status, "", 1), line)
             self.assertIn(said, found[2])
         self.folder.joinpath("it.list").write_bytes(b"\xff\n")
-        self.assertEqual(self.ran()[0], 1)
+        self.assertEqual(self.ran()[0], 3)
         self.assertEqual(running.run("playout.py", "/nowhere", "--program", self.program)[0], 2)
 
 

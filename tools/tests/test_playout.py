@@ -15,6 +15,8 @@ import playout
 
 
 class Playout(stations.Station):
+    FAILED = "playout.py: drmcast serve of a.plan ended with status 6; one is begun each second, until one is on air again"
+
     def stopped_after(self, servers):
         """The status and the complaints of a playout that is stopped as soon as it has begun so many servers."""
         with running.start(*self.words("--to", "127.0.0.1:9"), cwd=self.folder) as playing:
@@ -43,8 +45,10 @@ class Playout(stations.Station):
         begin = playlists.now() + 2500
         lines = self.three(begin)
         given = bytes(range(100))
+        # The first one's link failed, but it was served to its end.
+        self.folder.joinpath("ending").write_text("6", encoding="ascii")
         status, out, err = self.ran("--to", "127.0.0.1:9", "--live", "0,1", given=given)
-        self.assertEqual((status, err), (9, ""))
+        self.assertEqual((status, err), (9, f"drmcast: link fault\n{self.FAILED}\n"))
         self.assertEqual([words for _, words in self.log()], [["serve", "--to", "127.0.0.1:9", "--pace", str(PACE), "--live", "0,1", "--", name] for _, name in lines])
         for (at, _), (due, _) in zip(self.log(), lines):
             self.assertGreaterEqual(at, due)
@@ -69,7 +73,7 @@ class Playout(stations.Station):
         self.list((playlists.now() - 1000, "a.plan"))
         self.folder.joinpath("failing").write_text("6", encoding="ascii")
         status, err = self.stopped_after(2)
-        self.assertEqual((status, err), (0, "playout.py: drmcast serve of a.plan ended with status 6\n"))
+        self.assertEqual((status, err), (0, f"drmcast: link fault\n{self.FAILED}\n"))
         first, second = (int(words[words.index("--from") + 1]) for _, words in self.log())
         self.assertGreater(second, first + 15)
         self.folder.joinpath("failing").write_text("3", encoding="ascii")
@@ -106,8 +110,8 @@ class Playout(stations.Station):
         """A playout of this list by itself, whose servers nobody starts."""
         self.list(*begin)
         options = playout.arguments_of([str(self.folder / "it.list"), "--to", "127.0.0.1:9", "--pace", str(PACE), "--program", str(self.program)])
-        entries, _ = playout.ListFile(options).read()
-        return playout.Playout(options, entries, None)
+        file = playout.ListFile(options)
+        return playout.Playout(file, file.read()[0], None)
 
     def test_an_hour_and_ten_minutes_ahead(self):
         said, playout_say = [], playout.say
@@ -124,6 +128,30 @@ class Playout(stations.Station):
             self.assertEqual([re.search("in ([0-9]+) minutes", text)[1] for text in said], wanted, minutes)
             said.clear()
 
+    def test_a_failure_that_lasts_is_said_once(self):
+        said = []
+        for owner, name in ((playout, "say"), (playout.command_line, "complain")):
+            self.addCleanup(setattr, owner, name, getattr(owner, name))
+            setattr(owner, name, said.append)
+        self.plan("a.plan", 0, 0, 2000)
+        self.addCleanup(os.chdir, os.getcwd())
+        os.chdir(self.folder)
+        one = self.playing([(playlists.now(), "a.plan")])
+        one.passes_on = lambda text: said.append(text.decode()) if text else None
+        failed = self.FAILED.removeprefix("playout.py: ")
+        for words, status, wanted in ((b"link fault\n", 6, ["link fault\n", failed]), (b"link fault\n", 6, []), (b"link fault\n", 6, []),
+                                      (b"no memory\n", 1, ["no memory\n", failed.replace("6", "1")]), (b"no memory\n", 1, []), (b"refused since\n", 0, ["refused since\n", "on air again: a.plan"]),
+                                      (b"accepted again\n", 0, ["accepted again\n"])):
+            one.heard = b""
+            one.hears(words)
+            if status:
+                one.tells_failure(one.entries[0], status)
+            else:
+                one.recovers(one.entries[0])
+            self.assertEqual(said, wanted, (words, status))
+            said.clear()
+        self.assertEqual(one.failures, 5)
+
     def test_a_list_that_changes(self):
         said, complained = [], []
         for name, value in (("say", said.append), ("now", playlists.now)):
@@ -139,13 +167,19 @@ class Playout(stations.Station):
         one = self.playing([(begin, "a.plan")])
         for lines, taken, refused, left in (([(begin, "a.plan")], 0, 0, 1), ([(begin, "a.plan"), (begin + 120_000, "b.plan")], 1, 0, 2),
                                             ([(begin, "a.plan"), (begin + 120_001, "b.plan")], 1, 1, 2), ([(begin + 120_000, "b.plan")], 1, 2, 2),
-                                            (["# now", (begin, "a.plan")], 2, 2, 1)):
+                                            (["nothing"], 1, 3, 2), (["# now", (begin, "a.plan")], 2, 3, 1)):
             self.list(*lines)
+            if lines == ["nothing"]:
+                self.folder.joinpath("it.list").write_bytes(b"\xff")
+            before = one.taken, one.refused
+            one.due = 0.0
+            one.looks()
+            self.assertEqual((one.taken, one.refused), before, "it is read once it stands still")
             one.due = 0.0
             one.looks()
             self.assertEqual((one.taken, one.refused, len(one.entries)), (taken, refused, left), lines)
         self.assertEqual([text.partition(",")[0].partition(";")[0] for text in said if "change" in text],
-                         ["the list has changed", *["the changed list is refused"] * 2, "the list has changed"])
+                         ["the list has changed", *["the changed list is refused"] * 3, "the list has changed"])
         self.assertRegex(complained[0], "it.list line 2: a gap of 0.001 s: a.plan ends at [^ ]+, and b.plan begins at")
         self.assertRegex(complained[1], "it.list a.plan of [^ ]+ isn't in it as it was")
 
