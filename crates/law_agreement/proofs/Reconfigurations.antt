@@ -28,7 +28,7 @@ seen_if (Frame q frame payload) is = (shown_by frame, refl)
 seen_if (Missing q had total) is = absurd is
 seen_if (Bad q fault) is = absurd is
 
-pub frame_if : (item : FrameItem) (seen : Seen) → seen_in item ≡ Some seen → IsAFrame item
+frame_if : (item : FrameItem) (seen : Seen) → seen_in item ≡ Some seen → IsAFrame item
 frame_if (Frame q frame payload) seen is = tt
 frame_if (Missing q had total) seen is = absurd (let e : None ≡ Some seen = is in cc)
 frame_if (Bad q fault) seen is = absurd (let e : None ≡ Some seen = is in cc)
@@ -56,7 +56,7 @@ module _ (plan : Plan) (window : ℕ) (first_frame : ℤ) (frame_limit : Option 
   abbrev pub items : GivenItems
   items = record { first_frame = first_frame; steps = steps }
 
-  pub stands : (q : ℕ) (step : FeedStep) (before : Option Before) → slice_get steps q ≡ Some step → step.before ≡ before → slice_get (befores_of steps) q ≡ Some before
+  stands : (q : ℕ) (step : FeedStep) (before : Option Before) → slice_get steps q ≡ Some step → step.before ≡ before → slice_get (befores_of steps) q ≡ Some before
   stands q step before at same = map_at (λ (s : FeedStep). s.before) steps q step at ∙ ap (λ (o : Option Before). Some o) same
 
   shows : (q : ℕ) (step : FeedStep) (seen : Seen) → slice_get steps q ≡ Some step → seen_in step.item ≡ Some seen → IsFrame (all_seen steps) q seen
