@@ -1,0 +1,4 @@
+pub mod Reconfigurations
+pub mod Agreement
+pub mod Modulators
+pub mod Laws
