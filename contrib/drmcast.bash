@@ -33,7 +33,7 @@ _drmcast() {
     _drmcast_words
     local at=$((${#words[@]} - 1))
     if [ "$at" -le 1 ]; then
-        _drmcast_among 'fac check serve receive count air show convert gate pack unpack texts exercise'
+        _drmcast_among 'fac check capacity serve receive count air show convert gate pack unpack texts exercise'
         return
     fi
     case ${words[at - 1]} in
@@ -45,7 +45,7 @@ _drmcast() {
         convert:*:-* | unpack:*:-* | texts:*:-*) _drmcast_among "$common" ;;
         air:*:-*) _drmcast_among '--window' ;;
         convert:2:* | gate:4:*) _drmcast_among "$carries" ;;
-        check:2:* | serve:2:* | air:2:* | air:3:*) _drmcast_file ;;
+        check:2:* | capacity:2:* | serve:2:* | air:2:* | air:3:*) _drmcast_file ;;
     esac
 }
 

@@ -23,6 +23,8 @@ const ASKED: &str = "|fac > fac
 |check|--|-- > check --
 |check|--|--window=4 > check --window=4
 |check|Ås -x > check Ås -x
+|capacity|a > capacity a
+|capacity|--|--from=4 > capacity --from=4
 |serve|a > serve a - 0 0
 |serve|a|--pace|0 > serve a - 0 0
 |serve|--pace|10000|a > serve a - 10000 0
@@ -175,6 +177,7 @@ fn show(shown: &mut String, request: &Request) -> bool {
     match request {
         Request::Fac => word(shown, "fac"),
         Request::Check { name } => word(shown, "check") && text(shown, name),
+        Request::Capacity { name } => word(shown, "capacity") && text(shown, name),
         Request::Serve {
             name,
             to,
