@@ -61,7 +61,7 @@ for script in {watch,check_drmcast,playout,interleave,report,pcap,explain,record
     {drop,deliveries,tshark_show}.py loopback.sh; do
     install -D -m 755 "$here/tools/$script" "$into/lib/drmcast/$script"
 done
-for shared in command_line datagrams metrics playlists reports schedule_faults schedule_told schedules; do
+for shared in command_line datagrams fitting metrics playlists reports schedule_faults schedule_told schedules; do
     install -D -m 644 "$here/tools/$shared.py" "$into/lib/drmcast/$shared.py"
 done
 for document in docs/{OPERATION,SECURITY,SCHEDULE,FORMATS,TOUR,WIRESHARK,FIGURES,PROMISES,PROVED,BELIEVED,DECISIONS}.md README.md CHANGELOG.md LICENSE; do

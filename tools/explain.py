@@ -5,14 +5,17 @@
     explain.py evening.plan --tell                                 # what a schedule says, in words
     explain.py evening.plan --program /opt/drmcast/bin/drmcast
 
-It asks `drmcast check` for the first fault. SCHEDULE.md has the rules. --tell says each configuration as an engineer would read it aloud:
-mode, bandwidth, constellations, and of each service its kbit/s, coder and language. The status is that of `drmcast`.
+It asks `drmcast check` for the first fault, and where there is none `drmcast capacity` for what the channel doesn't carry. SCHEDULE.md has
+the rules. --tell says each configuration as an engineer would read it aloud:
+mode, bandwidth, constellations, and of each service its kbit/s, coder and language. The status is that of `drmcast`:
+7 where something doesn't fit.
 """
 import os
 import re
 import sys
 
 import command_line
+import fitting
 import schedule_faults
 import schedule_told
 import schedules
@@ -120,7 +123,11 @@ def main():
         for line in schedule_told.told(schedules.Schedule(text)):
             print(line)
     else:
-        print(f"{options.schedule} has no fault.")
+        unfit = fitting.unfit(options.program, options.schedule, text)
+        print(f"{options.schedule} has no fault" + (", and doesn't fit its channel:" if unfit else "."))
+        for line in unfit:
+            print(line)
+        status = fitting.UNFIT if unfit else status
     sys.exit(status)
 
 

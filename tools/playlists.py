@@ -4,6 +4,7 @@ import datetime
 import re
 import time
 
+import fitting
 import schedules
 
 Entry = collections.namedtuple("Entry", "line begin name number count super_frames text")
@@ -124,10 +125,16 @@ def warnings_of_clocks(one, pace):
                        f"that would be \"clock {begins // DAY_MILLIS + MJD_OF_1970} {begins // HOUR_MILLIS % 24} {begins // MINUTE_MILLIS % 60}\"")
 
 
-def read(path, program, pace, live=None, interleaved=False):
+def faults_of_channels(one, program):
+    """What no modulator can send of a schedule."""
+    for text in fitting.unfit(program, one.name, one.text):
+        yield f"line {one.line}: {one.name}: {text}"
+
+
+def read(path, program, pace, live=None, interleaved=False, fits=False):
     """The schedules of a list, and what is to be looked at though it is no fault; raises what is wrong. What `interleave.py` feeds has one
-    size of each stream, so a change of it is a fault then."""
-    entries, found, status = [], [], 0
+    size of each stream, so a change of it is a fault then; and with `fits` so is what a channel doesn't carry."""
+    entries, found, unfit, status = [], [], [], 0
     try:
         listed = list(named(path))
     except Wrong as fault:
@@ -136,13 +143,14 @@ def read(path, program, pace, live=None, interleaved=False):
         try:
             entries.append(entry(program, number, begin, name))
             found += faults_of_live(entries[-1], live)
+            unfit += faults_of_channels(entries[-1], program)
         except Wrong as fault:
             found += fault.texts
             status = status or fault.status
     changes = list(changes_of_live(entries, live))
     if not found:
-        found = list(faults(entries, pace)) + (changes if interleaved else []) if entries else ["there is no schedule in it"]
+        found = list(faults(entries, pace)) + (changes if interleaved else []) + (unfit if fits else []) if entries else ["there is no schedule in it"]
     if found:
         raise Wrong([f"{path} {text}" for text in found], status or WRONG_LIST)
-    warnings = [text for one in entries for text in warnings_of_clocks(one, pace)] + changes
+    warnings = [text for one in entries for text in warnings_of_clocks(one, pace)] + changes + unfit
     return entries, [f"{path} {text}" for text in warnings]

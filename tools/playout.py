@@ -11,8 +11,8 @@ The list has a line for each schedule: the moment when it begins, in UTC, and it
 
 Each schedule begins when the one before it ends, 3 frames of its pace for each of its super frames later, and its `first` line goes on from
 there, so that receivers run on. What isn't so is named, with the line or the moment that would be right, and nothing is sent. So is a live stream
-that a schedule doesn't have. The words of the servers are tried, too. Named alone are a clock line that isn't the moment on air, and a live
-stream that changes its size.
+that a schedule doesn't have. The words of the servers are tried, too. Named alone are a clock line that isn't the moment on air, a live
+stream that changes its size, and what doesn't fit a channel (`drmcast capacity`), which with --fits is refused.
 
 `drmcast serve` is run for each schedule, with one pace between the last frame of one and the first of the next. If the playout is started within
 a schedule, or a server fails, it goes on at the next super frame; a failure that lasts is said once, and that it is over. With --live one server
@@ -112,7 +112,7 @@ class ListFile:
         return True
 
     def read(self):
-        return playlists.read(self.options.list, self.options.program, self.options.pace, self.options.live, self.options.interleaved)
+        return playlists.read(self.options.list, self.options.program, self.options.pace, self.options.live, self.options.interleaved, self.options.fits)
 
     def read_from(self, one):
         """What it has now from this schedule on, which has to be there as it was."""
@@ -340,6 +340,7 @@ def arguments_of(words):
     parser.add_argument("--pace", type=command_line.number(1, 10_000), default=400, metavar="MS", help="milliseconds a frame (400)")
     parser.add_argument("--live", metavar="LIST", help="streams that take their bytes from standard input, as 0 or 0,1")
     parser.add_argument("--interleaved", action="store_true", help="standard input comes from interleave.py; end when that does")
+    parser.add_argument("--fits", action="store_true", help="refuse a schedule that its channel doesn't carry")
     parser.add_argument("--metrics", metavar="FILE", help="write what it does to this file")
     parser.add_argument("--link", metavar="NAME", help="the label `link` of the metrics (the name of their file, without .prom)")
     parser.add_argument("--program", type=command_line.program, default="drmcast", help="the program (drmcast, by the path)")

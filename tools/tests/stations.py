@@ -7,7 +7,7 @@ import running
 
 import playlists
 
-# `check` prints the schedule's text. `serve` notes when it was begun with which words, and lasts as long as it would; with live streams it
+# `check` prints the schedule's text, `capacity` the lines that comments say, with 7 if one is of what is over. `serve` notes when it was begun with which words, and lasts as long as it would; with live streams it
 # takes a byte for each frame. Once it fails at its beginning with the status in the file `failing`, and once at its end with that in
 # `ending`, if they are there.
 PROGRAM = """#!/bin/sh
@@ -16,7 +16,10 @@ if grep -q wrong "$name"; then
     echo "drmcast: schedule line 7: fit" >&2
     exit 3
 fi
-case $1 in check) exec cat "$name" ;; esac
+case $1 in
+    check) exec cat "$name" ;;
+    capacity) sed -n 's/^# capacity //p' "$name"; ! grep -q '^# capacity over' "$name" || exit 7; exit 0 ;;
+esac
 since=0 pace=0 live= words=$*
 while [ $# -gt 1 ]; do
     case $1:$2 in

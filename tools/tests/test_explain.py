@@ -10,7 +10,7 @@ import schedule_faults
 import schedule_told
 import schedules
 
-# It names the fault that a comment asks for, or prints the text.
+# It names the fault that a comment asks for, or prints the text; `capacity` prints the lines that comments say, with 7 if there are some.
 PROGRAM = """#!/bin/sh
 for name; do :; done
 fault=$(sed -n 's/^# fault //p' "$name")
@@ -23,7 +23,9 @@ if [ -n "$fault" ]; then
     echo "drmcast: schedule line $fault" >&2
     exit 3
 fi
-exec cat "$name"
+[ "$1" = capacity ] || exec cat "$name"
+sed -n 's/^# capacity //p' "$name"
+! grep -q '^# capacity' "$name" || exit 7
 """
 ONE = """drmplan 2
 carry pft 2 1400
@@ -225,6 +227,23 @@ class Script(unittest.TestCase):
         self.assertEqual(self.ran(ONE), (0, "it.plan has no fault.\n", ""))
         status, out, _ = self.ran(changed(14, "stream 0 4 file gone.bin") + "# fault read\n")
         self.assertEqual((status, out.splitlines()[0]), (4, "it.plan, line 14: gone.bin: No such file or directory"))
+
+    def test_what_does_not_fit(self):
+        for printed, wanted in (
+                ("config 0 cells 2337 part-a 0 cells 0 part-b 1049 of 1048 sdc 77 of 76 rate 20980\nover 0 part-b\nover 0 sdc",
+                 ["part B has 1,049 bytes a frame, and 1,048 fit: 1 fewer in the streams, or a weaker protection, another constellation or a wider channel",
+                  "an SDC block has 77 bytes, and in this channel just 76: room 76, in which its entities have to fit"]),
+                ("config 0 cells 2337 part-a 900 cells 2400 part-b 4 of 0 sdc 64 of 76 rate 18080\nover 0 part-a\nover 0 part-b\nshort 0 sdc",
+                 ["part A has 900 bytes a frame, which take 2,400 of 2,337 cells: at most 876 fit", "part B has 4 bytes a frame, and nothing is left for it behind part A",
+                  "an SDC block has 64 bytes, and in this channel just 76: room 76"]),
+                ("config 0 cells 1844 part-a 10 cells - part-b 4 of 0 sdc 32 of 32 rate 280\nover 0 part-a\nover 0 part-b",
+                 ["part A has 10 bytes a frame, and protection level 0 has no code rates in 16-QAM: level 0 or 1, or msc 0",
+                  "part B has 4 bytes a frame, and nothing is left for it behind part A"]),
+                ("config 0 cells 1844 part-a 10 cells 9 part-b 4 of - sdc 32 of 32 rate 280\nover 0 part-b",
+                 ["part B has 4 bytes a frame, and protection level 1 has no code rates in 16-QAM: level 0 or 1, or msc 0"])):
+            with self.subTest(printed=printed):
+                status, out, err = self.ran(ONE + "".join(f"# capacity {line}\n" for line in printed.split("\n")))
+                self.assertEqual((status, err, out.splitlines()), (7, "", ["it.plan has no fault, and doesn't fit its channel:"] + [f"the configuration of super frame 0: {line}" for line in wanted]))
 
     def test_a_schedule_in_words(self):
         status, out, err = self.ran(ONE + SECOND, "--tell")

@@ -79,7 +79,7 @@ class Install(unittest.TestCase):
         self.assertEqual(list(dead_links(documents, running.TOP, running.TOP / "docs")), [])
         # A link that leads somewhere in both is still one.
         tour, readme = (documents.joinpath(name).read_text(encoding="utf-8") for name in ("TOUR.md", "README.md"))
-        for link, text in (("examples/one-service.plan", tour), ("../../../lib/drmcast/drop.py", tour), ("SCHEDULE.md#codes-of-service-and-audio", readme)):
+        for link, text in (("examples/one-service.plan", tour), ("../../../lib/drmcast/drop.py", tour), ("SCHEDULE.md#codes", readme)):
             self.assertIn(f"]({link})", text)
         # What their sessions run is there.
         sessions = re.findall(r"^[$>] (.*)$", tour + documents.joinpath("WIRESHARK.md").read_text(encoding="utf-8"), re.MULTILINE)

@@ -73,6 +73,17 @@ class Playlists(stations.Station):
             'playout.py: it.list line 1: the clock line of configuration 1 of a.plan says 2026-12-24T18:00, and it begins on air at 2026-12-24T18:01:00Z; that would be "clock 61398 18 1"',
             'playout.py: it.list line 1: the clock line of configuration 2 of a.plan says 2026-12-24T18:01, and it begins on air at 2026-12-24T18:02:00Z; that would be "clock 61398 18 2"']))
 
+    def test_channels(self):
+        rest = "config 0 0\nstream 0 484 fill 00\nmsc 0\nprotection 0 1\n"
+        self.plan("a.plan", 0, 0, 10, rest)
+        self.plan("b.plan", 30, 30, 10, rest + "# capacity config 0 cells 2337 part-a 0 cells 0 part-b 1049 of 1048 sdc 76 of 76 rate 20980\n# capacity over 0 part-b\n")
+        begin = playlists.millis("2026-12-24T18:00:00Z")
+        self.list((begin, "a.plan"), (begin + 600, "b.plan"))
+        said = ("playout.py: it.list line 2: b.plan: the configuration of super frame 0: part B has 1,049 bytes a frame, and 1,048 fit: 1 fewer in the streams, "
+                "or a weaker protection, another constellation or a wider channel\n")
+        self.assertEqual(self.ran()[::2], (0, said))
+        self.assertEqual(self.ran("--fits"), (3, "", said))
+
     def test_bad_lists(self):
         self.plan("wrong.plan", 0, 0, 10, "wrong")
         for line, status, said in (("18:00 a.plan", 3, "no moment"), ("2026-12-24T18:00:00Z", 3, "isn't a moment and a file"), ("# nothing", 3, "no schedule"),

@@ -7,6 +7,7 @@ use Rattle.cmd_show.specs.Fac.{FacRun}
 use Rattle.cmd_show.specs.Show.{ShowRun}
 use Rattle.cmd_serve.specs.Check.{CheckRun}
 use Rattle.cmd_serve.specs.Serve.{ServeRun}
+use Rattle.cmd_capacity.specs.Run.{CapacityRun}
 use Rattle.cmd_serve.specs.Send.{SendRun}
 use Rattle.cmd_serve.specs.Live.{LiveServeRun, LiveSendRun}
 use Rattle.cmd_load.specs.Schedule.{schedule_named}
@@ -28,7 +29,7 @@ use Rattle.cmd_faults.specs.declared.fault.Fault.TheVariants.{NoMemory}
 use Rattle.drm_top.specs.Outside.{Outside, IsStill}
 use Rattle.recv_reading.specs.Values.{receive_options, packet_range}
 use Rattle.drm_words.specs.declared.request.Request.{Request}
-use Rattle.drm_words.specs.declared.request.Request.TheVariants.{Fac, Check, Serve, Receive, Count, Air, Show, Exercise, Convert, Gate, Pack, Unpack, Texts}
+use Rattle.drm_words.specs.declared.request.Request.TheVariants.{Fac, Check, Capacity, Serve, Receive, Count, Air, Show, Exercise, Convert, Gate, Pack, Unpack, Texts}
 
 -- a run that tells of no frames
 abbrev pub EndsWhole : Result Bool Fault → (Result (Unit {0}) Fault → Type 0) → Type 0
@@ -58,6 +59,8 @@ CommandRun Fac ending err_ok o =
     EndsWhole ending (λ done. FacRun done o.input.known o.input.before o.input.after o.out.known o.out.before o.out.after) × IsStill o.shelf × IsStill o.dock × IsQuiet err_ok o.err.before o.err.after
 CommandRun (Check name) ending err_ok o =
     EndsWhole ending (λ done. CheckRun name done o.shelf.known o.shelf.before o.shelf.after o.out.known o.out.before o.out.after) × IsStill o.input × IsStill o.dock × IsQuiet err_ok o.err.before o.err.after
+CommandRun (Capacity name) ending err_ok o =
+    CapacityRun name ending o.shelf.known o.shelf.before o.shelf.after o.out.known o.out.before o.out.after × IsStill o.input × IsStill o.dock × IsQuiet err_ok o.err.before o.err.after
 CommandRun (Serve name [] pace from live) ending err_ok o =
     ServesOut (is_any live) name from live ending o × IsStill o.dock × IsQuiet err_ok o.err.before o.err.after
 CommandRun (Serve name (at ∷ others) pace from live) ending err_ok o =
@@ -111,7 +114,8 @@ OpensALink (Count (Some at) window reach first frames idle limit) = Unit {0}
 OpensALink (Gate from to carry window reach first frames idle limit) = Unit {0}
 OpensALink _ = ⊥
 
--- a command that tells of frames or packets, some of which may be missing or bad, or sends frames that may lack bytes of input
+-- a command that tells of frames or packets, some of which may be missing or bad, or of what may not fit its channel, or sends frames
+-- that may lack bytes of input
 abbrev pub WritesReport : Request → Type 0
 WritesReport Fac = ⊥
 WritesReport (Check name) = ⊥

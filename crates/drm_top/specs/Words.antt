@@ -3,7 +3,7 @@ use Rattle.std.specs.Prelude.{ℕ, ◌≤◌, ◌<◌, List, Option, None, Some,
 use Rattle.dcp_pft.specs.Carrying.{CarryFits}
 use Rattle.drm_words.specs.Line.{IsLine}
 use Rattle.drm_words.specs.declared.request.Request.{Request}
-use Rattle.drm_words.specs.declared.request.Request.TheVariants.{Check, Serve, Receive, Count, Air, Exercise, Convert, Gate, Pack, Unpack, Texts}
+use Rattle.drm_words.specs.declared.request.Request.TheVariants.{Check, Capacity, Serve, Receive, Count, Air, Exercise, Convert, Gate, Pack, Unpack, Texts}
 use Rattle.drm_links.specs.Dock.{AreDifferent}
 use Rattle.link_group.specs.Listed.{AreListed}
 use Rattle.recv_reading.specs.Options.{AreInRange, IsWithinLimits}
@@ -20,6 +20,7 @@ AsksForNothing words = (request : Request) → AsksFor request words → ⊥
 -- its names are text, and its numbers are in their ranges
 abbrev pub IsRequestInRange : Request → Type 0
 IsRequestInRange (Check name) = IsUtf8 name
+IsRequestInRange (Capacity name) = IsUtf8 name
 IsRequestInRange (Serve name to pace from live) = IsUtf8 name × (from ≤ 1000000) × AreDifferent to
 IsRequestInRange (Receive (Some addresses) window reach first frames idle limit) = AreInRange (receive_options window reach first frames idle limit) × AreListed addresses
 IsRequestInRange (Receive None window reach first frames idle limit) = AreInRange (receive_options window reach first frames idle limit)

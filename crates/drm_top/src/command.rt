@@ -14,6 +14,7 @@ ghost use Rattle.drm_words.specs.declared.request.Request.{Request};
 
 use crate::words::{options_of, range_of, text};
 use cmd_air::air;
+use cmd_capacity::capacity;
 use cmd_convert::convert;
 use cmd_count::{count, count_capture};
 use cmd_exercise::exercise;
@@ -32,7 +33,8 @@ use std::thread::Threads;
 /// Runs one command line: the words that stand behind the program's name.
 ///
 /// `fac` reads the nine bytes of a FAC from `input` and writes its line to `out`. `check` reads a schedule and its files
-/// from `shelf` and writes its canonical text to `out`; `serve` reads them too and writes the datagrams of the schedule to
+/// from `shelf` and writes its canonical text to `out`; `capacity` reads them too and writes what each configuration uses of its
+/// channel; `serve` reads them too and writes the datagrams of the schedule to
 /// `out` as a capture, or sends them over links that it opens in `dock`; its live streams take their bytes from `input`. `receive` opens links in `dock`, or reads a capture
 /// from `input`, and writes their reports to `out`: that of one link or of a capture as it is read, those of several links,
 /// which are read side by side, when all have ended. `count` receives as `receive` does from one link or from a capture, and writes
@@ -43,7 +45,7 @@ use std::thread::Threads;
 ///
 /// The statuses are 0 done, 1 no memory, 2 no command line, 3 no FAC, no schedule, no script, no capture or no units, 4 a read
 /// of `input` or a load from `shelf` failed, 5 a write to `out` failed, 6 a link couldn't be opened or failed, 7 done, and
-/// something is missing or bad, or `input` had too few bytes for live streams; each from 1 to 6 writes a line to `err`.
+/// something is missing or bad, `input` had too few bytes for live streams, or a configuration doesn't fit its channel; each from 1 to 6 writes a line to `err`.
 pub fn run<R: Threads + Sync, S: Shelf, I: Source, O: Sink, E: Sink, D: Dock>(
     rt: &R,
     alloc: Global,
@@ -91,7 +93,7 @@ where
     ensures opening { OpeningFailed (D.known dock.old) (D.known dock.new) (result.code ≡ 6) }
     ensures dock { ((request : Request) → OpensALink request
         → AsksFor request (map string_bytes words.now) → ⊥) → dock.new ≡ dock.old }
-    // 7: the command reports what was received, or takes bytes of live streams from input.
+    // 7: the command reports what was received or what fits a channel, or takes bytes of live streams from input.
     ensures lacking { result.code ≡ 7 → (request : Request) × WritesReport request
         × AsksFor request (map string_bytes words.now) }
 {
@@ -189,6 +191,7 @@ where
     match request {
         Request::Fac => whole(fac(input, out)),
         Request::Check { name } => whole(check(alloc, text(name), shelf, out)),
+        Request::Capacity { name } => capacity(alloc, text(name), shelf, out),
         Request::Serve {
             name,
             to,

@@ -10,13 +10,13 @@ use Rattle.drm_links.specs.declared.dock.Address.{Address}
 use Rattle.drm_schedule.specs.declared.live.Live.{Live}
 use Rattle.dcp_pft.specs.declared.carry.Carry.{Carry}
 use Rattle.drm_words.specs.declared.request.Request.{Request}
-use Rattle.drm_words.specs.declared.request.Request.TheVariants.{Fac, Check, Serve, Receive, Count, Air, Show, Convert, Exercise, Gate, Pack, Unpack, Texts}
+use Rattle.drm_words.specs.declared.request.Request.TheVariants.{Fac, Check, Capacity, Serve, Receive, Count, Air, Show, Convert, Exercise, Gate, Pack, Unpack, Texts}
 use Rattle.cli_syntax.specs.Reading.{within}
 use Rattle.cli_syntax.specs.Addressing.{address_of, addresses_of, carry_of}
 use Rattle.drm_words.specs.declared.options.PacketOptions.{PacketOptions}
 use Rattle.drm_words.specs.declared.options.ReadingOptions.{ReadingOptions}
 use Rattle.drm_words.specs.Table.{CommandOptions, AreOf, IsRequest, serve_names, packet_names, reading_names}
-use Rattle.drm_words.specs.Asking.{addresses_or_none, address_or_none, window_of, packets_of, reading_of, pace_of, from_of, to_of, live_option, is_bare, bare_of, check_of, serve_asked, serve_of, receive_with, receive_of, count_with, count_of, air_with, air_of, convert_with, convert_of, exercise_with, exercise_of, gate_with, gate_of, pack_with, pack_of, unpack_with, unpack_of, texts_with, texts_of, request_of, asked_packets, asked_reading}
+use Rattle.drm_words.specs.Asking.{addresses_or_none, address_or_none, window_of, packets_of, reading_of, pace_of, from_of, to_of, live_option, is_bare, bare_of, check_of, capacity_of, serve_asked, serve_of, receive_with, receive_of, count_with, count_of, air_with, air_of, convert_with, convert_of, exercise_with, exercise_of, gate_with, gate_of, pack_with, pack_of, unpack_with, unpack_of, texts_with, texts_of, request_of, asked_packets, asked_reading}
 use Rattle.cli_syntax.proofs.OptionLemmas.{stepped}
 use Rattle.cli_syntax.proofs.NumberLemmas.{within_fits, within_is}
 use Rattle.cli_syntax.proofs.CarryLemmas.{carry_fits, carry_is}
@@ -48,6 +48,14 @@ check_fits (name ∷ []) options r e =
     let w = with_fits [] options (Some (Check name)) r e in
     subst (λ (x : Request). IsRequest x (codes "check") (name ∷ []) options) (same_Some (Check name) r w.1) (refl, refl, w.0)
 check_fits (name ∷ other ∷ more) options r e = absurd cc
+
+capacity_fits : (texts : List (List ℕ)) (options : CommandOptions) (r : Request) → capacity_of texts options ≡ Some r → IsRequest r (codes "capacity") texts options
+unfolding capacity_of
+capacity_fits [] options r e = absurd cc
+capacity_fits (name ∷ []) options r e =
+    let w = with_fits [] options (Some (Capacity name)) r e in
+    subst (λ (x : Request). IsRequest x (codes "capacity") (name ∷ []) options) (same_Some (Capacity name) r w.1) (refl, refl, w.0)
+capacity_fits (name ∷ other ∷ more) options r e = absurd cc
 
 serve_fits : (texts : List (List ℕ)) (options : CommandOptions) (r : Request) → serve_of texts options ≡ Some r → IsRequest r (codes "serve") texts options
 unfolding serve_of
@@ -208,6 +216,7 @@ request_fits command texts options r e =
     let at : (name : List ℕ) → name ≡ command → IsRequest r name texts options → P = λ name same row. subst (λ (x : List ℕ). IsRequest r x texts options) same row in
     chosen command (codes "fac") _ _ _ r P refl (λ same f. at (codes "fac") same (fac_fits texts options r f)) (λ e.
     chosen command (codes "check") _ _ _ r P refl (λ same f. at (codes "check") same (check_fits texts options r f)) (λ e.
+    chosen command (codes "capacity") _ _ _ r P refl (λ same f. at (codes "capacity") same (capacity_fits texts options r f)) (λ e.
     chosen command (codes "serve") _ _ _ r P refl (λ same f. at (codes "serve") same (serve_fits texts options r f)) (λ e.
     chosen command (codes "receive") _ _ _ r P refl (λ same f. at (codes "receive") same (receive_fits texts options r f)) (λ e.
     chosen command (codes "count") _ _ _ r P refl (λ same f. at (codes "count") same (count_fits texts options r f)) (λ e.
@@ -219,7 +228,7 @@ request_fits command texts options r e =
     chosen command (codes "pack") _ _ _ r P refl (λ same f. at (codes "pack") same (pack_fits texts options r f)) (λ e.
     chosen command (codes "unpack") _ _ _ r P refl (λ same f. at (codes "unpack") same (unpack_fits texts options r f)) (λ e.
     chosen command (codes "texts") _ _ _ r P refl (λ same f. at (codes "texts") same (texts_fits texts options r f)) (λ e. absurd cc)
-    e) e) e) e) e) e) e) e) e) e) e) e) e
+    e) e) e) e) e) e) e) e) e) e) e) e) e) e
 
 bare_is : (r : Request) (texts : List (List ℕ)) (options : CommandOptions) → texts ≡ [] → options ≡ [] → bare_of r texts options ≡ Some r
 bare_is r texts options e f = rw (e, f) refl
@@ -227,6 +236,10 @@ bare_is r texts options e f = rw (e, f) refl
 check_is : (name : List ℕ) (texts : List (List ℕ)) (options : CommandOptions) → IsRequest (Check name) (codes "check") texts options → check_of texts options ≡ Some (Check name)
 unfolding check_of
 check_is name texts options h = rw h.1 (with_is [] options (Some (Check name)) h.2)
+
+capacity_is : (name : List ℕ) (texts : List (List ℕ)) (options : CommandOptions) → IsRequest (Capacity name) (codes "capacity") texts options → capacity_of texts options ≡ Some (Capacity name)
+unfolding capacity_of
+capacity_is name texts options h = rw h.1 (with_is [] options (Some (Capacity name)) h.2)
 
 serve_is : (name : List ℕ) (to : List Address) (pace from : ℕ) (live : Live) (texts : List (List ℕ)) (options : CommandOptions) → IsRequest (Serve name to pace from live) (codes "serve") texts options
     → serve_of texts options ≡ Some (Serve name to pace from live)
@@ -290,6 +303,7 @@ pub request_is : (r : Request) (command : List ℕ) (texts : List (List ℕ)) (o
 unfolding request_of
 request_is Fac command texts options h = rw h.0 (bare_is Fac texts options h.1 (none_of options h.2))
 request_is (Check name) command texts options h = rw h.0 (check_is name texts options (refl, h.1, h.2))
+request_is (Capacity name) command texts options h = rw h.0 (capacity_is name texts options (refl, h.1, h.2))
 request_is (Serve name to pace from live) command texts options h = rw h.0 (serve_is name to pace from live texts options (refl, h.1, h.2, h.3, h.4, h.5, h.6))
 request_is (Receive addresses window reach first frames idle limit) command texts options h =
     rw h.0 (receive_is addresses window reach first frames idle limit texts options (refl, h.1, h.2, h.3))

@@ -3,7 +3,7 @@ use Rattle.std.specs.Prelude.{ℕ, ◌==◌, ◌&&◌, Bool, true, false, ◌||�
 use Rattle.std.specs.Str.{bytes_eq}
 use Rattle.drm_links.specs.declared.dock.Address.{Address}
 use Rattle.drm_words.specs.declared.request.Request.{Request}
-use Rattle.drm_words.specs.declared.request.Request.TheVariants.{Fac, Check, Serve, Receive, Count, Air, Show, Convert, Exercise, Gate, Pack, Unpack, Texts}
+use Rattle.drm_words.specs.declared.request.Request.TheVariants.{Fac, Check, Capacity, Serve, Receive, Count, Air, Show, Convert, Exercise, Gate, Pack, Unpack, Texts}
 use Rattle.cli_syntax.specs.Reading.{within}
 use Rattle.cli_syntax.specs.Addressing.{◌>>=◌, address_of, addresses_of, carry_of}
 use Rattle.drm_words.specs.declared.options.PacketOptions.{PacketOptions}
@@ -116,6 +116,10 @@ unfoldable pub check_of : List (List ℕ) → CommandOptions → Option Request
 check_of (name ∷ []) options = with_options [] options (Some (Check name))
 check_of _ options = None
 
+unfoldable pub capacity_of : List (List ℕ) → CommandOptions → Option Request
+capacity_of (name ∷ []) options = with_options [] options (Some (Capacity name))
+capacity_of _ options = None
+
 abbrev pub serve_with : List ℕ → List Address → Live → CommandOptions → Option Request
 serve_with name to live options = do
   pace ← pace_of options
@@ -221,6 +225,7 @@ unfoldable pub request_of : List ℕ → List (List ℕ) → CommandOptions → 
 request_of command texts options =
     if bytes_eq command (codes "fac") then bare_of Fac texts options
     else if bytes_eq command (codes "check") then check_of texts options
+    else if bytes_eq command (codes "capacity") then capacity_of texts options
     else if bytes_eq command (codes "serve") then serve_of texts options
     else if bytes_eq command (codes "receive") then receive_of texts options
     else if bytes_eq command (codes "count") then count_of texts options

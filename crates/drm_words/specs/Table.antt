@@ -3,7 +3,7 @@ use Rattle.std.specs.Prelude.{ℕ, ◌≡◌, ◌⊎◌, List, [], ◌∷◌, �
 use Rattle.std.specs.Str.{bytes_eq}
 use Rattle.drm_links.specs.declared.dock.Address.{Address}
 use Rattle.drm_words.specs.declared.request.Request.{Request}
-use Rattle.drm_words.specs.declared.request.Request.TheVariants.{Fac, Check, Serve, Receive, Count, Air, Show, Convert, Exercise, Gate, Pack, Unpack, Texts}
+use Rattle.drm_words.specs.declared.request.Request.TheVariants.{Fac, Check, Capacity, Serve, Receive, Count, Air, Show, Convert, Exercise, Gate, Pack, Unpack, Texts}
 use Rattle.cli_syntax.specs.Numbers.{IsNumberWithin}
 use Rattle.cli_syntax.specs.Addresses.{IsAddress, AreAddresses}
 use Rattle.cli_syntax.specs.Carries.{IsCarry}
@@ -92,6 +92,8 @@ abbrev pub IsRequest : Request → List ℕ → List (List ℕ) → CommandOptio
 IsRequest Fac command texts options = (command ≡ codes "fac") × (texts ≡ []) × AreOf [] options
 -- check NAME
 IsRequest (Check name) command texts options = (command ≡ codes "check") × (texts ≡ name ∷ []) × AreOf [] options
+-- capacity NAME
+IsRequest (Capacity name) command texts options = (command ≡ codes "capacity") × (texts ≡ name ∷ []) × AreOf [] options
 -- serve NAME [--to ADDRS] [--pace MS] [--from N] [--live LIST]
 IsRequest (Serve name to pace from live) command texts options =
     (command ≡ codes "serve") × (texts ≡ name ∷ []) × AreOf serve_names options
@@ -142,6 +144,7 @@ IsRequest (Texts stream window reach first frames) command texts options =
 -- each name is text
 abbrev pub HasTextNames : Request → Type 0
 HasTextNames (Check name) = IsUtf8 name
+HasTextNames (Capacity name) = IsUtf8 name
 HasTextNames (Serve name to pace from live) = IsUtf8 name
 HasTextNames (Air name script window) = IsUtf8 name × IsUtf8 script
 HasTextNames _ = Unit {0}

@@ -14,6 +14,10 @@ pub enum Request {
     Check {
         name: Octets,
     },
+    /// Print what a schedule uses of its channels, and what doesn't fit.
+    Capacity {
+        name: Octets,
+    },
     /// Send a schedule's datagrams to addresses, or write them out as a capture where there is none.
     Serve {
         name: Octets,

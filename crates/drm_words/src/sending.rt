@@ -2,7 +2,7 @@
 
 ghost use Rattle.std.specs.Prelude.{◌≡◌, IfOk, IfSome, IsUtf8, map};
 ghost use Rattle.cli_syntax.specs.Arguing.{option_said};
-ghost use Rattle.drm_words.specs.Asking.{check_of, serve_with, serve_of, air_with, air_of, exercise_with, exercise_of};
+ghost use Rattle.drm_words.specs.Asking.{check_of, capacity_of, serve_with, serve_of, air_with, air_of, exercise_with, exercise_of};
 ghost use Rattle.cli_syntax.specs.Gives.{ParserGives};
 ghost use Rattle.drm_words.specs.Table.{HasTextNames};
 
@@ -33,6 +33,26 @@ pub(crate) fn check(
     }
     let name = octets(alloc, name)?;
     Ok(Request::Check { name })
+}
+
+// capacity NAME
+#[tactic(auto, unfolding(crate::specs::Asking::capacity_of))]
+pub(crate) fn capacity(
+    alloc: Global,
+    texts: &[&str],
+    options: &[Named<'_>],
+) -> Result<Request, WordsFault>
+    ensures gives { ParserGives result (capacity_of (map (λ text. text.now) texts.now) (map option_said options.now)) }
+    ensures text { IfOk result HasTextNames }
+{
+    let [name] = texts else {
+        return Err(WordsFault::Words);
+    };
+    if !are_of(&[], options) {
+        return Err(WordsFault::Words);
+    }
+    let name = octets(alloc, name)?;
+    Ok(Request::Capacity { name })
 }
 
 fn serve_with(name: Octets, to: Addresses, live: Live, options: &[Named<'_>]) -> Option<Request>

@@ -43,6 +43,20 @@ returns-in-Check g c = record {
   dock = λ none. refl;
 }
 
+pub returns-in-Capacity : goal.returns-in-Capacity
+returns-in-Capacity g c = record {
+  words = λ e. c.capacity.ensures.words e;
+  memory = λ e. (refl, c.capacity.ensures.memory e);
+  run = rw c.in-Capacity.is (rw (← c.text-in-Capacity.ensures) c.capacity.ensures.run, refl, refl, (c.requires.err_ok, refl));
+  read = λ _. other_alone refl c.capacity.ensures.read;
+  write = c.capacity.ensures.write;
+  opening = inl refl;
+  link = λ e. absurd (c.capacity.ensures.link e);
+  lacking = λ e. rw c.in-Capacity.is tt;
+  unsent = λ e. dock_still (g.D.Dock.known c.args.dock.now);
+  dock = λ none. refl;
+}
+
 -- a capture of a schedule whose live streams take their bytes from input
 pub returns-then-is_empty : goal.returns-then-is_empty
 returns-then-is_empty g c =

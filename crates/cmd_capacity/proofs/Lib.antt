@@ -1,0 +1,4 @@
+pub mod ChannelLemmas
+pub mod CountLemmas
+pub mod RunLemmas
+pub mod SumLemmas

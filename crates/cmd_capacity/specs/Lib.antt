@@ -1,0 +1,4 @@
+pub mod Asked
+pub mod Pieces
+pub mod Report
+pub mod Run

@@ -1,0 +1,11 @@
+//! A piece of a line.
+
+/// What a piece says.
+#[derive(Clone, Copy)]
+pub(crate) enum Piece<'a> {
+    Words(&'a str),
+    /// A number in decimal.
+    Number(u32),
+    /// The same, or `-` for none.
+    Maybe(Option<u32>),
+}
