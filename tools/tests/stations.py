@@ -7,9 +7,9 @@ import running
 
 import playlists
 
-# `check` prints the schedule's text, `capacity` the lines that comments say, with 7 if one is of what is over. `serve` notes when it was begun with which words, and lasts as long as it would; with live streams it
-# takes a byte for each frame. Once it fails at its beginning with the status in the file `failing`, and once at its end with that in
-# `ending`, if they are there.
+# `check` prints the schedule's text, `capacity` the lines that comments say, with 7 if one is of what is over. `serve` notes when it was
+# begun with which words, and lasts as long as it would; with live streams it takes a byte for each frame. Once it fails at its beginning
+# with the status in the file `failing`, and once at its end with that in `ending`, if they are there.
 PROGRAM = """#!/bin/sh
 for name; do :; done
 if grep -q wrong "$name"; then

@@ -2,7 +2,7 @@
 
 /// What a piece says.
 #[derive(Clone, Copy)]
-pub(crate) enum Piece<'a> {
+pub(crate) enum LinePiece<'a> {
     Words(&'a str),
     /// A number in decimal.
     Number(u32),

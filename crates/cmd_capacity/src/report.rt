@@ -6,7 +6,7 @@ ghost use Rattle.cmd_capacity.specs.Asked.{HasChannel};
 ghost use Rattle.cmd_capacity.specs.Pieces.{piece_text, text_of};
 ghost use Rattle.cmd_capacity.specs.Report as lines;
 
-use crate::piece::Piece;
+use crate::piece::LinePiece;
 use crate::setup::used_by;
 use drm_bits::NoMemory;
 use drm_channel::Usage;
@@ -14,19 +14,19 @@ use drm_schedule::{Config, Schedule};
 use itoa::Buffer;
 use std::alloc::{AllocError, Global};
 
-fn put_piece(out: &mut Vec<u8>, piece: Piece<'_>) -> Result<(), AllocError>
+fn put_piece(out: &mut Vec<u8>, piece: LinePiece<'_>) -> Result<(), AllocError>
     ensures { OnOk result (out.new.items ≡ out.old.items ++ piece_text piece.entry) }
 {
     match piece {
-        Piece::Words(words) => out.extend_from_slice(words.as_bytes()),
-        Piece::Number(n) | Piece::Maybe(Some(n)) => {
+        LinePiece::Words(words) => out.extend_from_slice(words.as_bytes()),
+        LinePiece::Number(n) | LinePiece::Maybe(Some(n)) => {
             out.extend_from_slice(Buffer::new().format(n).as_bytes())
         }
-        Piece::Maybe(None) => out.extend_from_slice(b"-"),
+        LinePiece::Maybe(None) => out.extend_from_slice(b"-"),
     }
 }
 
-fn put(out: &mut Vec<u8>, pieces: &[Piece<'_>]) -> Result<(), AllocError>
+fn put(out: &mut Vec<u8>, pieces: &[LinePiece<'_>]) -> Result<(), AllocError>
     ensures { OnOk result (out.new.items ≡ out.old.items ++ text_of pieces.now) }
 {
     for piece in pieces {
@@ -39,25 +39,25 @@ fn put_usage(out: &mut Vec<u8>, start: u32, usage: &Usage) -> Result<(), AllocEr
     ensures { OnOk result (out.new.items ≡ out.old.items ++ lines.usage_line start usage.now) }
 {
     let line = [
-        Piece::Words("config "),
-        Piece::Number(start),
-        Piece::Words(" cells "),
-        Piece::Number(usage.cells),
-        Piece::Words(" part-a "),
-        Piece::Number(u32::from(usage.part_a)),
-        Piece::Words(" cells "),
-        Piece::Maybe(usage.part_a_cells),
-        Piece::Words(" part-b "),
-        Piece::Number(u32::from(usage.part_b)),
-        Piece::Words(" of "),
-        Piece::Maybe(usage.part_b_room),
-        Piece::Words(" sdc "),
-        Piece::Number(u32::from(usage.sdc)),
-        Piece::Words(" of "),
-        Piece::Number(u32::from(usage.sdc_room)),
-        Piece::Words(" rate "),
-        Piece::Number(usage.rate()),
-        Piece::Words("\n"),
+        LinePiece::Words("config "),
+        LinePiece::Number(start),
+        LinePiece::Words(" cells "),
+        LinePiece::Number(usage.cells),
+        LinePiece::Words(" part-a "),
+        LinePiece::Number(u32::from(usage.part_a)),
+        LinePiece::Words(" cells "),
+        LinePiece::Maybe(usage.part_a_cells),
+        LinePiece::Words(" part-b "),
+        LinePiece::Number(u32::from(usage.part_b)),
+        LinePiece::Words(" of "),
+        LinePiece::Maybe(usage.part_b_room),
+        LinePiece::Words(" sdc "),
+        LinePiece::Number(u32::from(usage.sdc)),
+        LinePiece::Words(" of "),
+        LinePiece::Number(u32::from(usage.sdc_room)),
+        LinePiece::Words(" rate "),
+        LinePiece::Number(usage.rate()),
+        LinePiece::Words("\n"),
     ];
     put(out, &line)
 }
@@ -76,12 +76,12 @@ fn put_unfit_if(
         return Ok(());
     }
     let line = [
-        Piece::Words(how),
-        Piece::Words(" "),
-        Piece::Number(start),
-        Piece::Words(" "),
-        Piece::Words(what),
-        Piece::Words("\n"),
+        LinePiece::Words(how),
+        LinePiece::Words(" "),
+        LinePiece::Number(start),
+        LinePiece::Words(" "),
+        LinePiece::Words(what),
+        LinePiece::Words("\n"),
     ];
     put(out, &line)
 }
@@ -118,11 +118,11 @@ fn put_end(out: &mut Vec<u8>, configs: u32, unfit: u32) -> Result<(), AllocError
     ensures { OnOk result (out.new.items ≡ out.old.items ++ lines.end_line configs unfit) }
 {
     let line = [
-        Piece::Words("end configs "),
-        Piece::Number(configs),
-        Piece::Words(" unfit "),
-        Piece::Number(unfit),
-        Piece::Words("\n"),
+        LinePiece::Words("end configs "),
+        LinePiece::Number(configs),
+        LinePiece::Words(" unfit "),
+        LinePiece::Number(unfit),
+        LinePiece::Words("\n"),
     ];
     put(out, &line)
 }
