@@ -253,8 +253,8 @@ def differences(program, case):
 # What is said behind a refusal of the words or a fault, by the words: the last line of standard error. Expected is what this system says.
 LINES = {
     "drmcast": {
-        "": "no words: a command comes first, one of fac check serve receive count air show convert gate pack unpack texts exercise",
-        "serv it": "serv: a command comes first, one of fac check serve receive count air show convert gate pack unpack texts exercise",
+        "": "no words: a command comes first, one of fac check capacity serve receive count air show convert gate pack unpack texts exercise",
+        "serv it": "serv: a command comes first, one of fac check capacity serve receive count air show convert gate pack unpack texts exercise",
         "show l.cap": "l.cap: show reads standard input: < l.cap",
         "receive l.cap": "l.cap: ADDRS: an address is four numbers and a port, as 192.0.2.7:5000; 1 to 16 of them, all different, are joined by "
                          "commas; a capture comes on standard input: < l.cap",
