@@ -1,0 +1,2 @@
+pub mod EachModulator
+pub mod KnownRuns
