@@ -177,12 +177,6 @@ pub const COMMANDS: &[Command] = &[
         options: &[],
     },
     Command {
-        name: "capacity",
-        words: &[NAME],
-        reads_input: false,
-        options: &[],
-    },
-    Command {
         name: "serve",
         words: &[NAME],
         reads_input: false,
