@@ -18,11 +18,13 @@
 use cli_mistakes::words_mistake;
 use cli_program::given_words;
 use drm_adapt::{Edge, FileShelf, StreamSink, StreamSource, UdpDock};
+use drm_links::{Dock, Link, Shelf, Sink, Source};
 use drm_top::{no_memory, run};
 use std::alloc::Global;
 use std::env;
-use std::io::Eprint;
+use std::io::{self, Eprint};
 use std::process::ExitCode;
+use std::thread::Threads;
 
 /// The status where the words are no command line.
 const WORDS: u8 = 2;
@@ -36,29 +38,52 @@ fn main(rt: HostRuntime) -> ExitCode {
     let words = given_words(alloc, env::args(&rt));
     let mut shelf = FileShelf::new(&edge);
     let mut dock = UdpDock::new(&edge);
-    let status = match &words {
-        Ok(words) => run(
+    let code = match &words {
+        Ok(words) => status_of(
             &rt, alloc, words, &mut shelf, &mut input, &mut out, &mut err, &mut dock,
         ),
-        Err(_) => no_memory(&mut err),
+        Err(_) => no_memory(&mut err).code,
     };
-    if let (Ok(words), WORDS) = (&words, status.code) {
-        say_mistake(&edge, alloc, words);
+    if let Ok(words) = &words {
+        say_mistake(&edge, alloc, words, code);
     }
     dock.say_faults();
     shelf.say_fault();
-    if let Some(fault) = input.fault() {
-        edge.say_fault("standard input", fault);
-    }
-    if let Some(fault) = out.fault() {
-        edge.say_fault("standard output", fault);
-    }
-    ExitCode::from(status.code)
+    say_fault(&edge, "standard input", input.fault());
+    say_fault(&edge, "standard output", out.fault());
+    ExitCode::from(code)
+}
+
+// The status of a run. What is said afterwards rests on nothing that `run` promises, so its clauses end here.
+fn status_of<R: Threads + Sync, S: Shelf, I: Source, O: Sink, E: Sink, D: Dock>(
+    rt: &R,
+    alloc: Global,
+    words: &[String],
+    shelf: &mut S,
+    input: &mut I,
+    out: &mut O,
+    err: &mut E,
+    dock: &mut D,
+) -> u8
+where
+    D::L: Link + Send,
+{
+    run(rt, alloc, words, shelf, input, out, err, dock).code
 }
 
 // Which word is wrong, and what could stand there.
-fn say_mistake<R: Eprint>(edge: &Edge<'_, R>, alloc: Global, words: &[String]) {
+fn say_mistake<R: Eprint>(edge: &Edge<'_, R>, alloc: Global, words: &[String], code: u8) {
+    if code != WORDS {
+        return;
+    }
     if let Some(mistake) = words_mistake(alloc, words) {
         edge.say_about(mistake.word.unwrap_or("no words"), mistake.expected);
+    }
+}
+
+// Why a stream failed, if it did.
+fn say_fault<R: Eprint>(edge: &Edge<'_, R>, stream: &str, fault: Option<io::Error>) {
+    if let Some(fault) = fault {
+        edge.say_fault(stream, fault);
     }
 }
