@@ -1,4 +1,3 @@
 pub mod ChannelLemmas
-pub mod CountLemmas
 pub mod RunLemmas
 pub mod SumLemmas
