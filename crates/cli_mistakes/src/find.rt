@@ -133,12 +133,17 @@ fn word_mistake<'a>(
         given.get(command.words.len()),
     ) {
         (_, Some(text)) => Some(Mistake::new(Some(text), beyond(command, text))),
-        (Some(word), None) => {
+        (Some(word), None) if !is_optional(command, word.value) => {
             let before = given.last().copied().unwrap_or(name);
             Some(Mistake::new(Some(before), Expected::Missing { word: *word }))
         }
-        (None, None) => None,
+        _ => None,
     }
+}
+
+// Whether the command reads its input where no such word stands.
+fn is_optional(command: Command, value: Value) -> bool {
+    command.reads_input && matches!(value, Value::Address | Value::Addresses { .. })
 }
 
 // What a word means where none has a place.
