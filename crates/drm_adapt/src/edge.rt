@@ -2,7 +2,8 @@
 
 use crate::names::readable;
 use crate::refusals::Acceptance;
-use jiff::Timestamp;
+use jiff_core::civil::DateTime;
+use jiff_core::{Offset, Timestamp};
 use std::alloc::Global;
 use std::fmt::Display;
 use std::io::{self, Eprint};
@@ -68,9 +69,11 @@ impl<R: Eprint> Edge<'_, R> {
             .eprintln(format_args!("{program}: {subject}: {text}"));
     }
 
-    /// Writes why a call failed: the system's words, and its number where it has one.
-    pub fn say_fault<S: Display + Drop>(&self, subject: S, fault: io::Error) {
-        if let Ok(reason) = self.reason(fault) {
+    /// Writes why a call failed, if it did: the system's words, and its number where it has one.
+    pub fn say_fault<S: Display + Drop>(&self, subject: S, fault: Option<io::Error>) {
+        if let Some(fault) = fault
+            && let Ok(reason) = self.reason(fault)
+        {
             self.say(subject, reason);
         }
     }
@@ -90,10 +93,18 @@ impl<R: Eprint> Edge<'_, R> {
     }
 
     fn say_refused(&self, dest: SocketAddr, since: Option<SystemTime>, reason: &str) {
-        match since.and_then(in_seconds) {
-            Some(since) => self.say(dest, format_args!("refused since {since}: {reason}")),
-            None => self.say(dest, format_args!("refused: {reason}")),
-        }
+        let Some(DateTime { date, time }) = since.and_then(in_utc) else {
+            self.say(dest, format_args!("refused: {reason}"));
+            return;
+        };
+        let (year, month, day) = (date.year, date.month, date.day);
+        let (hour, minute, second) = (time.hour, time.minute, time.second);
+        self.say(
+            dest,
+            format_args!(
+                "refused since {year:04}-{month:02}-{day:02}T{hour:02}:{minute:02}:{second:02}Z: {reason}"
+            ),
+        );
     }
 
     // The system's words for a fault, and its number where it has one.
@@ -109,10 +120,12 @@ impl<R: Eprint> Edge<'_, R> {
     }
 }
 
-// A person needs no part of a second.
-fn in_seconds(moment: SystemTime) -> Option<Timestamp> {
-    let moment = Timestamp::try_from(moment).ok()?;
-    Timestamp::from_second(moment.as_second()).ok()
+// A moment from 1970 on, in UTC.
+fn in_utc(moment: SystemTime) -> Option<DateTime> {
+    let passed = moment.duration_since(SystemTime::UNIX_EPOCH).ok()?;
+    let nanoseconds = i128::from(passed.as_secs()) * 1_000_000_000;
+    let instant = Timestamp::from_nanosecond(nanoseconds).ok()?;
+    Some(Offset::UTC.to_datetime(instant))
 }
 
 fn before_number(text: &str) -> &str {

@@ -43,7 +43,7 @@ impl<'a, R: Net + Clock + Eprint> UdpDock<'a, R> {
     /// Writes a line for each link that failed or couldn't be opened, in the order in which that came out.
     pub fn say_faults(&self) {
         for failure in &self.failures {
-            self.edge.say_fault(failure.at, failure.fault);
+            self.edge.say_fault(failure.at, Some(failure.fault));
         }
     }
 

@@ -22,7 +22,7 @@ use drm_links::{Dock, Link, Shelf, Sink, Source};
 use drm_top::{no_memory, run};
 use std::alloc::Global;
 use std::env;
-use std::io::{self, Eprint};
+use std::io::Eprint;
 use std::process::ExitCode;
 use std::thread::Threads;
 
@@ -49,8 +49,8 @@ fn main(rt: HostRuntime) -> ExitCode {
     }
     dock.say_faults();
     shelf.say_fault();
-    say_fault(&edge, "standard input", input.fault());
-    say_fault(&edge, "standard output", out.fault());
+    edge.say_fault("standard input", input.fault());
+    edge.say_fault("standard output", out.fault());
     ExitCode::from(code)
 }
 
@@ -78,12 +78,5 @@ fn say_mistake<R: Eprint>(edge: &Edge<'_, R>, alloc: Global, words: &[String], c
     }
     if let Some(mistake) = words_mistake(alloc, words) {
         edge.say_about(mistake.word.unwrap_or("no words"), mistake.expected);
-    }
-}
-
-// Why a stream failed, if it did.
-fn say_fault<R: Eprint>(edge: &Edge<'_, R>, stream: &str, fault: Option<io::Error>) {
-    if let Some(fault) = fault {
-        edge.say_fault(stream, fault);
     }
 }

@@ -20,7 +20,7 @@ use drm_adapt::{Edge, StreamSink, UdpDock};
 use drm_links::{Dock, Link, Sink};
 use std::alloc::Global;
 use std::env;
-use std::io::{self, Eprint};
+use std::io::Eprint;
 use std::process::ExitCode;
 use std::sync::Wait;
 use std::thread::Threads;
@@ -43,7 +43,7 @@ fn main(rt: HostRuntime) -> ExitCode {
         say_mistake(&edge, alloc, words, code);
     }
     dock.say_faults();
-    say_fault(&edge, "standard output", out.fault());
+    edge.say_fault("standard output", out.fault());
     ExitCode::from(code)
 }
 
@@ -69,12 +69,5 @@ fn say_mistake<R: Eprint>(edge: &Edge<'_, R>, alloc: Global, words: &[String], c
     }
     if let Some(mistake) = paths_mistake(alloc, words) {
         edge.say_about(mistake.word.unwrap_or("no words"), mistake.expected);
-    }
-}
-
-// Why a stream failed, if it did.
-fn say_fault<R: Eprint>(edge: &Edge<'_, R>, stream: &str, fault: Option<io::Error>) {
-    if let Some(fault) = fault {
-        edge.say_fault(stream, fault);
     }
 }
