@@ -173,10 +173,10 @@ def sends_through(program, folder, breaks, mends, gateway=False, receiver=False)
 
 
 def waits_for_socket(run):
-    """Until a program has bound one, for ten seconds."""
+    """Until a program has bound port 5000 or 5001, for ten seconds. Before it has entered its namespace it has other sockets."""
     for _ in range(100):
         with open(f"/proc/{run.pid}/net/udp", encoding="ascii") as it:
-            if len(it.readlines()) > 1:
+            if re.search(r":138[89] ", it.read()):
                 return
         time.sleep(0.1)
 
