@@ -266,10 +266,10 @@ sdc 0
 protection 0 1
 room 76
 service e0d201 0 0 5 audio 0 0
-stream 4000 4000 fill 00
-stream 4000 4000 fill 00
-stream 4000 4000 fill 00
-stream 4000 4000 fill 00
+stream 4060 4080 fill 00
+stream 4060 4080 fill 00
+stream 4060 4080 fill 00
+stream 4060 4080 fill 00
 block 0
 audio 0 0 0 1 0 3 0 0 0
 """
