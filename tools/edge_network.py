@@ -6,19 +6,16 @@
 A server, a gateway and a receiver go on while a route, an address or an interface is gone or a packet filter drops what is sent, for half
 a second or for more than a minute, and say on standard error when that began and when it ended; a modulator whose route comes late is
 served from then on, and one whose line is stuck keeps fifteen others from no moment; a single address that is wrong from the beginning
-ends the run at once. A group's address is sent to and received at where the kernel joins it (docs/OPERATION.md, "By multicast"). After a halt a server's frames go out at most four times as fast as the pace until they are on time; streams that
-don't block are waited for. What needs a network is tried in network namespaces of its own, which want root, `ip` and `tc` (iproute2) and
+ends the run at once. A group's address is sent to and received at where the kernel joins it (docs/OPERATION.md, "By multicast"). After a halt a server's
+frames go out at most four times as fast as the pace until they are on time; streams that don't block are waited for. What needs a network is tried in network namespaces of its own, which want root, `ip` and `tc` (iproute2) and
 `nft` (nftables), and is skipped where one of these isn't there. It takes about 90 seconds, most of them a network that is down for 66;
 --quick leaves that out. Status 1 where one of the trials fails.
 """
 import concurrent.futures
 import contextlib
-import ctypes
-import datetime
 import fcntl
 import itertools
 import os
-import re
 import selectors
 import shutil
 import signal
@@ -31,9 +28,10 @@ import time
 
 import command_line
 import pace
+from networks import ACCEPTED, FRAMES, HERE, REFUSED, THERE, Network, complaints_of, complaints_of_lines, joins, missing_of, seconds_ago
+from networks import sockets_in, waits_for_socket
 
-FRAMES, PACE = 150, 20
-HERE, THERE = "10.77.0.1", "10.77.0.2"
+PACE = 20
 # a second address of the receiver's, to which no route leads at first
 LATE = "10.99.0.1"
 # groups of multicast
@@ -55,54 +53,8 @@ TROUBLES = {
 # more of them would keep one another from their moments
 SIDE_BY_SIDE = 4
 SECONDS_DOWN = 66
-REFUSED = re.compile(r"drmcast: (?P<at>[\d.:]+): refused since (?P<since>\d{4}-\d\d-\d\dT\d\d:\d\d:\d\dZ): (?P<reason>[^()]+) \(\d+\)")
-ACCEPTED = re.compile(r"drmcast: (?P<at>[\d.:]+): accepted again, (?P<lost>\d+) datagrams lost")
 # what Linux has and Python's modules don't name
-CLONE_NEWNET, IP_RECVTTL = 0x40000000, 12
-NUMBERS = itertools.count()
-
-
-class Network:
-    """Two namespaces with an address each, one link apart."""
-
-    def __init__(self):
-        name = f"edge{os.getpid()}-{next(NUMBERS)}"
-        self.here, self.there = f"{name}-here", f"{name}-there"
-
-    def __enter__(self):
-        for name in (self.here, self.there):
-            subprocess.run(["ip", "netns", "add", name], check=True)
-        self.runs(self.here, f"ip link add here type veth peer name there netns {self.there}")
-        for name, device, at in ((self.here, "here", HERE), (self.there, "there", THERE)):
-            self.runs(name, f"ip address add {at}/30 dev {device}")
-            self.runs(name, f"ip link set {device} up")
-            self.runs(name, "ip link set lo up")
-        time.sleep(0.2)
-        return self
-
-    def __exit__(self, *_):
-        for name in (self.here, self.there):
-            subprocess.run(["ip", "netns", "del", name], check=False)
-
-    def runs(self, name, command):
-        words = command.split() if isinstance(command, str) else command
-        subprocess.run(["ip", "netns", "exec", name, *words], check=True)
-
-    @contextlib.contextmanager
-    def reports(self, name, *words):
-        """A program in a namespace, and all that it will have printed, which is read meanwhile: a full pipe would halt it."""
-        with self.starts(name, *words) as run, concurrent.futures.ThreadPoolExecutor(1) as reader:
-            waits_for_socket(run)
-            yield reader.submit(run.stdout.read)
-
-    @contextlib.contextmanager
-    def starts(self, name, *words):
-        """A program in a namespace, which is gone afterwards."""
-        with subprocess.Popen(["ip", "netns", "exec", name, *words], stdout=subprocess.PIPE, stderr=subprocess.PIPE, text=True) as run:
-            try:
-                yield run
-            finally:
-                run.kill()
+IP_RECVTTL = 12
 
 
 def plan_of(folder, frames=FRAMES):
@@ -111,39 +63,6 @@ def plan_of(folder, frames=FRAMES):
 
 def serves(program, plan, to, millis=PACE):
     return [program, "serve", plan, "--to", to, "--pace", str(millis)]
-
-
-def missing_of(report):
-    """The numbers of the frames that a report misses."""
-    return [int(it) for it in re.findall(r"^missing (\d+)", report, re.MULTILINE)]
-
-
-def complaints_of(report, frames=FRAMES):
-    """What is wrong with a report of frames of which one stretch is lost, and the others came in time."""
-    end = re.search(r"^end (\w+) given (\d+) missing (\d+) bad 0 refused 0$", report, re.MULTILINE)
-    if end is None:
-        return [f"the report ends with {report.splitlines()[-1:]}"]
-    given, missing = int(end[2]), int(end[3])
-    lost = missing_of(report)
-    said = [] if given + missing == frames else [f"{given} given and {missing} missing of {frames}"]
-    said += [] if lost and lost == list(range(lost[0], lost[-1] + 1)) else [f"lost were {lost}"]
-    return said + ([] if lost and lost[-1] < frames - 10 else ["nothing came once it was mended"])
-
-
-def complaints_of_lines(text, at, lost):
-    """What is wrong with lines that say that sends to an address were refused, and are accepted again, so many datagrams later."""
-    refused = [it for it in map(REFUSED.fullmatch, text.splitlines()) if it]
-    accepted = [it for it in map(ACCEPTED.fullmatch, text.splitlines()) if it]
-    if len(text.splitlines()) != 2 or [len(refused), len(accepted)] != [1, 1]:
-        return [f"standard error has {text.splitlines()}"]
-    said = [] if refused[0]["at"] == accepted[0]["at"] == at else [f"the lines name {refused[0]['at']} and {accepted[0]['at']}"]
-    return said + ([] if int(accepted[0]["lost"]) == lost else [f"{accepted[0]['lost']} lost by the line, {lost} by the report"])
-
-
-def seconds_ago(line):
-    """How long ago the moment in a line was."""
-    since = datetime.datetime.fromisoformat(REFUSED.fullmatch(line)["since"].replace("Z", "+00:00"))
-    return (datetime.datetime.now(datetime.timezone.utc) - since).total_seconds()
 
 
 def sends_through(program, folder, breaks, mends, gateway=False, receiver=False):
@@ -170,15 +89,6 @@ def sends_through(program, folder, breaks, mends, gateway=False, receiver=False)
         if not receiver:
             said += complaints_of_lines(ended[0].stderr.read(), f"{THERE}:5000", len(missing_of(text)))
     return said + complaints_of(text)
-
-
-def waits_for_socket(run):
-    """Until a program has bound port 5000 or 5001, for ten seconds. Before it has entered its namespace it has other sockets."""
-    for _ in range(100):
-        with open(f"/proc/{run.pid}/net/udp", encoding="ascii") as it:
-            if re.search(r":138[89] ", it.read()):
-                return
-        time.sleep(0.1)
 
 
 def fails_at_once(program, folder):
@@ -275,22 +185,6 @@ audio 0 0 0 1 0 3 0 0 0
 """
 
 
-def sockets_in(name, addresses):
-    """Sockets that receive at addresses of a namespace, made by a thread that has entered it."""
-    def make():
-        with open(f"/run/netns/{name}", encoding="ascii") as it:
-            if ctypes.CDLL(None, use_errno=True).setns(it.fileno(), CLONE_NEWNET):
-                raise OSError(ctypes.get_errno(), "setns")
-        made = []
-        for at in addresses:
-            made.append(socket.socket(socket.AF_INET, socket.SOCK_DGRAM))
-            made[-1].setsockopt(socket.SOL_SOCKET, socket.SO_RCVBUF, 1 << 22)
-            made[-1].bind(at)
-        return made
-    with concurrent.futures.ThreadPoolExecutor(1) as pool:
-        return pool.submit(make).result()
-
-
 def first_moments(sockets, frames):
     """When the first fragment of each frame came, by socket; until every frame has, or nothing more comes for five seconds."""
     moments = {it: {} for it in sockets}
@@ -332,11 +226,6 @@ def one_is_stuck(program, folder):
     said += [] if off < 0.1 else [f"{off * 1000:.0f} ms off"]
     refused = [it for it in map(REFUSED.fullmatch, lines) if it]
     return said + ([] if refused and all(it["at"] == f"{STUCK}:5000" for it in refused) else [f"standard error has {lines}"])
-
-
-def joins(net, name, device, group):
-    """Has the kernel of a namespace join a group, as docs/OPERATION.md says."""
-    net.runs(name, f"ip address add {group}/32 dev {device} autojoin")
 
 
 def goes_to_a_group(program, folder, gateway=False):
