@@ -260,6 +260,8 @@ LINES = {
                          "commas; a capture comes on standard input: < l.cap",
         "check": "check: NAME is missing: the name of a file",
         "check a b": "b: check takes no further word",
+        "serve a --to 127.0.0.1:1 127.0.0.1:2": "127.0.0.1:2: serve takes no further word; several addresses, or streams, are one word, joined by commas",
+        "serve a --live 0 1": "1: serve takes no further word; several addresses, or streams, are one word, joined by commas",
         "air a": "a: SCRIPT is missing: the name of a file",
         "serve a --to localhost:5000": "localhost:5000: --to: an address is four numbers and a port, as 192.0.2.7:5000; 1 to 16 of them, all "
                                        "different, are joined by commas",

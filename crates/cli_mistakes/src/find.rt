@@ -153,6 +153,8 @@ fn beyond(command: Command, text: &str) -> Expected<'_> {
             of: command,
             file: text,
         }
+    } else if address(text).is_some() || within(text, 0, 3).is_some() {
+        Expected::Joined { of: command }
     } else {
         Expected::Nothing { of: command }
     }

@@ -37,6 +37,8 @@ pub enum Expected<'a> {
     NoSecond,
     /// No plain word.
     Nothing { of: Command },
+    /// No plain word; the value of the option before it is one word.
+    Joined { of: Command },
     /// No plain word; what it names comes on standard input.
     Input { of: Command, file: &'a str },
     /// An address, or no plain word; what it names comes on standard input.
@@ -56,6 +58,11 @@ impl Display for Expected<'_> {
             Expected::Something => write!(f, "this option has a value behind it"),
             Expected::NoSecond => write!(f, "this option is given twice"),
             Expected::Nothing { of } => write!(f, "{} takes no further word", of.name),
+            Expected::Joined { of } => write!(
+                f,
+                "{} takes no further word; several addresses, or streams, are one word, joined by commas",
+                of.name
+            ),
             Expected::Input { of, file } => {
                 write!(f, "{} reads standard input: < {file}", of.name)
             }

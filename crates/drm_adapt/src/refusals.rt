@@ -111,7 +111,7 @@ impl Sends {
         }
     }
 
-    // Without a clock no line is due before the end.
+    // So long behind the line before it, if there is one and the clock can tell.
     fn is_due<R: Clock>(&self, clock: &R) -> bool {
         let Some(told) = self.told else {
             return true;
