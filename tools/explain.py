@@ -83,7 +83,8 @@ def explain(path, number, reason):
         print("  (behind the last line)" if number else "  (the whole text)")
     print(MEANINGS.get(reason, "SCHEDULE.md says what this reason means."))
     said = looks(raw, whole) or list(schedule_faults.said(whole.decode("utf-8", "replace"), number, reason))
-    for text in said + ([HELPS[reason]] if reason in HELPS else []):
+    helps = reason in HELPS and (reason != "word" or b" file " in raw)
+    for text in said + ([HELPS[reason]] if helps else []):
         print(text)
 
 

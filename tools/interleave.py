@@ -1,10 +1,10 @@
 #!/usr/bin/env python3
 """Puts the bytes of several encoders into one pipe, frame by frame, as `drmcast serve --live` reads them.
 
-    mkfifo radio.fifo picture.fifo
-    interleave.py 0:484:radio.fifo 1:116:picture.fifo | drmcast serve evening.plan --live 0,1 --to 192.0.2.7:5000 --pace 400
+    mkfifo nord.fifo sued.fifo
+    interleave.py 0:484:nord.fifo 1:560:sued.fifo | drmcast serve station.plan --live 0,1 --to 192.0.2.7:5000 --pace 400
 
-    interleave.py --schedule evening.plan 0:radio.fifo 1:picture.fifo | drmcast serve evening.plan --live 0,1 --to 192.0.2.7:5000 --pace 400
+    interleave.py --schedule station.plan 0:nord.fifo 1:sued.fifo | drmcast serve station.plan --live 0,1 --to 192.0.2.7:5000 --pace 400
 
 Each word is a stream of the schedule, how many bytes it has in a frame (both its parts), and the FIFO or file that they come from. With
 --schedule the bytes are those that `drmcast check` says, and with --list those of the schedules in a list of `playout.py`; then they need not
@@ -15,7 +15,8 @@ have come.
 An encoder that stops doesn't stop the others. If a piece isn't whole a second (--late) after the first one of its frame, another one is
 written in its place: a byte again and again (--fill), or the next piece of a file (--fill-file), whose bytes are used from its
 beginning again after its end. Until this stream has a whole piece again, it isn't waited for. If all encoders stop, nothing is
-written, and the server waits; with --pace a frame is begun so long after the one before it, whether anything came or not.
+written, and the server waits; with --pace a frame is begun so long after the one before it, whether anything came or not. The
+first frame is begun when a first whole piece of any stream has come; until then nothing is written.
 
 A piece is written whole or not at all. If a part of one had come when it was replaced, the rest is dropped as it comes, so the next piece
 begins where the encoder began it. That one, and those behind it, are kept until they are whole. When an encoder closes its FIFO, what
@@ -23,7 +24,7 @@ it left of a piece is dropped too; whoever opens the FIFO next begins a piece.
 
 It ends after --frames, by Ctrl-C or TERM, if nobody reads any more, or when all bytes come from files and all of these have ended.
 Which streams are replaced, from which frame on, is said on standard error, and at the end how many frames were written. The status
-is 7 if a piece was replaced; and 3, or that of `drmcast check`, if the schedules are wrong or the streams aren't theirs.
+is 7 if a piece was replaced, or 141 if nobody reads any more; and 3, or that of `drmcast check`, if the schedules are wrong or the streams aren't theirs.
 """
 import argparse
 import itertools
