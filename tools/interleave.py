@@ -141,9 +141,20 @@ class Interleaving:
         """Whether nothing can come any more."""
         return all(source.has_ended and not source.is_whole() for source in self.sources)
 
+    def await_first(self):
+        """Waits for the first piece, and says so where none comes in time: until then the server sends nothing."""
+        until = time.monotonic() + self.late
+        while not self.is_begun() and not self.have_ended() and not self.stop.asked:
+            if time.monotonic() >= until:
+                command_line.complain("nothing has come yet of " + ", ".join(f"stream {each.stream} ({each.name})" for each in self.sources) + "; until then nothing is sent")
+                return
+            self.wait(until)
+
     def has_frame(self):
         """Waits for the next frame; gives whether there is one."""
         self.wait(time.monotonic())
+        if self.written is None:
+            self.await_first()
         while not self.is_begun() and not self.have_ended() and not self.stop.asked:
             self.wait(self.begins())
         if self.have_ended() or self.stop.asked:
@@ -177,7 +188,8 @@ def encoder(word):
     try:
         kind = os.stat(name).st_mode
     except OSError as fault:
-        raise argparse.ArgumentTypeError(command_line.reason(fault)) from None
+        makes = f"; mkfifo {name} makes a FIFO" if isinstance(fault, FileNotFoundError) else ""
+        raise argparse.ArgumentTypeError(command_line.reason(fault) + makes) from None
     if not stat.S_ISREG(kind) and not stat.S_ISFIFO(kind):
         raise argparse.ArgumentTypeError(f"{name} is neither a FIFO nor a file")
     return number, command_line.number(1, MOST_BYTES)(size) if size else None, name

@@ -294,7 +294,9 @@ def arguments():
     parser.add_argument("--stamp", action="store_true", help="print each line of a report too, with its moment")
     parser.add_argument("--metrics", metavar="FILE", help="write what was counted to this file")
     parser.add_argument("--link", metavar="NAME", help="the label `link` of the metrics (the name of their file, without .prom)")
-    options = parser.parse_args(own)
+    options, others = parser.parse_known_args(own)
+    if others:
+        parser.error(f"unrecognized arguments: {' '.join(others)}" + ("" if others[0].startswith("-") else "; a command stands behind --"))
     if options.stamp and options.format != "text":
         parser.error("--stamp goes with the format text")
     if command and shutil.which(command[0]) is None:

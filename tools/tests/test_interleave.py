@@ -158,6 +158,13 @@ class Interleave(unittest.TestCase):
                 other.close()
             self.assertEqual((status, out, err), (0, b"", "interleave.py: 1 frames; replaced 0 of stream 0, 0 of stream 1\n"))
 
+    def test_nothing_comes_at_first(self):
+        a = self.fifo("a")
+        with self.started(f"0:2:{a}", "--late", 20) as script:
+            self.assertEqual(script.stderr.readline().decode(), f"interleave.py: nothing has come yet of stream 0 ({a}); until then nothing is sent\n")
+            self.encoder(a).write(b"aa")
+            self.assertEqual(script.stdout.read(2), b"aa")
+
     def test_a_server_that_has_gone(self):
         a = self.fifo("a")
         with self.started(f"0:2:{a}") as script:
