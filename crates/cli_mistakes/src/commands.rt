@@ -17,6 +17,11 @@ const NAME: Allowed = Allowed {
     value: Value::Name,
 };
 
+const OTHER: Allowed = Allowed {
+    name: "OTHER",
+    value: Value::Name,
+};
+
 const SCRIPT: Allowed = Allowed {
     name: "SCRIPT",
     value: Value::Name,
@@ -67,6 +72,14 @@ const PACE: Allowed = Allowed {
 
 const FROM_FRAME: Allowed = Allowed {
     name: "from",
+    value: Value::Number {
+        least: 0,
+        most: 1_000_000,
+    },
+};
+
+const UNTIL_FRAME: Allowed = Allowed {
+    name: "until",
     value: Value::Number {
         least: 0,
         most: 1_000_000,
@@ -177,10 +190,16 @@ pub const COMMANDS: &[Command] = &[
         options: &[],
     },
     Command {
+        name: "agree",
+        words: &[NAME, OTHER],
+        reads_input: false,
+        options: &[],
+    },
+    Command {
         name: "serve",
         words: &[NAME],
         reads_input: false,
-        options: &[TO, PACE, FROM_FRAME, LIVE],
+        options: &[TO, PACE, FROM_FRAME, UNTIL_FRAME, LIVE],
     },
     Command {
         name: "receive",

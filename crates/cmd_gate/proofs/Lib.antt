@@ -1,3 +1,3 @@
-pub mod PassingLemmas
 pub mod ReadingLemmas
 pub mod RunLemmas
+pub mod BetweenLemmas

@@ -1,17 +1,16 @@
 -- The command `gate`: what comes over one link goes out over others, under another carry.
-use Rattle.std.specs.Prelude.{ℕ, ◌≡◌, ◌<◌, ◌⊎◌, ◌↔◌, Bool, List, [], length, slice_index_or, Option, Some, Result, Ok, Err, IsErr}
+use Rattle.std.specs.Prelude.{ℕ, ◌≡◌, ◌<◌, ◌⊎◌, ◌↔◌, Bool, List, length, slice_index_or, Option, Some, Result, Ok, Err}
 use Rattle.std.specs.FinMap as map
 use Rattle.dcp_pft.specs.declared.carry.Carry.{Carry}
 use Rattle.drm_links.specs.Known.{HasFailed, Known, HasCause, KnownThrough}
 use Rattle.drm_links.specs.Link.{Answer}
 use Rattle.drm_links.specs.Sink.{Output, OutputsText, IsPrefix}
-use Rattle.drm_links.specs.Dock.{DockContents, LinkStart, address_key, after_opening, after_failure, OpeningFinds, FindsNone}
+use Rattle.drm_links.specs.Dock.{DockContents, LinkStart, address_key, after_opening, OpeningFinds}
 use Rattle.drm_links.specs.Transmission.{TakesSends, TakesFewer}
 use Rattle.drm_links.specs.declared.dock.Address.{Address}
 use Rattle.drm_links.specs.declared.link.LinkFault.{LinkFault}
 use Rattle.recv_reading.specs.declared.options.ReceiveOptions.{ReceiveOptions}
 use Rattle.recv_reading.specs.OneReading.{BreaksOff}
-use Rattle.link_group.specs.Reaching.{ReachesFew}
 use Rattle.cmd_faults.specs.Fault.{UnlessMemory}
 use Rattle.cmd_faults.specs.Causes.{OpeningFailed}
 use Rattle.cmd_faults.specs.declared.fault.Fault.{Fault}
@@ -20,20 +19,8 @@ use Rattle.drm_gate.specs.declared.tally.Tally.{Tally}
 use Rattle.drm_gate.specs.Passing.{Outcome, sent_of}
 use Rattle.drm_gate.specs.Tallies.{tally_of, over}
 use Rattle.cmd_gate.specs.Line.{gate_line, is_clean}
-use Rattle.cmd_gate.specs.Opening.{FailsOpening, after_source}
-use Rattle.cmd_gate.specs.Between.{AreAhead, AreRead, IsRelayed, RelaysTo}
-
--- ---- what goes out
-
--- What the dock tells: an opening failed, and the links that were opened are closed; or all links were opened, this went over those
--- that are sent over of what was ahead of the one that is read, and all were closed. That one had given the answers of which
--- this became, and no others; where an opening failed none.
-abbrev pub RelaysOverLinks : ReceiveOptions → Carry → Address → List Address → Result Tally LinkFault → DockContents → DockContents → Type 0
-RelaysOverLinks rules carry from to passed before after =
-    (IsErr passed × FindsNone before 0 from × (after ≡ after_failure before))
-    ⊎ ((source : LinkStart) × OpeningFinds before 0 from source × (mid : DockContents) × (answers : List Answer) × (after ≡ after_source from answers mid)
-    × ((IsErr passed × (answers ≡ []) × ReachesFew to (after_opening from before) mid)
-    ⊎ RelaysTo rules carry (AreRead source.ahead answers) to passed (after_opening from before) mid))
+use Rattle.cmd_gate.specs.Opening.{FailsOpening}
+use Rattle.cmd_gate.specs.Between.{IsRelayed, RelaysOverLinks}
 
 -- How the run ends, and what is written: where all was counted the line of it, or after a failed write a front of that; where a link
 -- failed nothing.
@@ -59,7 +46,7 @@ NoRun ending dock dock' out out' = (ending ≡ Err faults.NoMemory) × (dock' �
 
 -- A link takes fewer sends than what becomes of the answers ahead of another one has datagrams.
 abbrev pub LacksSends : ReceiveOptions → Carry → List Answer → Option ℕ → Type 0
-LacksSends rules carry ahead sends = (fates : List Outcome) → IsRelayed rules carry (AreAhead ahead) fates → TakesFewer sends (length (sent_of fates))
+LacksSends rules carry ahead sends = (fates : List Outcome) → IsRelayed rules carry ahead fates → TakesFewer sends (length (sent_of fates))
 
 -- The link that is opened at one of these addresses does.
 pub record LacksSome (rules : ReceiveOptions) (carry : Carry) (ahead : List Answer) (contents : DockContents) (to : List Address) : Type 0 where
@@ -86,7 +73,7 @@ pub record PassedAll {O : Type 0} (rules : ReceiveOptions) (carry : Carry) (from
   pub source : LinkStart
   pub finds : OpeningFinds before 0 from source
   pub fates : List Outcome
-  pub passed : IsRelayed rules carry (AreAhead source.ahead) fates
+  pub passed : IsRelayed rules carry source.ahead fates
   pub gone : (k : ℕ) → k < length to → HasAll fates to k after
   pub line : OutputsText (known out) (known out') (λ text. text ≡ gate_line (over (length to) (tally_of fates)))
   pub clean : ending ≡ Ok (is_clean (tally_of fates))
@@ -104,7 +91,7 @@ pub record GateCommandRun {D O : Type 0} (rules : ReceiveOptions) (carry : Carry
   pub exactly : KnownThrough (dock_known dock) (dock_known dock') (λ contents _. UnlessMemory ending ((ending ≡ Err faults.Link) ↔ FailsGate rules carry from to contents))
   -- Where no opening fails, all has gone over each link that takes all, whatever becomes of the others.
   pub each : KnownThrough (dock_known dock) (dock_known dock') (λ before after. (FailsOpening before from to → ⊥)
-      → (source : LinkStart) (fates : List Outcome) → OpeningFinds before 0 from source → IsRelayed rules carry (AreAhead source.ahead) fates
+      → (source : LinkStart) (fates : List Outcome) → OpeningFinds before 0 from source → IsRelayed rules carry source.ahead fates
       → (k : ℕ) (at : Address) (start : LinkStart) → k < length to → OpeningFinds (after_opening from before) k (slice_index_or to k at) start
       → TakesSends start.sends (length (sent_of fates)) → UnlessMemory ending (HasAll fates to k after))
   -- Where no link and no write fails, all has gone over each, and the line of it is written.

@@ -4,7 +4,7 @@ ghost use Rattle.std.specs.Prelude.{◌≡◌, Err};
 ghost use Rattle.dcp_pft.specs.Carrying.{CarryFits};
 ghost use Rattle.drm_links.specs.Known.{HasCause};
 ghost use Rattle.recv_reading.specs.Options.{AreInRange};
-ghost use Rattle.link_group.specs.Listed.{AreListed};
+ghost use Rattle.drm_links.specs.Listed.{AreListed};
 ghost use Rattle.cmd_gate.specs.Run.{GateCommandRun, WritesTally};
 
 use crate::between::pass_between;
@@ -14,7 +14,6 @@ use dcp_pft::Carry;
 use drm_bits::zeros;
 use drm_gate::{Gate, Tally};
 use drm_links::{Address, Addresses, Dock, LONGEST_DATAGRAM, LinkFault, Sink};
-use link_group::room_for;
 use recv_reading::ReceiveOptions;
 use std::alloc::Global;
 
@@ -37,8 +36,7 @@ pub fn gate<D: Dock, O: Sink>(
 {
     let mut gate = Gate::make(alloc, rules.window, rules.reach, rules.first, carry)?;
     let mut buffer = zeros(alloc, LONGEST_DATAGRAM)?;
-    let room = room_for(alloc, to)?;
-    let passed = pass_between(&mut gate, rules, from, to, room, &mut buffer, dock);
+    let passed = pass_between(alloc, &mut gate, rules, from, to, &mut buffer, dock)?;
     write_passed(out, passed)
 }
 

@@ -1,8 +1,8 @@
 //! The command `gate`: a gateway that receives at one address, recovers each packet, sends it at
 //! once to up to sixteen addresses with another protection, and at the end prints what it counted.
 //!
-//! It builds on `drm_gate`, which does all this over links that are open. This crate opens and
-//! closes them (`link_group`) and writes the line (`text_output`). `drm_top` calls it.
+//! It builds on `drm_gate`, which does all this over a group of links. This crate opens and closes
+//! it in a dock (`drm_links`) and writes the line (`text_output`). `drm_top` calls it.
 //!
 //! Packets are recovered by `dcp_collect` and cut by `dcp_sender`; what becomes of each is stated
 //! in `drm_gate`. A capture is put under another protection by `cmd_convert`.

@@ -1,18 +1,19 @@
 -- What is read of links is what stood ahead of those that a dock had at their addresses.
-use Rattle.std.proofs.Common.{◌≡◌, ℕ, ◌<◌, inl, inr, List, [], length, slice_index_or, Option, None, Some, IsNone, All, Err, sym, ◌∙◌, ap, subst, arith}
+use Rattle.std.proofs.Common.{◌≡◌, ℕ, ◌<◌, ◌⊎◌, inl, inr, List, [], length, slice_index_or, Option, None, Some, IsNone, All, Err, sym, ◌∙◌, ap, subst, arith}
 use Rattle.drm_links.specs.Known.{Known}
 use Rattle.drm_links.specs.Link.{Traffic}
 use Rattle.drm_links.specs.Dock.{DockContents, LinkStart, OpeningFinds, FindsNone}
 use Rattle.drm_links.specs.declared.dock.Address.{Address}
 use Rattle.drm_links.proofs.Places.{index_of}
+use Rattle.drm_paths.specs.declared.run.PathOptions.{PathOptions}
 use Rattle.drm_paths.specs.State.{PathState, new_path}
 use Rattle.drm_paths.specs.Closing.{of_path, AreCounted, AllAgree}
 use Rattle.cli_paths.specs.declared.request.PathsRequest.{PathsRequest}
 use Rattle.cmd_paths.specs.declared.fault.PathsFault.TheVariants as faults
 use Rattle.cmd_paths.specs.Ahead.{IsAllOf, BreaksOff}
 use Rattle.cmd_paths.specs.Opening.{HaveLinks}
-use Rattle.cmd_paths.specs.Run.{options_in, IsPathsRequestInRange, AreEntries, FailsSome, ReadAll, DiffersAt}
-use Rattle.cmd_paths.specs.Links.{BreaksSome, EndsLinks}
+use Rattle.cmd_paths.specs.Run.{options_in, IsPathsRequestInRange, AreEntries, AreOfAnswers, AreOfPaths, FailsSome, ReadAll, DiffersAt}
+use Rattle.cmd_paths.specs.Links.{BreaksSome, EndsLinks, ReadsWhole}
 use Rattle.cmd_paths.specs.Links as Links
 use Rattle.cmd_paths.proofs.OneReading.{whole_is_whole}
 use Rattle.cmd_paths.proofs.Hearing.{read_ahead, whole_ahead}
@@ -29,6 +30,28 @@ not_none contents k at start finds (inr none) = some_is _ start finds.stands non
 one_start : (found : Option LinkStart) (start other : LinkStart) → found ≡ Some start → found ≡ Some other → other ≡ start
 one_start None start other is also = absurd (cc)
 one_start (Some x) start other is also = cc
+
+-- a path that read all took the datagrams of some answers
+ends_by : (options : PathOptions) (link : Known Traffic) (taken : List (List ℕ)) → ReadsWhole options link taken → AreOfAnswers options taken
+ends_by options link taken (inl reads) = (reads.1.answers, inl reads.1.ends)
+ends_by options link taken (inr reads) = (reads.1.answers, inr reads.1.ends)
+
+-- a journal that agrees with paths has what they took
+pub entries_of_paths : {L : Type 0} (request : PathsRequest) (known : L → Known Traffic) (links : List L) → length links ≡ length request.addresses
+    → (paths : List PathState) (entries : List (ℕ × List ℕ)) → Links.ReadAll (options_in request) known links paths → AreCounted entries paths → AllAgree entries paths
+    → AreOfPaths request entries
+entries_of_paths request known links many paths entries read counted agree =
+    let size : length paths ≡ length request.addresses = read.as_many ∙ many in
+    let d : PathState = new_path 0 in
+    record {
+      each = λ k within.
+          let inside : k < length links = omega (arith, within, many) in
+          let (link, is) = index_of links k inside in
+          let taken : of_path k entries ≡ (slice_index_or paths k d).taken =
+          ap (λ n. of_path n entries) (sym (read.numbers k d inside)) ∙ agree k d (omega (arith, within, size)) in
+          subst (AreOfAnswers (options_in request)) (sym taken) (ends_by (options_in request) (known (slice_index_or links k link)) (slice_index_or paths k d).taken (read.each k link d inside));
+      others = subst (λ n. All (λ e. e.0 < n) entries) size counted.numbered;
+    }
 
 module _ {L : Type 0} (request : PathsRequest) (range : IsPathsRequestInRange request) (known : L → Known Traffic) (links : List L) (many : length links ≡ length request.addresses)
     (contents : DockContents) (have : HaveLinks known contents request.addresses links) where

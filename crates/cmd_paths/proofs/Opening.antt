@@ -5,8 +5,8 @@ use Rattle.drm_links.specs.Known.{Known, KnownThrough}
 use Rattle.drm_links.specs.Link.{Traffic}
 use Rattle.drm_links.specs.Dock.{DockContents}
 use Rattle.drm_links.specs.declared.dock.Address.{Address}
-use Rattle.link_group.proofs.CloseLemmas.{Closing, closed_all}
-use Rattle.link_group.proofs.BindLemmas.{as_members, members_many}
+use Rattle.drm_links.proofs.CloseLemmas.{Closing, closed_all}
+use Rattle.drm_links.proofs.BindLemmas.{as_members, members_many}
 use Rattle.cmd_paths.specs.Opening.{IsClosed}
 
 abbrev pub itself : {L : Type 0} → L → L

@@ -7,9 +7,9 @@ use Rattle.drm_links.specs.Dock.{DockContents, DockKnownThrough}
 use Rattle.drm_links.proofs.KnownLemmas.{counts_none, Tells-nothing, Tells-weaker}
 use Rattle.cmd_faults.specs.Causes.{OpeningFailed}
 use Rattle.report_text.specs.Reports.{Report}
-use Rattle.link_group.proofs.OpeningLemmas.{docked_both, docked_weaker}
-use Rattle.link_group.specs.Binding.{HearsEach, BindsFew}
-use Rattle.link_group.proofs.BindLemmas.{docked_then, went_over, hears_each}
+use Rattle.drm_links.proofs.OpeningLemmas.{docked_both, docked_weaker}
+use Rattle.drm_links.specs.Binding.{HearsEach, BindsFew}
+use Rattle.drm_links.proofs.BindLemmas.{docked_then, went_over, hears_each}
 use Rattle.cli_paths.specs.declared.request.PathsRequest.{PathsRequest}
 use Rattle.report_journal.specs.Journal.{datagrams}
 use Rattle.report_journal.specs.Report.{IsReportOf}
@@ -20,11 +20,11 @@ use Rattle.drm_paths.specs.Reading.{PathEnds}
 use Rattle.cmd_paths.specs.declared.fault.PathsFault.{PathsFault}
 use Rattle.cmd_paths.specs.declared.fault.PathsFault.TheVariants as faults
 use Rattle.cmd_paths.specs.Opening.{HaveLinks, IsClosed}
-use Rattle.cmd_paths.specs.Run.{settings_in, options_in, IsPathsRequestInRange, AreEntries, FailsSome, DiffersAt, WritesReport, WroteReport, IsDiffering, AreAll, AreCut, AreBroken, ReadsBy, OpensEach, PathsRun}
+use Rattle.cmd_paths.specs.Run.{settings_in, options_in, IsPathsRequestInRange, AreEntries, AreOfPaths, FailsSome, DiffersAt, WritesReport, WroteReport, IsDiffering, AreAll, AreCut, AreBroken, ReadsBy, OpensEach, PathsRun}
 use Rattle.drm_paths.specs.State.{PathState}
 use Rattle.cmd_paths.specs.Links.{EndsLinks, PathFaultFits, RunsOver, RunsLinks}
 use Rattle.cmd_paths.specs.Links as Links
-use Rattle.cmd_paths.proofs.Finding.{entries_ahead, fails_ahead, none_fails, differ_ahead}
+use Rattle.cmd_paths.proofs.Finding.{entries_ahead, entries_of_paths, fails_ahead, none_fails, differ_ahead}
 use Rattle.cmd_paths.proofs.Hearing.{few_answers}
 use Rattle.cmd_paths.proofs.Opening.{itself}
 
@@ -52,13 +52,14 @@ pub paths_run : {D O : Type 0} (request : PathsRequest) (ending : Result Bool Pa
     → (ending ≡ Err faults.Words → ⊥)
     → KnownThrough (dock_known dock) (dock_known dock') (OpensEach request ending)
     → DockKnownThrough (dock_known dock) (dock_known dock') (λ contents. WritesReport (settings_in request) (AreEntries request contents) ending out_known out out')
+    → WritesReport (settings_in request) (AreOfPaths request) ending out_known out out'
     → ((fault : PathsFault) → ending ≡ Err fault → (fault ≡ faults.Write → ⊥) → out' ≡ out)
     → DockKnownThrough (dock_known dock) (dock_known dock') (Exactly request ending)
     → DockKnownThrough (dock_known dock) (dock_known dock') (λ contents. (path at : ℕ) → ending ≡ Err (faults.Differs path at) → DiffersAt request contents path at)
     → OpeningFailed (dock_known dock) (dock_known dock') (ending ≡ Err faults.Link)
     → HasCause (out_known out) (out_known out') (ending ≡ Err faults.Write)
     → PathsRun request ending dock_known dock dock' out_known out out'
-paths_run request ending dock_known dock dock' out_known out out' kind opens writes unwritten exactly differs dock_cause cause =
+paths_run request ending dock_known dock dock' out_known out out' kind opens writes sound unwritten exactly differs dock_cause cause =
     let W : DockContents → Type 0 = λ contents. WritesReport (settings_in request) (AreEntries request contents) ending out_known out out' in
     let E : DockContents → Type 0 = Exactly request ending in
     let a = dock_known dock in
@@ -67,6 +68,7 @@ paths_run request ending dock_known dock dock' out_known out out' kind opens wri
       kind = kind;
       opens = opens;
       writes = writes;
+      sound = sound;
       unwritten = unwritten;
       exactly = exactly;
       differs = differs;
@@ -91,6 +93,7 @@ opening_failed request dock_known dock dock' out_known out few failed =
     (λ is. cc)
     (Tells-weaker (BindsFew request.addresses) (OpensEach request (Err faults.Link)) a b few (λ x y binds. inr (inl (refl, binds))))
     (Tells-weaker (BindsFew request.addresses) (λ contents _. WritesReport (settings_in request) (AreEntries request contents) (Err faults.Link) out_known out out) a b few (λ x y binds. refl))
+    refl
     (λ other is any. refl)
     (Tells-weaker (BindsFew request.addresses) (λ contents _. Exactly request (Err faults.Link) contents) a b few
     (λ x y binds. inr (λ is. record { k = binds.k; within = binds.within; fails = λ at. inl (binds.fails at) }, λ any. refl)))
@@ -112,6 +115,7 @@ not_begun request dock_known dock dock' out_known out same =
     (λ is. cc)
     (untouched (OpensEach request (Err faults.NoMemory)) a b same (λ x. inr (inr (refl, refl))))
     (untouched (λ contents _. WritesReport (settings_in request) (AreEntries request contents) (Err faults.NoMemory) out_known out out) a b same (λ x. refl))
+    refl
     (λ other is any. refl)
     (untouched (λ contents _. Exactly request (Err faults.NoMemory) contents) a b same (λ x. inl refl))
     (untouched (λ contents _. (path at : ℕ) → (let e : Result Bool PathsFault = Err faults.NoMemory in e) ≡ Err (faults.Differs path at) → DiffersAt request contents path at) a b same (λ x path at is. absurd (cc)))
@@ -189,6 +193,7 @@ module _ {D O L : Type 0} (request : PathsRequest) (range : IsPathsRequestInRang
       (not_words fault ends)
       (opens (Err fault) (λ why fits answers taken ends. reads_fault (options_in request) fault why (subst (λ r. PathFaultFits r why) is fits) answers taken ends))
       (then_docked _ (nothing fault ends))
+      (sound fault ends)
       (λ other is any. refl)
       (then_docked _ (exactly fault ends))
       (then_docked _ (differs fault ends))
@@ -216,6 +221,13 @@ module _ {D O L : Type 0} (request : PathsRequest) (range : IsPathsRequestInRang
       nothing faults.Link ends contents has = refl
       nothing faults.Write ends contents has = absurd ends
       nothing (faults.Differs path at) ends contents has = refl
+
+      sound : (fault : PathsFault) → EndsLinks request known links (Err fault) → WritesReport (settings_in request) (AreOfPaths request) (Err fault) out_known out out
+      sound faults.Words ends = refl
+      sound faults.NoMemory ends = refl
+      sound faults.Link ends = refl
+      sound faults.Write ends = absurd ends
+      sound (faults.Differs path at) ends = refl
 
       exactly : (fault : PathsFault) → EndsLinks request known links (Err fault) → (contents : DockContents) → HaveLinks known contents request.addresses links → Exactly request (Err fault) contents
       exactly faults.Words ends contents has = absurd ends
@@ -252,6 +264,9 @@ module _ {D O L : Type 0} (request : PathsRequest) (range : IsPathsRequestInRang
     are_entries : (contents : DockContents) → HaveLinks known contents request.addresses links → AreEntries request contents entries
     are_entries contents has = entries_ahead request range known links many contents has ends.paths entries ends.read ends.closes.1 ends.closes.2
 
+    of_paths : AreOfPaths request entries
+    of_paths = entries_of_paths request known links many ends.paths entries ends.read ends.closes.1 ends.closes.2
+
     -- the report was written
     pub written : (clean : Bool) → clean ≡ report.clean → OutputsText (out_known out) (out_known out') (λ text. text ≡ report.text) → HasCause (out_known out) (out_known out') (let e : Result Bool PathsFault = Ok clean in e ≡ Err faults.Write)
         → PathsRun request (Ok clean) dock_known dock dock' out_known out out'
@@ -260,6 +275,7 @@ module _ {D O L : Type 0} (request : PathsRequest) (range : IsPathsRequestInRang
         (λ is. cc)
         (opens (Ok clean) all_of)
         (then_docked _ (λ contents has. (entries, are_entries contents has, report, report_is, text, clean_is)))
+        (entries, of_paths, report, report_is, text, clean_is)
         (λ fault is other. absurd (cc))
         (then_docked _ (none_ends (Ok clean) ends.paths ends.read (λ is. cc)))
         (then_docked _ (λ contents has path at is. absurd (cc)))
@@ -274,6 +290,7 @@ module _ {D O L : Type 0} (request : PathsRequest) (range : IsPathsRequestInRang
         (λ is. cc)
         (opens (Err faults.Write) all_of)
         (then_docked _ (λ contents has. (entries, are_entries contents has, report, report_is, text)))
+        (entries, of_paths, report, report_is, text)
         (λ fault is other. absurd (other (sym (other_fault faults.Write fault is))))
         (then_docked _ (none_ends (Err faults.Write) ends.paths ends.read (λ is. cc)))
         (then_docked _ (λ contents has path at is. absurd (cc)))

@@ -3,7 +3,7 @@ use Rattle.std.specs.Prelude.{ℕ, ◌≡◌, ◌<◌, ◌⊎◌, List, length, 
 use Rattle.drm_links.specs.Known.{Known, HasFailed, KnownThrough}
 use Rattle.drm_links.specs.Link.{Traffic}
 use Rattle.drm_links.specs.Dock.{DockContents, DockKnownThrough, after_openings}
-use Rattle.link_group.specs.Binding.{BindsFew}
+use Rattle.drm_links.specs.Binding.{BindsFew}
 use Rattle.drm_links.specs.Hearing.{LinkHeard}
 use Rattle.report_text.specs.Reports.{Report}
 use Rattle.cli_paths.specs.declared.request.PathsRequest.{PathsRequest}

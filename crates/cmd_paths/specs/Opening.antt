@@ -4,8 +4,9 @@ use Rattle.drm_links.specs.Known.{Known}
 use Rattle.drm_links.specs.Link.{Traffic}
 use Rattle.drm_links.specs.Dock.{DockContents, Over, HasLink}
 use Rattle.drm_links.specs.declared.dock.Address.{Address}
-use Rattle.link_group.specs.Reaching.{HaveGone, after_closes}
-use Rattle.link_group.specs.declared.member.Member.{Member}
+use Rattle.drm_links.specs.Gathering.{after_closes}
+use Rattle.drm_links.specs.Members.{HaveGone}
+use Rattle.drm_links.specs.declared.member.Member.{Member}
 
 -- the links are those of these addresses, in their order
 abbrev pub HaveLinks : {L : Type 0} → (L → Known Traffic) → DockContents → List Address → List L → Type 0

@@ -22,7 +22,7 @@ use Rattle.drm_paths.specs.Reading.{AreReasonable, PathEnds}
 use Rattle.drm_paths.specs.Closing.{of_path, BookCloses}
 use Rattle.drm_paths.specs.declared.close.Difference.{Difference}
 use Rattle.drm_paths.specs.declared.close.Closed.TheVariants.{Differ}
-use Rattle.link_group.specs.Binding.{HearsEach, BindsFew}
+use Rattle.drm_links.specs.Binding.{HearsEach, BindsFew}
 use Rattle.cmd_paths.specs.Ahead.{IsAllOf, BreaksOff}
 use Rattle.cmd_paths.specs.Faults.{fault_line}
 use Rattle.cmd_paths.specs.declared.fault.PathsFault.{PathsFault}
@@ -50,6 +50,15 @@ pub record IsPathsRequestInRange (request : PathsRequest) : Type 0 where
 pub record AreEntries (request : PathsRequest) (contents : DockContents) (entries : List (ℕ × List ℕ)) : Type 0 where
   pub each : (k : ℕ) (at : Address) → k < length request.addresses
       → (start : LinkStart) × OpeningFinds contents k (slice_index_or request.addresses k at) start × IsAllOf (options_in request) start.ahead (of_path k entries)
+  pub others : All (λ e. e.0 < length request.addresses) entries
+
+-- these are all datagrams of some answers with which a path ends, and none of them is a failure
+abbrev pub AreOfAnswers : PathOptions → List (List ℕ) → Type 0
+AreOfAnswers options taken = (answers : List Answer) × (PathEnds options answers taken Idle ⊎ PathEnds options answers taken Limit)
+
+-- The entries of each path are those of some answers, each once, in their order, and there are no others.
+pub record AreOfPaths (request : PathsRequest) (entries : List (ℕ × List ℕ)) : Type 0 where
+  pub each : (k : ℕ) → k < length request.addresses → AreOfAnswers (options_in request) (of_path k entries)
   pub others : All (λ e. e.0 < length request.addresses) entries
 
 -- Opening some address fails, or what is read of some link ends in `Failed`.
@@ -130,6 +139,8 @@ pub record PathsRun {D O : Type 0} (request : PathsRequest) (ending : Result Boo
   -- Where the dock tells: the report is that of all that is read of the links that it opened. Nothing else is written.
   pub writes : DockKnownThrough (dock_known dock) (dock_known dock') (λ contents.
       WritesReport (settings_in request) (AreEntries request contents) ending out_known out out')
+  -- Where nothing is told of the links, what is written is a report all the same, and the run is clean where that is.
+  pub sound : WritesReport (settings_in request) (AreOfPaths request) ending out_known out out'
   -- Nothing is written where a run ends by another fault than a failed write.
   pub unwritten : (fault : PathsFault) → ending ≡ Err fault → (fault ≡ faults.Write → ⊥) → out' ≡ out
   -- It fails by a link exactly where an opening fails, or what is read of some link ends in `Failed`.

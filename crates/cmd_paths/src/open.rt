@@ -3,7 +3,7 @@
 ghost use Rattle.std.specs.Prelude.{◌≡◌, ◌≤◌, ◌++◌, ◌∷◌, [], true, length, map, vec_len, vec_capacity, All, IsErr, IfOk, IfErr};
 ghost use Rattle.drm_links.specs.Known.{HasCause, KnownThrough};
 ghost use Rattle.drm_links.specs.Dock.{AreDifferent, DockKnownThrough, after_openings};
-ghost use Rattle.link_group.specs.Binding.{BindsFew};
+ghost use Rattle.drm_links.specs.Binding.{BindsFew};
 ghost use Rattle.cmd_paths.specs.Opening.{HaveLinks, IsClosed};
 
 use crate::receiver::{PathReceiver, PathSeat, receiver_for};

@@ -8,7 +8,7 @@ use Rattle.report_text.specs.Reports.{Report}
 use Rattle.recv_reading.specs.OneReading.{BreaksOff}
 use Rattle.recv_report.specs.Ahead.{IsReportOf}
 use Rattle.recv_reading.proofs.OneReading.{finished_whole}
-use Rattle.link_group.proofs.BindLemmas.{found_once, is_found}
+use Rattle.drm_links.proofs.BindLemmas.{found_once, is_found}
 
 -- a link that gives a report neither fails to open nor breaks off
 pub report_whole : (rules : ReceiveOptions) (contents : DockContents) (k number : ℕ) (at : Address) (start : LinkStart) (r : Report) → OpeningFinds contents k at start → IsReportOf rules number start.ahead r

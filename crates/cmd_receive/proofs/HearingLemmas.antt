@@ -17,7 +17,7 @@ use Rattle.recv_report.specs.declared.receiver.Receiver.{Receiver}
 use Rattle.recv_reading.proofs.Going.{goes_none, few_answers}
 use Rattle.drm_links.proofs.Hearing.{heard_none}
 use Rattle.recv_report.proofs.ReceiverLemmas.{rules_are}
-use Rattle.link_group.proofs.BindLemmas.{WentOver, went_over}
+use Rattle.drm_links.proofs.BindLemmas.{WentOver, went_over}
 use Rattle.cmd_receive.specs.Receive.{AreAll, AreBroken}
 
 -- ---- one receiver

@@ -29,10 +29,10 @@ use Rattle.cmd_faults.proofs.CauseLemmas.{inner_fault}
 use Rattle.cmd_receive.specs.Stopping.{live_totals, clean_ending}
 use Rattle.cmd_receive.specs.Opening.{EndsOpening, StopsOpening}
 use Rattle.cmd_receive.specs.Counted.{CountedLink}
-use Rattle.link_group.specs.Binding.{LinkHears, HearsEach}
+use Rattle.drm_links.specs.Binding.{LinkHears, HearsEach}
 use Rattle.cmd_receive.specs.Receive.{FailsSome, OpensEach, ReadsLive, AreExactly, WritesLive, ReceiveRun}
-use Rattle.link_group.proofs.OpeningLemmas.{Opened, opened_now, opened_all, found_now, docked_weaker, docked_still, docks_more}
-use Rattle.link_group.proofs.BindLemmas.{WentOver, Missed, missed_now, went_over}
+use Rattle.drm_links.proofs.OpeningLemmas.{Opened, opened_now, opened_all, found_now, docked_weaker, docked_still, docks_more}
+use Rattle.drm_links.proofs.BindLemmas.{WentOver, Missed, missed_now, went_over}
 use Rattle.cmd_receive.proofs.BreakingOff.{report_whole}
 use Rattle.cmd_receive.proofs.ReceiveStatus.{receive_run}
 use Rattle.cmd_receive.proofs.ReceiveLemmas.{no_fault, opening_failed}

@@ -5,13 +5,13 @@ use Rattle.drm_links.specs.Sink.{Output}
 use Rattle.drm_links.specs.Dock.{DockContents, after_failure, after_openings}
 use Rattle.drm_links.specs.declared.dock.Address.{Address}
 use Rattle.drm_links.proofs.KnownLemmas.{counts_as, counts_then}
-use Rattle.link_group.specs.Reaching.{NothingSent, with_none}
-use Rattle.link_group.proofs.OpeningLemmas.{docks_while, openings_gone}
+use Rattle.drm_links.specs.Gathering.{NothingSent, with_none}
+use Rattle.drm_links.proofs.OpeningLemmas.{docks_while, openings_gone}
 use Rattle.cmd_faults.specs.declared.fault.Fault.{Fault}
 use Rattle.cmd_faults.proofs.CauseLemmas.{inner_fault}
 use Rattle.recv_reading.specs.declared.options.ReceiveOptions.{ReceiveOptions}
 use Rattle.cmd_receive.specs.Receive.{OpensEach, ReadsBy}
-use Rattle.link_group.proofs.BindLemmas.{none_gone_few, hears_nothing_gone}
+use Rattle.drm_links.proofs.BindLemmas.{none_gone_few, hears_nothing_gone}
 
 -- ---- nothing is sent
 

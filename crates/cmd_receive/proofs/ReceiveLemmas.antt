@@ -22,7 +22,8 @@ use Rattle.recv_report.specs.declared.one_receiver.Ended.{Ended}
 use Rattle.recv_report.specs.declared.one_receiver.Ended.TheVariants.{Done, LinkFailed, WriteFailed, NoMemory}
 use Rattle.recv_report.specs.Receivers.{HasReceiverEnded, IsReceiverDone, AreReceivers, NoneFailed, clean_of, is_failed}
 use Rattle.cmd_receive.specs.Opening.{HaveLinks, EndsOpening, StopsOpening, members_of}
-use Rattle.link_group.specs.Reaching.{HaveGone, after_closes}
+use Rattle.drm_links.specs.Gathering.{after_closes}
+use Rattle.drm_links.specs.Members.{HaveGone}
 use Rattle.recv_report.specs.Settling.{receiver_texts, ReceiversSettle}
 use Rattle.recv_report.specs.declared.stop.ReceiveError.{ReceiveError}
 use Rattle.recv_report.specs.declared.stop.ReceiveError.TheVariants as stops
@@ -30,14 +31,14 @@ use Rattle.cmd_receive.specs.Stopping.{ending_of}
 use Rattle.recv_report.specs.Following.{HeadlinesFollow, CompletesFollow, NoneBreaksOff}
 use Rattle.cmd_faults.specs.Fault.{UnlessMemory}
 use Rattle.cmd_faults.proofs.CauseLemmas.{inner_fault}
-use Rattle.link_group.specs.Binding.{BindsFew, HearsEach}
+use Rattle.drm_links.specs.Binding.{BindsFew, HearsEach}
 use Rattle.cmd_receive.specs.Receive.{AreReports, AreAll, AreBroken, ReadsOne, ReadsBy, all_texts, FailsSome, OpensEach, WritesReports, WritesAll, AreSomeReports, WritesSome, IsLive, ReceiveRun}
-use Rattle.link_group.proofs.BindLemmas.{went_weaker, hears_each}
+use Rattle.drm_links.proofs.BindLemmas.{went_weaker, hears_each}
 use Rattle.cmd_receive.proofs.HearingLemmas.{ReadAs, has_read, link_in}
 use Rattle.cmd_receive.proofs.ReceiveStatus.{receive_run}
 use Rattle.report_text.specs.Reports.{Report}
 use Rattle.recv_report.specs.Ahead.{IsReportOf}
-use Rattle.link_group.proofs.OpeningLemmas.{docked_weaker}
+use Rattle.drm_links.proofs.OpeningLemmas.{docked_weaker}
 use Rattle.cmd_receive.proofs.BreakingOff.{report_whole}
 use Rattle.recv_report.proofs.ReceiverLemmas.{report_of, receiver_report, receiver_heard, receiver_breaks, all_reported, SomeFailed, some_failed}
 

@@ -18,7 +18,7 @@ use Rattle.report_text.specs.Reports.{Report}
 use Rattle.recv_reading.specs.OneReading.{BreaksOff}
 use Rattle.recv_report.specs.Ahead.{IsInTimeAhead, IsReportOf}
 use Rattle.recv_report.specs.Following.{NoneBreaksOff}
-use Rattle.link_group.proofs.OpeningLemmas.{docked_weaker, docked_both}
+use Rattle.drm_links.proofs.OpeningLemmas.{docked_weaker, docked_both}
 
 pub is_true : IsTrue true
 is_true = refl

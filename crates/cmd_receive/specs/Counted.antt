@@ -7,7 +7,7 @@ use Rattle.drm_links.specs.Dock.{DockContents}
 use Rattle.drm_links.specs.declared.dock.Address.{Address}
 use Rattle.recv_reading.specs.declared.options.ReceiveOptions.{ReceiveOptions}
 use Rattle.recv_reading.specs.Source.{HeardOf}
-use Rattle.link_group.specs.Binding.{HearsEach}
+use Rattle.drm_links.specs.Binding.{HearsEach}
 use Rattle.report_text.specs.declared.totals.Totals.{Totals}
 use Rattle.recv_report.specs.Received.{ReportCounted}
 use Rattle.cmd_faults.specs.declared.fault.Fault.{Fault}

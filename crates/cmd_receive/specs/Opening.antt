@@ -7,8 +7,8 @@ use Rattle.drm_links.specs.declared.dock.Address.{Address}
 use Rattle.cmd_faults.specs.declared.fault.Fault.{Fault}
 use Rattle.cmd_faults.specs.declared.fault.Fault.TheVariants as faults
 use Rattle.recv_report.specs.declared.receiver.Receiver.{Receiver}
-use Rattle.link_group.specs.declared.member.Member.{Member}
-use Rattle.link_group.specs.Binding.{BindsFew, StopsBehind}
+use Rattle.drm_links.specs.declared.member.Member.{Member}
+use Rattle.drm_links.specs.Binding.{BindsFew, StopsBehind}
 
 -- the receivers have the links of these addresses, in their order
 abbrev pub HaveLinks : {L : Type 0} → (L → Known Traffic) → DockContents → List Address → List (Receiver L) → Type 0

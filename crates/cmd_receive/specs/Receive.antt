@@ -18,7 +18,7 @@ use Rattle.cmd_faults.specs.Causes.{OpeningFailed}
 use Rattle.cmd_faults.specs.Fault.{UnlessMemory}
 use Rattle.cmd_faults.specs.declared.fault.Fault.{Fault}
 use Rattle.cmd_faults.specs.declared.fault.Fault.TheVariants as faults
-use Rattle.link_group.specs.Binding.{HearsEach, BindsFew, StopsBehind}
+use Rattle.drm_links.specs.Binding.{HearsEach, BindsFew, StopsBehind}
 
 -- a report for each address, in their order
 pub record AreReports (rules : ReceiveOptions) (contents : DockContents) (addresses : List Address) (reports : List Report) : Type 0 where

@@ -4,8 +4,9 @@ ghost use Rattle.std.specs.Prelude.{◌≡◌, ◌≤◌, List, length, vec_len,
 ghost use Rattle.drm_links.specs.Known.{HasCause, CountsCall, KnownThrough, IfBothKnown};
 ghost use Rattle.drm_links.specs.Dock.{DockOpens, Over, DockKnownThrough, after_openings};
 ghost use Rattle.recv_reading.specs.Options.{AreInRange};
-ghost use Rattle.link_group.specs.Listed.{AreListed};
-ghost use Rattle.link_group.specs.Reaching.{HaveGone, after_closes};
+ghost use Rattle.drm_links.specs.Listed.{AreListed};
+ghost use Rattle.drm_links.specs.Gathering.{after_closes};
+ghost use Rattle.drm_links.specs.Members.{HaveGone};
 ghost use Rattle.cmd_receive.specs.Receive.{ReceiveRun};
 ghost use Rattle.cmd_receive.specs.Counted.{CountedLink};
 ghost use Rattle.recv_report.specs.Receivers.{IsReceiver, AreReceivers};

@@ -1,8 +1,8 @@
 pub mod ScheduleRunLemmas
-pub mod OverLinksLemmas
-pub mod LinksLemmas
+pub mod ClosedLemmas
+pub mod RanLemmas
 pub mod SendLemmas
 pub mod LiveLemmas
-pub mod LiveOverLemmas
+pub mod OverGroupLemmas
 pub mod LiveServeLemmas
 pub mod LiveSendLemmas

@@ -6,7 +6,8 @@ use Rattle.drm_links.specs.Source.{Input}
 use Rattle.drm_links.proofs.KnownLemmas.{Tells-weaker, InputsBytes-nothing}
 use Rattle.drm_schedule.specs.declared.live.Live.{Live}
 use Rattle.drm_schedule.specs.declared.plan.Plan.{Plan}
-use Rattle.drm_timeline.specs.Numbers.{frame_count}
+use Rattle.drm_server.specs.declared.stretch.Stretch.{Stretch}
+use Rattle.drm_server.specs.Stretch.{first_in, frames_in}
 use Rattle.cmd_load.specs.Loading.{ShelfReading, ReadBy, given}
 use Rattle.cmd_load.specs.Schedule.{schedule_named}
 use Rattle.cmd_load.specs.declared.loading.ScheduleFault.{ScheduleFault}
@@ -35,10 +36,10 @@ module _ (name : List ℕ) (live : Live) (first : ℕ) (bytes : List ℕ) (a b :
   live_stops fault stops =
       ReadBy-stops (schedule_named name) with_bytes fault a b (λ plan. given_only (Ok (fed live plan first bytes))) stops
 
-module _ {S : Type 0} (name : List ℕ) (live : Live) (first : ℕ) (shelf_known : S → Known Files) (shelf shelf' : S) where
+module _ {S : Type 0} (name : List ℕ) (live : Live) (stretch : Stretch) (shelf_known : S → Known Files) (shelf shelf' : S) where
   -- nothing was read of input
-  pub unfed : (fault : Fault) (input : Known Input) (Runs : ShelfReading Plan → Type 0) → ((bytes : List ℕ) → Runs (live_named name live first bytes))
-      → FedRun name live first (Err fault) shelf_known shelf shelf' input input Runs
+  pub unfed : (fault : Fault) (input : Known Input) (Runs : ShelfReading Plan → Type 0) → ((bytes : List ℕ) → Runs (live_named name live (first_in stretch) bytes))
+      → FedRun name live stretch (Err fault) shelf_known shelf shelf' input input Runs
   unfed fault input Runs all = record {
     bytes = [];
     ended = false;
@@ -51,9 +52,9 @@ module _ {S : Type 0} (name : List ℕ) (live : Live) (first : ℕ) (shelf_known
   -- these bytes were, for a schedule that came
   pub was_fed : (ending : Result Bool Fault) (input input' : Known Input) (Runs : ShelfReading Plan → Type 0) (plan : Plan) (ended : Bool) (bytes : List ℕ)
       → ReadBy (schedule_named name) (Ok plan) (shelf_known shelf) (shelf_known shelf') → HasRead ended bytes input input' → input'.faults ≡ input.faults
-      → ((more : List ℕ) → (ended ≡ true → more ≡ []) → Runs (live_named name live first (bytes ++ more)))
-      → ((whole : Bool) → ending ≡ Ok whole → (ended ≡ not whole) × AreTaken ended live plan first (first + (frame_count plan - first)) bytes)
-      → FedRun name live first ending shelf_known shelf shelf' input input' Runs
+      → ((more : List ℕ) → (ended ≡ true → more ≡ []) → Runs (live_named name live (first_in stretch) (bytes ++ more)))
+      → ((whole : Bool) → ending ≡ Ok whole → (ended ≡ not whole) × AreTaken ended live plan (first_in stretch) (first_in stretch + frames_in stretch plan) bytes)
+      → FedRun name live stretch ending shelf_known shelf shelf' input input' Runs
   was_fed ending input input' Runs plan ended bytes loads read same runs taken = record {
     bytes = bytes;
     ended = ended;
@@ -67,6 +68,6 @@ module _ {S : Type 0} (name : List ℕ) (live : Live) (first : ℕ) (shelf_known
           | inl memory ↦ absurd (let e = memory in cc)
           | inr same ↦
               let one : plan ≡ outcome = outcome_is plan outcome (same ∙ gives) in
-              (t.0, subst (λ p. AreTaken ended live p first (first + (frame_count p - first)) bytes) one t.1)
+              (t.0, subst (λ p. AreTaken ended live p (first_in stretch) (first_in stretch + frames_in stretch p) bytes) one t.1)
         ]);
   }

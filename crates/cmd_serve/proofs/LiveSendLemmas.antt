@@ -1,82 +1,77 @@
 -- A run with live streams over links that were opened and closed.
-use Rattle.std.proofs.Common.{◌≡◌, ℕ, ◌+◌, ◌*◌, ◌<◌, ◌≤◌, ◌⊎◌, inl, inr, Bool, true, List, [], ◌++◌, length, slice_index_or, Result, Err, refl, sym, ◌∙◌, ap, subst, arith}
+use Rattle.std.proofs.Common.{◌≡◌, ℕ, ◌+◌, ◌*◌, ◌<◌, ◌≤◌, ◌⊎◌, inl, inr, ◌↔◌, Bool, true, false, List, [], ◌∷◌, ◌++◌, length, replicate, Option, None, Some, Result, Err, refl, sym, ◌∙◌, ap, subst, arith, append_assoc}
 use Rattle.drm_links.specs.Known.{Known, KnownThrough, IfBothKnown}
 use Rattle.drm_links.specs.Shelf.{Files}
 use Rattle.drm_links.specs.Source.{Input}
-use Rattle.drm_links.specs.Link.{Traffic}
-use Rattle.drm_links.specs.Dock.{DockContents, Over, AreDifferent, DockKnownThrough}
+use Rattle.drm_links.specs.Dock.{DockContents, AreDifferent}
+use Rattle.drm_links.specs.History.{GroupEvent, History, EventsHappen, TellsEvents}
+use Rattle.drm_links.specs.Calls.{is_up}
+use Rattle.drm_links.specs.Gathering.{DockGathers, DockDisbands, NothingSent, after_disbanding}
+use Rattle.drm_links.specs.declared.dock.GatheredGroup.TheVariants as gathered
 use Rattle.drm_links.specs.declared.dock.Address.{Address}
 use Rattle.drm_schedule.specs.declared.live.Live.{Live}
 use Rattle.drm_schedule.specs.declared.plan.Plan.{Plan}
-use Rattle.drm_schedule.specs.Valid.{IsSchedule}
-use Rattle.drm_timeline.specs.Numbers.{frame_count}
-use Rattle.live_streams.specs.Input.{pieces_of}
 use Rattle.live_streams.specs.Laws.{InputMakesASchedule}
-use Rattle.live_streams.proofs.FrameLemmas.{same_frame_count}
-use Rattle.link_group.specs.Reaching.{GoesOver, HaveGone, HaveLinks, AreUp, NothingSent, after_reaches, after_closes}
-use Rattle.link_group.specs.declared.member.Member.{Member}
-use Rattle.link_group.proofs.RunLemmas.{over_each}
 use Rattle.drm_server.specs.Laws.{HasOneDelivery, FirstOnesArePrefix}
+use Rattle.drm_server.specs.Serving.{FramesCome}
 use Rattle.cmd_load.specs.Loading.{ShelfReading}
 use Rattle.cmd_faults.specs.Fault.{done_of}
 use Rattle.cmd_faults.specs.Causes.{OneFailed, OpeningFailed}
 use Rattle.cmd_faults.proofs.CauseLemmas.{one_alone, other_alone}
-use Rattle.drm_links.proofs.KnownLemmas.{counts_as, counts_one}
-use Rattle.drm_links.proofs.Places.{index_of}
+use Rattle.drm_links.proofs.KnownLemmas.{counts_as, counts_one, Tells-then}
 use Rattle.cmd_faults.specs.declared.fault.Fault.{Fault}
 use Rattle.cmd_faults.specs.declared.fault.Fault.TheVariants as faults
+use Rattle.drm_server.specs.declared.stretch.Stretch.{Stretch}
+use Rattle.drm_server.specs.Stretch.{first_in, frames_in}
 use Rattle.live_server.specs.Feeding.{fed}
-use Rattle.live_server.specs.Links.{ServedEach}
 use Rattle.cmd_serve.specs.Live.{live_named, FedRun, BrokenSend, EndsBroken}
-use Rattle.cmd_serve.specs.OverLiveLinks.{EndsBrokenOver, OverLiveLinks}
-use Rattle.cmd_serve.specs.Send.{GoFrames, SendRun, ClosedRun, UnopenedRun}
-use Rattle.cmd_serve.proofs.OverLinksLemmas.{served_frames, frames_calls, gone_by}
-use Rattle.cmd_serve.proofs.LinksLemmas.{ups, up_at, some_down, links_run}
+use Rattle.cmd_serve.specs.OverGroup.{GroupComes, OverGroup}
+use Rattle.cmd_serve.specs.Send.{RunComes, GroupRan, SendRun, ClosedRun, UnopenedRun}
+use Rattle.cmd_serve.proofs.RanLemmas.{many_up}
 use Rattle.cmd_serve.proofs.SendLemmas.{closed, unopened, over_links, nothing_sent}
 use Rattle.cmd_serve.proofs.LiveLemmas.{unfed}
 use Rattle.cmd_serve.proofs.LiveServeLemmas.{read_of}
 
-all_ups : {L : Type 0} (members : List (Member L)) → AreUp members → (k : ℕ) → k < length members → ups members k ≡ true
-all_ups members up k there = let d = (index_of members k there).0 in sym (up_at members k d there) ∙ up k d there
-
--- how a run ends that a failed read broke off, by its links
-ends_of : {L : Type 0} (addresses : List Address) (members : List (Member L)) (ending : Result Bool Fault) → length members ≡ length addresses → EndsBrokenOver members ending → EndsBroken addresses (ups members) ending
-ends_of addresses members ending many (inl (is, up)) = inl (is, λ k within. all_ups members up k (omega (arith, within, many)))
-ends_of addresses members ending many (inr (is, down)) =
-    let low = some_down members down in
-    let less = low.1 in
-    inr (is, low.0, omega (arith, less, many), low.2)
+-- what a group tells of itself is what it told before, and what happened since
+all_events : (events : List GroupEvent) (x y : History) → EventsHappen events x y → y.events ≡ x.events ++ events
+all_events [] x y happen = ap (λ (h : History). h.events) happen ∙ sym (no_more x.events)
+  where
+    no_more : (xs : List GroupEvent) → xs ++ [] ≡ xs
+    no_more [] = refl
+    no_more (x ∷ xs) = ap (λ l. x ∷ l) (no_more xs)
+all_events (event ∷ events) x y happen =
+    all_events events happen.0 y happen.2 ∙ (ap (λ l. l ++ events) happen.1.events ∙ append_assoc x.events (event ∷ []) events)
 
 -- not for want of memory
-not_memory : (addresses : List Address) (up : ℕ → Bool) (ending : Result Bool Fault) → EndsBroken addresses up ending → ending ≡ Err faults.NoMemory → ⊥
+not_memory : (addresses : List Address) (up : List Bool) (ending : Result Bool Fault) → EndsBroken addresses up ending → ending ≡ Err faults.NoMemory → ⊥
 not_memory addresses up ending (inl (is, all)) memory = let both = sym is ∙ memory in cc
 not_memory addresses up ending (inr (is, k, within, down)) memory = let both = sym is ∙ memory in cc
 
-module _ {S D : Type 0} (one : HasOneDelivery) (front : FirstOnesArePrefix) (name : List ℕ) (addresses : List Address) (pace from : ℕ) (live : Live)
+module _ {S D : Type 0} (one : HasOneDelivery) (front : FirstOnesArePrefix) (name : List ℕ) (addresses : List Address) (pace : ℕ) (stretch : Stretch) (live : Live)
     (shelf_known : S → Known Files) (shelf shelf' : S) (dock_known : D → Known DockContents) (dock dock' : D) where
   abbrev RunOf : Result Bool Fault → ShelfReading Plan → Type 0
-  RunOf ending reading = SendRun reading addresses pace from (done_of ending) shelf_known shelf shelf' dock_known dock dock'
+  RunOf ending reading = SendRun reading addresses pace stretch (done_of ending) shelf_known shelf shelf' dock_known dock dock'
 
   abbrev Ran : Result Bool Fault → Known Input → Known Input → Type 0
   Ran ending input input' =
-      FedRun name live (3 * from) ending shelf_known shelf shelf' input input' (RunOf ending) ⊎ BrokenSend name addresses pace from live ending shelf_known shelf shelf' input input' dock_known dock dock'
+      FedRun name live stretch ending shelf_known shelf shelf' input input' (RunOf ending) ⊎ BrokenSend name addresses pace stretch live ending shelf_known shelf shelf' input input' dock_known dock dock'
 
   -- an opening failed
   pub live_closed : (input : Known Input) → ClosedRun addresses (Err faults.Link) shelf shelf' dock_known dock dock' → Ran (Err faults.Link) input input
   live_closed input run =
-      inl (unfed name live (3 * from) shelf_known shelf shelf' faults.Link input (RunOf (Err faults.Link))
-      (λ bytes. closed one front (live_named name live (3 * from) bytes) addresses pace from (Err faults.Link) shelf_known shelf shelf' dock_known dock dock' run))
+      inl (unfed name live stretch shelf_known shelf shelf' faults.Link input (RunOf (Err faults.Link))
+      (λ bytes. closed one front (live_named name live (first_in stretch) bytes) addresses pace stretch (Err faults.Link) shelf_known shelf shelf' dock_known dock dock' run))
 
   -- there was no memory for the links
   pub live_unopened : (input : Known Input) → UnopenedRun (Err faults.NoMemory) shelf shelf' dock dock' → Ran (Err faults.NoMemory) input input
   live_unopened input run =
-      inl (unfed name live (3 * from) shelf_known shelf shelf' faults.NoMemory input (RunOf (Err faults.NoMemory))
-      (λ bytes. unopened one front (live_named name live (3 * from) bytes) addresses pace from (Err faults.NoMemory) shelf_known shelf shelf' dock_known dock dock' run))
+      inl (unfed name live stretch shelf_known shelf shelf' faults.NoMemory input (RunOf (Err faults.NoMemory))
+      (λ bytes. unopened one front (live_named name live (first_in stretch) bytes) addresses pace stretch (Err faults.NoMemory) shelf_known shelf shelf' dock_known dock dock' run))
 
   -- after want of memory nothing has gone
   pub live_nothing_sent : (ending : Result Bool Fault) (input input' : Known Input) → AreDifferent addresses → Ran ending input input' → ending ≡ Err faults.NoMemory → IfBothKnown (dock_known dock) (dock_known dock') NothingSent
   live_nothing_sent ending input input' different (inl fed) memory =
-      nothing_sent one front (live_named name live (3 * from) (fed.bytes ++ [])) addresses pace from (done_of ending) shelf_known shelf shelf' dock_known dock dock' different (fed.runs [] (λ end. refl)) (ap done_of memory)
+      nothing_sent one front (live_named name live (first_in stretch) (fed.bytes ++ [])) addresses pace stretch (done_of ending) shelf_known shelf shelf' dock_known dock dock' different (fed.runs [] (λ end. refl)) (ap done_of memory)
   live_nothing_sent ending input input' different (inr broken) memory = absurd (not_memory addresses broken.up ending broken.ends memory)
 
   -- unless a link failed, a read failed, of input or of the shelf, exactly where that is told
@@ -92,46 +87,64 @@ module _ {S D : Type 0} (one : HasOneDelivery) (front : FirstOnesArePrefix) (nam
   ]
   sent_dock ending input input' (inr broken) = inl broken.same
 
-  module _ {L : Type 0} (makes : InputMakesASchedule) (different : AreDifferent addresses) (opened : Known DockContents) (known : L → Known Traffic) (members members' : List (Member L)) (many : length members ≡ length addresses)
-      (opens : KnownThrough (dock_known dock) opened (λ before after. after ≡ after_reaches addresses before)) (links : DockKnownThrough (dock_known dock) opened (λ contents. HaveLinks known contents addresses members))
-      (shut : KnownThrough opened (dock_known dock') (λ before after. (overs : List Over) → HaveGone known members' overs → after ≡ after_closes overs addresses before))
-      (same_dock : (dock_known dock').faults ≡ (dock_known dock).faults) (input input' : Known Input) where
-    -- over each link n frames of this schedule went
-    went : (plan : Plan) (n : ℕ) → length members' ≡ length members → IsSchedule plan → n ≤ frame_count plan → ServedEach plan (3 * from) pace n known members members'
-        → KnownThrough (dock_known dock) (dock_known dock') (GoesOver (λ k start over. GoFrames pace (3 * from) n plan (ups members' k) start.sends over.gone over.rests) addresses)
-    went plan n same valid few served =
-        let many' : length members' ≡ length addresses = same ∙ many in
-        over_each (λ k start over. GoFrames pace (3 * from) n plan (ups members' k) start.sends over.gone over.rests) known addresses members members' many many' (dock_known dock) opened (dock_known dock') opens links
-        (λ k d start within contents.
-        let among : k < length members = omega (arith, within, many) in
-        let there : k < length members' = omega (arith, within, many') in
-        let m = slice_index_or members k d in
-        let m' = slice_index_or members' k d in
-        let made = gone_by (GoFrames pace (3 * from) n plan m'.up) known m.link m'.link start contents
-        (served_frames plan (3 * from) pace n m'.up (known m.link) (known m'.link) (served k d among))
-        (frames_calls plan (3 * from) pace n m'.up (known m.link) (known m'.link) valid.in_lines.few_frames few (served k d among)) in
-        (made.0, made.1, subst (λ b. GoFrames pace (3 * from) n plan b start.sends made.0.gone made.0.rests) (up_at members' k d there) made.2, made.3))
-        shut
+  -- a group was opened, and closed again
+  module _ {G : Type 0} (known : G → Known History) (mid : Known DockContents) (group group' : G) (up' : List Bool)
+      (opens : KnownThrough (dock_known dock) mid (DockGathers known None addresses (gathered.Group group)))
+      (shut : KnownThrough mid (dock_known dock') (DockDisbands (known group') None addresses)) where
+    ran : (Comes : List Bool → List GroupEvent → List Bool → Type 0) → GroupComes Comes (replicate (length addresses) true) up' (known group) (known group')
+        → KnownThrough (dock_known dock) (dock_known dock') (GroupRan Comes up' addresses)
+    ran Comes made =
+        Tells-then (DockGathers known None addresses (gathered.Group group)) (DockDisbands (known group') None addresses) (GroupRan Comes up' addresses) (dock_known dock) mid (dock_known dock') opens shut
+        (λ x y z p q.
+        let P : Option History → Type 0 = λ o. TellsEvents made.0 o (known group').contents in
+        let Q : Option History → Type 0 = λ o. TellsEvents made.0 (Some p.0) o in
+        let happened : EventsHappen made.0 p.0 q.0 = subst Q q.1 (subst P p.1 made.2.told) in
+        let events : q.0.events ≡ made.0 = all_events made.0 p.0 q.0 happened ∙ ap (λ l. l ++ made.0) p.2.events in
+        record {
+          start = p.0;
+          starts = p.2;
+          events = made.0;
+          last = q.0;
+          happened = happened;
+          comes = made.1;
+          contents = q.2 ∙ (ap (λ l. after_disbanding None addresses l y) events ∙ ap (after_disbanding None addresses made.0) p.3);
+        })
 
-    pub live_over : (ending : Result Bool Fault) → OverLiveLinks name pace from live ending shelf_known shelf shelf' input input' known members members' → Ran ending input input'
-    live_over ending (inl fed) = inl (record {
+    pub live_over : (makes : InputMakesASchedule) (different : AreDifferent addresses) (up : List Bool) → up ≡ replicate (length addresses) true → (dock_known dock').faults ≡ (dock_known dock).faults
+        → (ending : Result Bool Fault) (input input' : Known Input) → OverGroup name pace stretch live ending shelf_known shelf shelf' input input' up up' (known group) (known group') → Ran ending input input'
+    live_over makes different up is same ending input input' (inl fed) = inl (record {
       bytes = fed.bytes;
       ended = fed.ended;
       read = fed.read;
       runs = λ more last.
-          let reading = live_named name live (3 * from) (fed.bytes ++ more) in
-          over_links one front reading addresses pace from (done_of ending) shelf_known shelf shelf' dock_known dock dock' different
-          (links_run reading addresses pace from (done_of ending) shelf_known shelf shelf' dock_known dock dock' opened known members members' many (fed.runs more last) opens links shut same_dock);
+          let reading = live_named name live (first_in stretch) (fed.bytes ++ more) in
+          let run = fed.runs more last in
+          over_links one front reading addresses pace stretch (done_of ending) shelf_known shelf shelf' dock_known dock dock' different
+          (record {
+            outcome = run.outcome;
+            loads = run.loads;
+            sound = run.sound;
+            ends = run.ends;
+            up = up';
+            contents = ran (RunComes pace stretch run.outcome) (subst (λ l. GroupComes (RunComes pace stretch run.outcome) l up' (known group) (known group')) is run.made);
+            failed = subst (λ n. (done_of ending ≡ Err faults.Link) ↔ ((k : ℕ) × (k < n) × (is_up up' k ≡ false))) (ap (λ (l : List Bool). length l) is ∙ many_up (length addresses)) run.failed;
+            same = same;
+            read_cause = run.read_cause;
+          });
       same = fed.same;
       taken = fed.taken;
     })
-    live_over ending (inr broken) =
+    live_over makes different up is same ending input input' (inr broken) =
         let run = broken.run in
-        let less = run.within in
+        let long : length up' ≡ length addresses = broken.many ∙ (ap (λ (l : List Bool). length l) is ∙ many_up (length addresses)) in
         inr (record {
-          up = ups members';
-          ends = ends_of addresses members' ending (broken.many ∙ many) broken.ends;
-          same = same_dock;
+          up = up';
+          left = broken.left;
+          ends = elim broken.ends [
+            | inl read ↦ inl (read.0, λ k within. read.1 k (omega (arith, within, long)))
+            | inr link ↦ inr (link.0, link.1, (let less = link.2 in omega (arith, less, long)), link.3)
+          ];
+          same = same;
           run = record {
             plan = run.plan;
             loads = run.loads;
@@ -142,10 +155,8 @@ module _ {S D : Type 0} (one : HasOneDelivery) (front : FirstOnesArePrefix) (nam
             within = run.within;
             breaks = run.breaks;
             made = λ more last.
-                let bytes = run.bytes ++ more in
-                let shown : Plan = fed live run.plan (3 * from) bytes in
-                let frames : frame_count shown ≡ frame_count run.plan = same_frame_count live (pieces_of live run.plan (3 * from) bytes) run.plan in
-                went shown run.n broken.many (makes live run.plan (3 * from) bytes run.sound) (omega (arith, less, frames)) (run.made more last);
+                let shown : Plan = fed live run.plan (first_in stretch) (run.bytes ++ more) in
+                ran (FramesCome shown (first_in stretch) pace run.n) (subst (λ l. GroupComes (FramesCome shown (first_in stretch) pace run.n) l up' (known group) (known group')) is (run.made more last));
             once = run.once;
             loaded = run.loaded;
           };

@@ -20,6 +20,8 @@ use Rattle.cmd_faults.proofs.CauseLemmas.{one_alone, other_alone}
 use Rattle.drm_links.proofs.KnownLemmas.{counts_as, counts_one}
 use Rattle.cmd_faults.specs.declared.fault.Fault.{Fault}
 use Rattle.cmd_faults.specs.declared.fault.Fault.TheVariants.{NoMemory, Words, FacLength, FacOver, FacCrc, Schedule, Script, Capture, CaptureTooLong, PacketSize, Units, Read, Write, Link}
+use Rattle.drm_server.specs.declared.stretch.Stretch.{Stretch}
+use Rattle.drm_server.specs.Stretch.{first_in, frames_in}
 use Rattle.live_server.specs.Feeding.{fed}
 use Rattle.live_server.specs.Capture.{WroteLive}
 use Rattle.cmd_serve.specs.ScheduleRun.{ScheduleRun}
@@ -32,12 +34,12 @@ pub read_of : (ending : Result Bool Fault) (fault : Fault) → done_of ending �
 read_of (Ok whole) fault is = cc
 read_of (Err other) fault is = cc
 
-module _ {S I O : Type 0} (name : List ℕ) (from : ℕ) (live : Live) (shelf_known : S → Known Files) (shelf shelf' : S) (input_known : I → Known Input) (out_known : O → Known Output) where
+module _ {S I O : Type 0} (name : List ℕ) (stretch : Stretch) (live : Live) (shelf_known : S → Known Files) (shelf shelf' : S) (input_known : I → Known Input) (out_known : O → Known Output) where
   abbrev whole : Plan → List ℕ → Type 0
-  whole schedule = IsCapture schedule (3 * from)
+  whole schedule = IsCapture schedule stretch
 
   abbrev front : Plan → List ℕ → Type 0
-  front schedule = IsPrefixOfCapture schedule (3 * from)
+  front schedule = IsPrefixOfCapture schedule stretch
 
   -- a run of a schedule that is read so
   abbrev RunOf : Result Bool Fault → O → O → ShelfReading Plan → Type 0
@@ -46,33 +48,33 @@ module _ {S I O : Type 0} (name : List ℕ) (from : ℕ) (live : Live) (shelf_kn
   -- no schedule came, and nothing was read of input or written
   pub live_refused : (fault : ScheduleFault) (input : I) (out : O) → ReadBy (schedule_named name) (Err fault) (shelf_known shelf) (shelf_known shelf')
       → HasCause (shelf_known shelf) (shelf_known shelf') (fault ≡ schedule.Read)
-      → LiveServeRun name from live (Err (fault_of_schedule fault)) shelf_known shelf shelf' input_known input input out_known out out
+      → LiveServeRun name stretch live (Err (fault_of_schedule fault)) shelf_known shelf shelf' input_known input input out_known out out
   live_refused fault input out comes cause =
-      inl (unfed name live (3 * from) shelf_known shelf shelf' (fault_of_schedule fault) (input_known input) (RunOf (Err (fault_of_schedule fault)) out out)
-      (λ bytes. refused_run (live_named name live (3 * from) bytes) IsSchedule whole front shelf_known shelf shelf' out_known fault out
-      (live_stops name live (3 * from) bytes (shelf_known shelf) (shelf_known shelf') fault comes) cause))
+      inl (unfed name live stretch shelf_known shelf shelf' (fault_of_schedule fault) (input_known input) (RunOf (Err (fault_of_schedule fault)) out out)
+      (λ bytes. refused_run (live_named name live (first_in stretch) bytes) IsSchedule whole front shelf_known shelf shelf' out_known fault out
+      (live_stops name live (first_in stretch) bytes (shelf_known shelf) (shelf_known shelf') fault comes) cause))
 
   module _ (makes : InputMakesASchedule) (plan : Plan) (valid : IsSchedule plan) (comes : ReadBy (schedule_named name) (Ok plan) (shelf_known shelf) (shelf_known shelf'))
       (same : (shelf_known shelf').faults ≡ (shelf_known shelf).faults) (input input' : I) (out out' : O) where
     abbrev Ran : Result Bool Fault → Type 0
-    Ran result = LiveServeRun name from live result shelf_known shelf shelf' input_known input input' out_known out out'
+    Ran result = LiveServeRun name stretch live result shelf_known shelf shelf' input_known input input' out_known out out'
 
     -- one came, and its frames were written
     pub live_served : (result : Result Bool Fault) → HasCause (input_known input) (input_known input') (result ≡ Err Read) → HasCause (out_known out) (out_known out') (result ≡ Err Write)
-        → WroteLive live plan (3 * from) result (input_known input) (input_known input') (out_known out) (out_known out') → Ran result
+        → WroteLive live plan stretch result (input_known input) (input_known input') (out_known out) (out_known out') → Ran result
     live_served (Ok all) read write wrote =
-        inl (was_fed name live (3 * from) shelf_known shelf shelf' (Ok all) (input_known input) (input_known input') (RunOf (Ok all) out out') plan (not all) wrote.bytes comes wrote.read (read.same (λ is. cc))
+        inl (was_fed name live stretch shelf_known shelf shelf' (Ok all) (input_known input) (input_known input') (RunOf (Ok all) out out') plan (not all) wrote.bytes comes wrote.read (read.same (λ is. cc))
         (λ more last.
         let bytes = wrote.bytes ++ more in
-        whole_run (live_named name live (3 * from) bytes) IsSchedule whole front shelf_known shelf shelf' out_known (fed live plan (3 * from) bytes) (makes live plan (3 * from) bytes valid)
-        (live_reads name live (3 * from) bytes (shelf_known shelf) (shelf_known shelf') plan comes) same out out' (wrote.written more last) (write.same (λ is. cc)))
+        whole_run (live_named name live (first_in stretch) bytes) IsSchedule whole front shelf_known shelf shelf' out_known (fed live plan (first_in stretch) bytes) (makes live plan (first_in stretch) bytes valid)
+        (live_reads name live (first_in stretch) bytes (shelf_known shelf) (shelf_known shelf') plan comes) same out out' (wrote.written more last) (write.same (λ is. cc)))
         (λ other is. ((let same : all ≡ other = cc in ap not same), wrote.taken)))
     live_served (Err Write) read write wrote =
-        inl (was_fed name live (3 * from) shelf_known shelf shelf' (Err Write) (input_known input) (input_known input') (RunOf (Err Write) out out') plan wrote.ended wrote.bytes comes wrote.read (read.same (λ is. cc))
+        inl (was_fed name live stretch shelf_known shelf shelf' (Err Write) (input_known input) (input_known input') (RunOf (Err Write) out out') plan wrote.ended wrote.bytes comes wrote.read (read.same (λ is. cc))
         (λ more last.
         let bytes = wrote.bytes ++ more in
-        cut_run (live_named name live (3 * from) bytes) IsSchedule whole front shelf_known shelf shelf' out_known (fed live plan (3 * from) bytes) (makes live plan (3 * from) bytes valid)
-        (live_reads name live (3 * from) bytes (shelf_known shelf) (shelf_known shelf') plan comes) same out out' (wrote.written more last) (write.once refl))
+        cut_run (live_named name live (first_in stretch) bytes) IsSchedule whole front shelf_known shelf shelf' out_known (fed live plan (first_in stretch) bytes) (makes live plan (first_in stretch) bytes valid)
+        (live_reads name live (first_in stretch) bytes (shelf_known shelf) (shelf_known shelf') plan comes) same out out' (wrote.written more last) (write.once refl))
         (λ other is. absurd cc))
     live_served (Err Read) read write wrote =
         inr (
@@ -104,10 +106,10 @@ module _ {S I O : Type 0} (name : List ℕ) (from : ℕ) (live : Live) (shelf_kn
     live_served (Err (PacketSize p)) read write wrote = absurd wrote
     live_served (Err (Units p)) read write wrote = absurd wrote
 
-module _ {S I O : Type 0} (name : List ℕ) (from : ℕ) (live : Live) (ending : Result Bool Fault) (shelf_known : S → Known Files) (shelf shelf' : S) (input_known : I → Known Input) (input input' : I)
+module _ {S I O : Type 0} (name : List ℕ) (stretch : Stretch) (live : Live) (ending : Result Bool Fault) (shelf_known : S → Known Files) (shelf shelf' : S) (input_known : I → Known Input) (input input' : I)
     (out_known : O → Known Output) (out out' : O) where
   -- a read failed, of input or of the shelf, exactly where that is told
-  pub served_read : LiveServeRun name from live ending shelf_known shelf shelf' input_known input input' out_known out out'
+  pub served_read : LiveServeRun name stretch live ending shelf_known shelf shelf' input_known input input' out_known out out'
       → OneFailed (input_known input) (input_known input') (shelf_known shelf) (shelf_known shelf') (ending ≡ Err Read)
   served_read (inl fed) = other_alone fed.same (counts_as (λ e. ap done_of e) (λ e. read_of ending Read e) (fed.runs [] (λ end. refl)).read_cause)
   served_read (inr (so, broken)) = one_alone (counts_one so broken.once) broken.loaded

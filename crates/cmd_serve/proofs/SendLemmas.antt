@@ -1,16 +1,19 @@
 -- What a run over links says of how it ends and of what has gone.
-use Rattle.std.proofs.Common.{◌≡◌, ℕ, ◌+◌, ◌*◌, ◌<◌, ◌⊎◌, ◌↔◌, inl, inr, Bool, true, false, List, [], ◌∷◌, length, slice_index_or, Option, None, Some, IsNone, Result, Ok, Err, refl, sym, ◌∙◌, ap, subst, arith, length-append}
+use Rattle.std.proofs.Common.{◌≡◌, ℕ, ◌+◌, ◌*◌, ◌<◌, ◌⊎◌, ◌↔◌, inl, inr, Bool, true, false, List, [], ◌∷◌, length, replicate, slice_index_or, Option, None, Some, IsNone, Result, Ok, Err, refl, sym, ◌∙◌, ap, subst, arith, length-append}
 use Rattle.std.specs.FinMap as map
 use Rattle.drm_links.specs.Known.{Known, IfBothKnown, KnownThrough}
 use Rattle.drm_links.specs.Shelf.{Files, ShelfSupplies}
-use Rattle.drm_links.specs.Dock.{DockContents, LinkStart, Over, address_key, start_at, AreDifferent, OpeningFinds, FindsNone}
+use Rattle.drm_links.specs.Dock.{DockContents, LinkStart, address_key, start_at, AreDifferent, OpeningFinds, FindsNone}
 use Rattle.drm_links.specs.Transmission.{TakesSends, TakesFewer}
 use Rattle.drm_links.specs.declared.dock.Address.{Address}
 use Rattle.drm_links.proofs.KnownLemmas.{Tells-weaker, Tells-nothing, counts_none}
 use Rattle.drm_schedule.specs.declared.plan.Plan.{Plan}
-use Rattle.link_group.specs.Reaching.{nothing, ReachesNone, ReachesFew, GoesOver, NothingSent, after_reaches}
-use Rattle.link_group.proofs.OpeningLemmas.{docks_while}
-use Rattle.link_group.proofs.RunLemmas as several
+use Rattle.drm_links.specs.History.{GroupEvent}
+use Rattle.drm_links.specs.Alone.{gone_at}
+use Rattle.drm_links.specs.Calls.{is_up}
+use Rattle.drm_links.specs.Gathering.{ReachesNone, ReachesFew, NothingSent}
+use Rattle.drm_links.proofs.OpeningLemmas.{docks_while}
+use Rattle.drm_server.specs.declared.stretch.Stretch.{Stretch}
 use Rattle.drm_server.specs.Datagrams.{AreDatagrams, AreBefore}
 use Rattle.drm_server.specs.Laws.{HasOneDelivery, FirstOnesArePrefix}
 use Rattle.cmd_load.specs.Loading.{ShelfReading}
@@ -20,7 +23,9 @@ use Rattle.cmd_faults.proofs.CauseLemmas.{inner_fault}
 use Rattle.cmd_load.specs.declared.loading.ScheduleFault.{ScheduleFault}
 use Rattle.cmd_load.specs.declared.loading.ScheduleFault.TheVariants as schedule
 use Rattle.cmd_serve.specs.ScheduleRun.{ServeEndsBy}
-use Rattle.cmd_serve.specs.Send.{SentDatagrams, LacksSends, LacksSome, ClosedRun, LinksRun, UnopenedRun, SendRun}
+use Rattle.cmd_serve.specs.Send.{RunComes, GroupRan, LacksSends, LacksSome, ClosedRun, LinksRun, UnopenedRun, SendRun}
+use Rattle.cmd_serve.proofs.RanLemmas.{SentDatagrams, sent_each}
+use Rattle.cmd_serve.proofs.ClosedLemmas.{went_at, nothing_went}
 use Rattle.cmd_serve.proofs.ScheduleRunLemmas.{outcome_or_memory, ends_memory, ends_exactly}
 
 -- ---- an opening finds a link, or none
@@ -40,17 +45,17 @@ opening_fails : (addresses : List Address) (x y : DockContents) → ReachesFew a
 opening_fails addresses x y few = record { k = few.k; within = few.within; fails = few.fails }
 
 -- each opening finds a link in a run that sends over them
-none_fails : {A : Type 0} (Goes : ℕ → LinkStart → Over → Type 0) (addresses : List Address) (x y : DockContents) → GoesOver Goes addresses x y → ReachesNone x addresses → A
-none_fails Goes addresses x y over none =
-    let goes = over.goes.each none.k no_address nothing none.within in
-    both x none.k (slice_index_or addresses none.k no_address) goes.0 (none.fails no_address) goes.1
+none_fails : {A : Type 0} (Comes : List Bool → List GroupEvent → List Bool → Type 0) (up : List Bool) (addresses : List Address) (x y : DockContents) → GroupRan Comes up addresses x y → ReachesNone x addresses → A
+none_fails Comes up addresses x y ran none =
+    let there = ran.starts.sends.each none.k no_address None none.within in
+    both x none.k (slice_index_or addresses none.k no_address) there.0 (none.fails no_address) there.1
 
 -- ---- how it ends, by what came
 
 -- a front that lacks a datagram is shorter than the whole
-shorter : FirstOnesArePrefix → (plan : Plan) (from : ℕ) (datagrams first : List (List ℕ)) (next : List ℕ) → AreDatagrams plan from datagrams → AreBefore plan from next first → length first < length datagrams
-shorter front plan from datagrams first next are before =
-    let f = front plan from datagrams first next are before in
+shorter : FirstOnesArePrefix → (plan : Plan) (stretch : Stretch) (datagrams first : List (List ℕ)) (next : List ℕ) → AreDatagrams plan stretch datagrams → AreBefore plan stretch next first → length first < length datagrams
+shorter front plan stretch datagrams first next are before =
+    let f = front plan stretch datagrams first next are before in
     let long : length datagrams ≡ length first + length (next ∷ f.0) = ap length f.1 ∙ length-append first (next ∷ f.0) in
     omega (arith, long)
 
@@ -78,27 +83,28 @@ is_up_or_not true = inl refl
 is_up_or_not false = inr refl
 
 -- a link that failed takes too few
-lacks_by : FirstOnesArePrefix → (pace from : ℕ) (outcome : Result Plan ScheduleFault) (sends : Option ℕ) (gone : List (List ℕ)) (rests : List ℕ) (plan : Plan) → outcome ≡ Ok plan → SentDatagrams pace from outcome false sends gone rests → LacksSends from outcome sends
-lacks_by front pace from (Ok x) sends gone rests plan is go = λ datagrams are. fewer_by sends (length gone) (length datagrams) go.2 (shorter front x from datagrams gone go.0 are go.1)
-lacks_by front pace from (Err fault) sends gone rests plan is go = cc
+lacks_by : FirstOnesArePrefix → (stretch : Stretch) (outcome : Result Plan ScheduleFault) (sends : Option ℕ) (gone : List (List ℕ)) (plan : Plan) → outcome ≡ Ok plan → SentDatagrams stretch outcome false sends gone → LacksSends stretch outcome sends
+lacks_by front stretch (Ok x) sends gone plan is go = λ datagrams are. fewer_by sends (length gone) (length datagrams) go.2 (shorter front x stretch datagrams gone go.0 are go.1)
+lacks_by front stretch (Err fault) sends gone plan is go = cc
 
 -- and one that didn't takes enough
-takes_by : (pace from : ℕ) (outcome : Result Plan ScheduleFault) (sends : Option ℕ) (gone : List (List ℕ)) (rests : List ℕ) → SentDatagrams pace from outcome true sends gone rests → LacksSends from outcome sends → ⊥
-takes_by pace from (Ok x) sends gone rests go lacks = not_both sends (length gone) (lacks gone go.0) go.1
-takes_by pace from (Err fault) sends gone rests go lacks = lacks
+takes_by : (stretch : Stretch) (outcome : Result Plan ScheduleFault) (sends : Option ℕ) (gone : List (List ℕ)) → SentDatagrams stretch outcome true sends gone → LacksSends stretch outcome sends → ⊥
+takes_by stretch (Ok x) sends gone go lacks = not_both sends (length gone) (lacks gone go.0) go.1
+takes_by stretch (Err fault) sends gone go lacks = lacks
 
 -- all were sent over a link that takes all
-all_by : HasOneDelivery → FirstOnesArePrefix → (pace from : ℕ) (plan : Plan) (up : Bool) (sends : Option ℕ) (gone datagrams : List (List ℕ)) (rests : List ℕ) → SentDatagrams pace from (Ok plan) up sends gone rests → AreDatagrams plan from datagrams → TakesSends sends (length datagrams)
+all_by : HasOneDelivery → FirstOnesArePrefix → (stretch : Stretch) (plan : Plan) (up : Bool) (sends : Option ℕ) (gone datagrams : List (List ℕ)) → SentDatagrams stretch (Ok plan) up sends gone → AreDatagrams plan stretch datagrams → TakesSends sends (length datagrams)
     → (up ≡ true) × (gone ≡ datagrams)
-all_by one front pace from plan true sends gone datagrams rests go are takes = (refl, one plan from gone datagrams go.0 are)
-all_by one front pace from plan false sends gone datagrams rests go are takes =
-    absurd (not_both sends (length datagrams) (fewer_by sends (length gone) (length datagrams) go.2 (shorter front plan from datagrams gone go.0 are go.1)) takes)
+all_by one front stretch plan true sends gone datagrams go are takes = (refl, one plan stretch gone datagrams go.0 are)
+all_by one front stretch plan false sends gone datagrams go are takes =
+    absurd (not_both sends (length datagrams) (fewer_by sends (length gone) (length datagrams) go.2 (shorter front plan stretch datagrams gone go.0 are go.1)) takes)
 
-none_by : (pace from : ℕ) (outcome : Result Plan ScheduleFault) (ending : Ending) (up : Bool) (sends : Option ℕ) (gone : List (List ℕ)) (rests : List ℕ) → ServeEndsBy faults.Link outcome ending → SentDatagrams pace from outcome up sends gone rests → ending ≡ Err faults.NoMemory → gone ≡ []
-none_by pace from (Ok x) (Ok done) up sends gone rests ends go e = cc
-none_by pace from (Ok x) (Err fault) up sends gone rests ends go e =
+-- where memory ran out no schedule came
+none_by : (outcome : Result Plan ScheduleFault) (ending : Ending) → ServeEndsBy faults.Link outcome ending → ending ≡ Err faults.NoMemory → (fault : ScheduleFault) × (outcome ≡ Err fault)
+none_by (Ok x) (Ok done) ends e = cc
+none_by (Ok x) (Err fault) ends e =
     let other : faults.Link ≡ faults.NoMemory = inner_fault faults.Link faults.NoMemory (sym (by_link fault ends) ∙ e) in absurd cc
-none_by pace from (Err fault) ending up sends gone rests ends go e = go.0
+none_by (Err fault) ending ends e = (fault, refl)
 
 -- which schedule came, where it ended by a link or was done
 outcome_by : (outcome : Result Plan ScheduleFault) (ending : Ending) → ServeEndsBy faults.Link outcome ending → (ending ≡ Err faults.Link) ⊎ (ending ≡ Ok tt) → (plan : Plan) × (outcome ≡ Ok plan)
@@ -110,12 +116,12 @@ outcome_by (Err fault) ending ends (inr done) = let e : ending ≡ Ok tt = done 
 
 -- ---- the whole run
 
-module _ {S D : Type 0} (one : HasOneDelivery) (front : FirstOnesArePrefix) (reading : ShelfReading Plan) (addresses : List Address) (pace from : ℕ) (ending : Ending) (shelf_known : S → Known Files) (shelf shelf' : S) (dock_known : D → Known DockContents) (dock dock' : D) where
+module _ {S D : Type 0} (one : HasOneDelivery) (front : FirstOnesArePrefix) (reading : ShelfReading Plan) (addresses : List Address) (pace : ℕ) (stretch : Stretch) (ending : Ending) (shelf_known : S → Known Files) (shelf shelf' : S) (dock_known : D → Known DockContents) (dock dock' : D) where
   -- nothing was loaded
   unread : (P : Files → Type 0) → shelf' ≡ shelf → ((x : Files) → P x) → ShelfSupplies (shelf_known shelf) (shelf_known shelf') (λ x _. P x)
   unread P same all = subst (λ s. ShelfSupplies (shelf_known shelf) (shelf_known s) (λ x _. P x)) (sym same) (Tells-nothing (λ x _. P x) (shelf_known shelf) all)
 
-  pub closed : ClosedRun addresses ending shelf shelf' dock_known dock dock' → SendRun reading addresses pace from ending shelf_known shelf shelf' dock_known dock dock'
+  pub closed : ClosedRun addresses ending shelf shelf' dock_known dock dock' → SendRun reading addresses pace stretch ending shelf_known shelf shelf' dock_known dock dock'
   closed run = record {
     run = inl run;
     unopened = Tells-weaker (ReachesFew addresses) _ (dock_known dock) (dock_known dock') run.contents (λ x y few none. inr run.fault);
@@ -132,7 +138,7 @@ module _ {S D : Type 0} (one : HasOneDelivery) (front : FirstOnesArePrefix) (rea
     read_cause = counts_none (λ is. let other = sym run.fault ∙ is in cc) (ap (λ s. (shelf_known s).faults) run.unread);
   }
 
-  pub unopened : UnopenedRun ending shelf shelf' dock dock' → SendRun reading addresses pace from ending shelf_known shelf shelf' dock_known dock dock'
+  pub unopened : UnopenedRun ending shelf shelf' dock dock' → SendRun reading addresses pace stretch ending shelf_known shelf shelf' dock_known dock dock'
   unopened run = record {
     run = inr (inr run);
     unopened = throughout_same _ (λ x none. inl run.fault);
@@ -148,85 +154,86 @@ module _ {S D : Type 0} (one : HasOneDelivery) (front : FirstOnesArePrefix) (rea
       throughout_same : (P : DockContents → DockContents → Type 0) → ((x : DockContents) → P x x) → KnownThrough (dock_known dock) (dock_known dock') P
       throughout_same P all = subst (λ d. KnownThrough (dock_known dock) (dock_known d) P) (sym run.unopened) (Tells-nothing P (dock_known dock) all)
 
-  module _ (different : AreDifferent addresses) (run : LinksRun reading addresses pace from ending shelf_known shelf shelf' dock_known dock dock') where
-    abbrev Goes : ℕ → LinkStart → Over → Type 0
-    Goes k start over = SentDatagrams pace (3 * from) run.outcome (run.up k) start.sends over.gone over.rests
+  module _ (different : AreDifferent addresses) (run : LinksRun reading addresses pace stretch ending shelf_known shelf shelf' dock_known dock dock') where
+    abbrev Ran : DockContents → DockContents → Type 0
+    Ran x y = GroupRan (RunComes pace stretch run.outcome) run.up addresses x y
 
-    -- it fails by a link exactly where one takes too few sends
-    link_by : (x y : DockContents) → GoesOver Goes addresses x y → (ending ≡ Err faults.Link) ↔ (ReachesNone x addresses ⊎ LacksSome (3 * from) run.outcome x addresses)
-    link_by x y over = (
-      λ e.
-          let failed = run.failed.0 e in
-          let outcome = outcome_by run.outcome ending run.ends (inl e) in
-          inr (record {
-            k = failed.0;
-            within = failed.1;
-            lacks = λ at.
-                let goes = over.goes.each failed.0 at nothing failed.1 in
-                let o = slice_index_or over.overs failed.0 nothing in
-                (goes.0, goes.1, lacks_by front pace (3 * from) run.outcome goes.0.sends o.gone o.rests outcome.0 outcome.1 (subst (λ b. SentDatagrams pace (3 * from) run.outcome b goes.0.sends o.gone o.rests) failed.2 goes.2));
-          }),
-      λ why. elim why [
-        | inl none ↦ none_fails Goes addresses x y over none
-        | inr lacks ↦
-            let k = lacks.k in
-            let goes = over.goes.each k no_address nothing lacks.within in
-            let o = slice_index_or over.overs k nothing in
-            let there = lacks.lacks no_address in
-            let same : there.0 ≡ goes.0 = one_start x k (slice_index_or addresses k no_address) there.0 goes.0 there.1 goes.1 in
-            let few : LacksSends (3 * from) run.outcome goes.0.sends = subst (λ (s : LinkStart). LacksSends (3 * from) run.outcome s.sends) same there.2 in
-            elim (is_up_or_not (run.up k)) [
-              | inl up ↦ absurd (takes_by pace (3 * from) run.outcome goes.0.sends o.gone o.rests (subst (λ b. SentDatagrams pace (3 * from) run.outcome b goes.0.sends o.gone o.rests) up goes.2) few)
-              | inr down ↦ run.failed.1 (k, lacks.within, down)
-            ]
-      ],
-    )
+    module _ (x y : DockContents) (ran : Ran x y) where
+      gone : ℕ → List (List ℕ)
+      gone k = gone_at k ran.events
 
-    -- all has gone over a link that takes all
-    all_gone : (x y : DockContents) (plan : Plan) (datagrams : List (List ℕ)) → run.outcome ≡ Ok plan → GoesOver Goes addresses x y → AreDatagrams plan (3 * from) datagrams
-        → (k : ℕ) (at : Address) (start : LinkStart) → k < length addresses → OpeningFinds x k (slice_index_or addresses k at) start → TakesSends start.sends (length datagrams)
-        → (over : GoesOver Goes addresses x y) → (run.up k ≡ true) × ((slice_index_or over.overs k nothing).gone ≡ datagrams)
-    all_gone x y plan datagrams outcome any are k at start within finds takes over =
-        let goes = over.goes.each k at nothing within in
-        let o = slice_index_or over.overs k nothing in
-        let same : start ≡ goes.0 = one_start x k (slice_index_or addresses k at) start goes.0 finds goes.1 in
-        all_by one front pace (3 * from) plan (run.up k) goes.0.sends o.gone datagrams o.rests
-        (subst (λ v. SentDatagrams pace (3 * from) v (run.up k) goes.0.sends o.gone o.rests) outcome goes.2) are (subst (λ (s : LinkStart). TakesSends s.sends (length datagrams)) same takes)
+      goes : (k : ℕ) (at : Address) → k < length addresses → (start : LinkStart) × OpeningFinds x k (slice_index_or addresses k at) start × SentDatagrams stretch run.outcome (is_up run.up k) start.sends (gone_at k ran.events)
+      goes k at within = sent_each addresses pace stretch run.outcome run.up x y ran k at within
 
-    -- what had gone over a link that was closed
-    gone_by : (x y : DockContents) (over : GoesOver Goes addresses x y) (k : ℕ) (at : Address) → k < length addresses
-        → map.get y.gone (address_key (slice_index_or addresses k at)) ≡ Some (slice_index_or over.overs k nothing).gone
-    gone_by x y over k at within =
-        ap (λ (d : DockContents). map.get d.gone (address_key (slice_index_or addresses k at))) over.contents
-        ∙ several.gone_at over.overs addresses (after_reaches addresses x) different over.goes.as_many k at nothing within
+      -- it fails by a link exactly where one takes too few sends
+      link_by : (ending ≡ Err faults.Link) ↔ (ReachesNone x addresses ⊎ LacksSome stretch run.outcome x addresses)
+      link_by = (
+        λ e.
+            let failed = run.failed.0 e in
+            let outcome = outcome_by run.outcome ending run.ends (inl e) in
+            inr (record {
+              k = failed.0;
+              within = failed.1;
+              lacks = λ at.
+                  let there = goes failed.0 at failed.1 in
+                  (there.0, there.1, lacks_by front stretch run.outcome there.0.sends (gone_at failed.0 ran.events) outcome.0 outcome.1 (subst (λ b. SentDatagrams stretch run.outcome b there.0.sends (gone_at failed.0 ran.events)) failed.2 there.2));
+            }),
+        λ why. elim why [
+          | inl none ↦ none_fails (RunComes pace stretch run.outcome) run.up addresses x y ran none
+          | inr lacks ↦
+              let k = lacks.k in
+              let here = goes k no_address lacks.within in
+              let there = lacks.lacks no_address in
+              let same : there.0 ≡ here.0 = one_start x k (slice_index_or addresses k no_address) there.0 here.0 there.1 here.1 in
+              let few : LacksSends stretch run.outcome here.0.sends = subst (λ (s : LinkStart). LacksSends stretch run.outcome s.sends) same there.2 in
+              elim (is_up_or_not (is_up run.up k)) [
+                | inl up ↦ absurd (takes_by stretch run.outcome here.0.sends (gone_at k ran.events) (subst (λ b. SentDatagrams stretch run.outcome b here.0.sends (gone_at k ran.events)) up here.2) few)
+                | inr down ↦ run.failed.1 (k, lacks.within, down)
+              ]
+        ],
+      )
 
-    -- after a run that is done all has gone over each link
-    done_gone : (e : ending ≡ Ok tt) (x y : DockContents) (over : GoesOver Goes addresses x y) (plan : Plan) → run.outcome ≡ Ok plan → (k : ℕ) → k < length addresses → AreDatagrams plan (3 * from) (slice_index_or over.overs k nothing).gone
-    done_gone e x y over plan outcome k within =
-        let goes = over.goes.each k no_address nothing within in
-        let o = slice_index_or over.overs k nothing in
-        elim (is_up_or_not (run.up k)) [
-          | inl up ↦ (subst (λ b. SentDatagrams pace (3 * from) (Ok plan) b goes.0.sends o.gone o.rests) up (subst (λ v. SentDatagrams pace (3 * from) v (run.up k) goes.0.sends o.gone o.rests) outcome goes.2)).0
-          | inr down ↦ let link = run.failed.1 (k, within, down) in absurd (let other = sym link ∙ e in cc)
-        ]
+      -- all has gone over a link that takes all
+      all_gone : (plan : Plan) (datagrams : List (List ℕ)) → run.outcome ≡ Ok plan → AreDatagrams plan stretch datagrams
+          → (k : ℕ) (at : Address) (start : LinkStart) → k < length addresses → OpeningFinds x k (slice_index_or addresses k at) start → TakesSends start.sends (length datagrams)
+          → (is_up run.up k ≡ true) × (gone_at k ran.events ≡ datagrams)
+      all_gone plan datagrams outcome are k at start within finds takes =
+          let here = goes k at within in
+          let same : start ≡ here.0 = one_start x k (slice_index_or addresses k at) start here.0 finds here.1 in
+          all_by one front stretch plan (is_up run.up k) here.0.sends (gone_at k ran.events) datagrams
+          (subst (λ v. SentDatagrams stretch v (is_up run.up k) here.0.sends (gone_at k ran.events)) outcome here.2) are (subst (λ (s : LinkStart). TakesSends s.sends (length datagrams)) same takes)
 
-    pub over_links : SendRun reading addresses pace from ending shelf_known shelf shelf' dock_known dock dock'
+      -- what had gone over a link that was closed
+      gone_by : (k : ℕ) (at : Address) → k < length addresses → map.get y.gone (address_key (slice_index_or addresses k at)) ≡ Some (gone_at k ran.events)
+      gone_by k at within = went_at addresses ran.events x y ran.contents different k at within
+
+      -- after a run that is done all has gone over each link
+      done_gone : (e : ending ≡ Ok tt) (plan : Plan) → run.outcome ≡ Ok plan → (k : ℕ) → k < length addresses → AreDatagrams plan stretch (gone_at k ran.events)
+      done_gone e plan outcome k within =
+          let here = goes k no_address within in
+          elim (is_up_or_not (is_up run.up k)) [
+            | inl up ↦
+                (subst (λ b. SentDatagrams stretch (Ok plan) b here.0.sends (gone_at k ran.events)) up (subst (λ v. SentDatagrams stretch v (is_up run.up k) here.0.sends (gone_at k ran.events)) outcome here.2)).0
+            | inr down ↦ let link = run.failed.1 (k, within, down) in absurd (let other = sym link ∙ e in cc)
+          ]
+
+    pub over_links : SendRun reading addresses pace stretch ending shelf_known shelf shelf' dock_known dock dock'
     over_links = record {
       run = inr (inl run);
-      unopened = Tells-weaker (GoesOver Goes addresses) _ (dock_known dock) (dock_known dock') run.contents (λ x y over none. none_fails Goes addresses x y over none);
-      cut = Tells-weaker (GoesOver Goes addresses) _ (dock_known dock) (dock_known dock') run.contents
+      unopened = Tells-weaker Ran _ (dock_known dock) (dock_known dock') run.contents (λ x y over none. none_fails (RunComes pace stretch run.outcome) run.up addresses x y over none);
+      cut = Tells-weaker Ran _ (dock_known dock) (dock_known dock') run.contents
           (λ x y over. Tells-weaker _ _ (shelf_known shelf) (shelf_known shelf') run.loads
           (λ p q is. elim (outcome_or_memory reading run.outcome p q is) [
             | inl memory ↦ inl (ends_memory faults.Link run.outcome ending run.ends memory)
-            | inr outcome ↦ inr (subst (λ v. (ending ≡ Err faults.Link) ↔ (ReachesNone x addresses ⊎ LacksSome (3 * from) v x addresses)) outcome (link_by x y over))
+            | inr outcome ↦ inr (subst (λ v. (ending ≡ Err faults.Link) ↔ (ReachesNone x addresses ⊎ LacksSome stretch v x addresses)) outcome (link_by x y over))
           ]));
-      complete = Tells-weaker (GoesOver Goes addresses) _ (dock_known dock) (dock_known dock') run.contents
+      complete = Tells-weaker Ran _ (dock_known dock) (dock_known dock') run.contents
           (λ x y over some. Tells-weaker _ _ (shelf_known shelf) (shelf_known shelf') run.loads
           (λ p q is plan datagrams gives are k at start within finds takes. elim (outcome_or_memory reading run.outcome p q is) [
             | inl memory ↦ inl (ends_memory faults.Link run.outcome ending run.ends memory)
-            | inr outcome ↦ inr (gone_by x y over k at within ∙ ap Some (all_gone x y plan datagrams (outcome ∙ gives) over are k at start within finds takes over).1)
+            | inr outcome ↦ inr (gone_by x y over k at within ∙ ap (λ (l : List (List ℕ)). Some l) (all_gone x y over plan datagrams (outcome ∙ gives) are k at start within finds takes).1)
           ]));
-      done = Tells-weaker (GoesOver Goes addresses) _ (dock_known dock) (dock_known dock') run.contents
+      done = Tells-weaker Ran _ (dock_known dock) (dock_known dock') run.contents
           (λ x y over. Tells-weaker _ _ (shelf_known shelf) (shelf_known shelf') run.loads
           (λ p q is plan datagrams gives are takes. elim (outcome_or_memory reading run.outcome p q is) [
             | inl memory ↦ inl (ends_memory faults.Link run.outcome ending run.ends memory)
@@ -235,17 +242,17 @@ module _ {S D : Type 0} (one : HasOneDelivery) (front : FirstOnesArePrefix) (rea
               | inr link ↦
                   let failed = run.failed.0 link in
                   let there = takes failed.0 no_address failed.1 in
-                  let all = all_gone x y plan datagrams (outcome ∙ gives) over are failed.0 no_address there.0 failed.1 there.1 there.2 over in
+                  let all = all_gone x y over plan datagrams (outcome ∙ gives) are failed.0 no_address there.0 failed.1 there.1 there.2 in
                   absurd (let other = sym failed.2 ∙ all.0 in cc)
             ])
           ]));
       alike = λ e.
           let outcome = outcome_by run.outcome ending run.ends (inr e) in
-          Tells-weaker (GoesOver Goes addresses) _ (dock_known dock) (dock_known dock') run.contents
+          Tells-weaker Ran _ (dock_known dock) (dock_known dock') run.contents
           (λ x y over j k at first second.
           gone_by x y over j at first
-          ∙ (ap Some (one outcome.0 (3 * from) (slice_index_or over.overs j nothing).gone (slice_index_or over.overs k nothing).gone
-          (done_gone e x y over outcome.0 outcome.1 j first) (done_gone e x y over outcome.0 outcome.1 k second))
+          ∙ (ap (λ (l : List (List ℕ)). Some l) (one outcome.0 stretch (gone_at j over.events) (gone_at k over.events)
+          (done_gone x y over e outcome.0 outcome.1 j first) (done_gone x y over e outcome.0 outcome.1 k second))
           ∙ sym (gone_by x y over k at second)));
       exactly = λ none. ends_exactly faults.Link reading run.outcome ending (shelf_known shelf) (shelf_known shelf') run.loads run.ends;
       dock_cause = inl run.same;
@@ -254,11 +261,12 @@ module _ {S D : Type 0} (one : HasOneDelivery) (front : FirstOnesArePrefix) (rea
 
     none_sent : ending ≡ Err faults.NoMemory → IfBothKnown (dock_known dock) (dock_known dock') NothingSent
     none_sent memory =
-        docks_while (GoesOver Goes addresses) NothingSent (dock_known dock) (dock_known dock') run.contents
-        (λ x y over. several.nothing_sent Goes addresses x y over
-        (λ k start o goes. none_by pace (3 * from) run.outcome ending (run.up k) start.sends o.gone o.rests run.ends goes memory))
+        let none = none_by run.outcome ending run.ends memory in
+        docks_while Ran NothingSent (dock_known dock) (dock_known dock') run.contents
+        (λ x y over. nothing_went addresses over.events x y over.contents
+        (λ k. let come = subst (λ v. RunComes pace stretch v (replicate (length addresses) true) over.events run.up) none.1 over.comes in ap (gone_at k) come.0))
 
-  pub nothing_sent : AreDifferent addresses → SendRun reading addresses pace from ending shelf_known shelf shelf' dock_known dock dock' → ending ≡ Err faults.NoMemory → IfBothKnown (dock_known dock) (dock_known dock') NothingSent
+  pub nothing_sent : AreDifferent addresses → SendRun reading addresses pace stretch ending shelf_known shelf shelf' dock_known dock dock' → ending ≡ Err faults.NoMemory → IfBothKnown (dock_known dock) (dock_known dock') NothingSent
   nothing_sent different sent memory = elim sent.run [
     | inl run ↦ let other : faults.Link ≡ faults.NoMemory = inner_fault faults.Link faults.NoMemory (sym run.fault ∙ memory) in absurd cc
     | inr others ↦ elim others [

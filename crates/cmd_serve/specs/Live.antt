@@ -9,8 +9,9 @@ use Rattle.drm_links.specs.declared.dock.Address.{Address}
 use Rattle.drm_schedule.specs.declared.live.Live.{Live}
 use Rattle.drm_schedule.specs.declared.plan.Plan.{Plan}
 use Rattle.drm_schedule.specs.Valid.{IsSchedule}
-use Rattle.drm_timeline.specs.Numbers.{frame_count}
-use Rattle.link_group.specs.Reaching.{GoesOver}
+use Rattle.drm_server.specs.declared.stretch.Stretch.{Stretch}
+use Rattle.drm_server.specs.Stretch.{first_in, frames_in}
+use Rattle.drm_links.specs.Calls.{is_up}
 use Rattle.drm_server.specs.Capture.{IsCapture, IsPrefixOfCapture}
 use Rattle.cmd_load.specs.Loading.{ShelfReading, ReadBy, given, ◌>>=◌}
 use Rattle.cmd_load.specs.Schedule.{schedule_named}
@@ -20,7 +21,8 @@ use Rattle.cmd_faults.specs.declared.fault.Fault.TheVariants as faults
 use Rattle.live_server.specs.Feeding.{fed, AreTaken, HasRead, BreaksOff, OfEach}
 use Rattle.live_server.specs.Capture.{AreWritten}
 use Rattle.cmd_serve.specs.ScheduleRun.{ScheduleRun}
-use Rattle.cmd_serve.specs.Send.{GoFrames, SendRun}
+use Rattle.drm_server.specs.Serving.{IsOneUp, FramesCome}
+use Rattle.cmd_serve.specs.Send.{GroupRan, SendRun}
 
 -- The schedule of this name, whose live streams have these bytes of input from frame `first` on: frame by frame its piece, as long as
 -- whole pieces are there, and then their own content.
@@ -31,20 +33,20 @@ live_named name live first bytes = do
 
 -- A run in which no read of input failed: these bytes were read of it, and it has ended with them where `ended` says so. Whatever it has
 -- behind them, this is a run of the schedule that its bytes make.
-pub record FedRun {S : Type 0} (name : List ℕ) (live : Live) (first : ℕ) (ending : Result Bool Fault) (shelf_known : S → Known Files) (shelf shelf' : S)
+pub record FedRun {S : Type 0} (name : List ℕ) (live : Live) (stretch : Stretch) (ending : Result Bool Fault) (shelf_known : S → Known Files) (shelf shelf' : S)
     (input input' : Known Input) (Runs : ShelfReading Plan → Type 0) : Type 0 where
   pub bytes : List ℕ
   pub ended : Bool
   pub read : HasRead ended bytes input input'
   pub same : input'.faults ≡ input.faults
-  pub runs : (more : List ℕ) → (ended ≡ true → more ≡ []) → Runs (live_named name live first (bytes ++ more))
+  pub runs : (more : List ℕ) → (ended ≡ true → more ≡ []) → Runs (live_named name live (first_in stretch) (bytes ++ more))
   -- After a run that is done these are the pieces of all frames from there on, or, where some frame lacks its piece, all that input had.
   pub taken : (whole : Bool) → ending ≡ Ok whole
       → ShelfSupplies (shelf_known shelf) (shelf_known shelf') (λ files _. (plan : Plan) → (schedule_named name files).outcome ≡ Ok plan
-      → (ended ≡ not whole) × AreTaken ended live plan first (first + (frame_count plan - first)) bytes)
+      → (ended ≡ not whole) × AreTaken ended live plan (first_in stretch) (first_in stretch + frames_in stretch plan) bytes)
 
 -- A run that a failed read of input broke off, within the piece of the frame behind n others, of which `Made` holds. No load failed.
-pub record BrokenRun {S : Type 0} (name : List ℕ) (live : Live) (first : ℕ) (shelf_known : S → Known Files) (shelf shelf' : S)
+pub record BrokenRun {S : Type 0} (name : List ℕ) (live : Live) (stretch : Stretch) (shelf_known : S → Known Files) (shelf shelf' : S)
     (input input' : Known Input) (Made : Plan → ℕ → Type 0) : Type 0 where
   pub plan : Plan
   pub loads : ReadBy (schedule_named name) (Ok plan) (shelf_known shelf) (shelf_known shelf')
@@ -52,42 +54,44 @@ pub record BrokenRun {S : Type 0} (name : List ℕ) (live : Live) (first : ℕ) 
   pub bytes : List ℕ
   pub read : HasRead false bytes input input'
   pub n : ℕ
-  pub within : first + n < frame_count plan
-  pub breaks : BreaksOff live plan first (first + n) bytes
-  pub made : OfEach false live plan first bytes (λ p. Made p n)
+  pub within : n < frames_in stretch plan
+  pub breaks : BreaksOff live plan (first_in stretch) (first_in stretch + n) bytes
+  pub made : OfEach false live plan (first_in stretch) bytes (λ p. Made p n)
   pub once : HasFailed input input'
   pub loaded : (shelf_known shelf').faults ≡ (shelf_known shelf).faults
 
--- A run of `serve` to out: it writes the capture of the schedule that input makes, from super frame `from` on; or, where a read fails,
--- that of the frames before.
-abbrev pub LiveServeRun : {S I O : Type 0} → List ℕ → ℕ → Live → Result Bool Fault → (S → Known Files) → S → S → (I → Known Input) → I → I → (O → Known Output) → O → O → Type 0
-LiveServeRun name from live ending shelf_known shelf shelf' input_known input input' out_known out out' =
-    FedRun name live (3 * from) ending shelf_known shelf shelf' (input_known input) (input_known input')
-    (λ reading. ScheduleRun reading IsSchedule (λ (schedule : Plan). IsCapture schedule (3 * from)) (λ (schedule : Plan). IsPrefixOfCapture schedule (3 * from)) (done_of ending)
+-- A run of `serve` to out: it writes the capture of the schedule that input makes, of these super frames; or, where a read fails, that of the
+-- frames before.
+abbrev pub LiveServeRun : {S I O : Type 0} → List ℕ → Stretch → Live → Result Bool Fault → (S → Known Files) → S → S → (I → Known Input) → I → I → (O → Known Output) → O → O → Type 0
+LiveServeRun name stretch live ending shelf_known shelf shelf' input_known input input' out_known out out' =
+    FedRun name live stretch ending shelf_known shelf shelf' (input_known input) (input_known input')
+    (λ reading. ScheduleRun reading IsSchedule (λ (schedule : Plan). IsCapture schedule stretch) (λ (schedule : Plan). IsPrefixOfCapture schedule stretch) (done_of ending)
     shelf_known shelf shelf' out_known out out')
     ⊎ ((ending ≡ Err faults.Read)
-    × BrokenRun name live (3 * from) shelf_known shelf shelf' (input_known input) (input_known input') (λ p n. OutputsText (out_known out) (out_known out') (AreWritten p (3 * from) n)))
+    × BrokenRun name live stretch shelf_known shelf shelf' (input_known input) (input_known input') (λ p n. OutputsText (out_known out) (out_known out') (AreWritten p (first_in stretch) n)))
 
 -- Some links failed, or none: then the read that failed is told.
-abbrev pub EndsBroken : List Address → (ℕ → Bool) → Result Bool Fault → Type 0
+abbrev pub EndsBroken : List Address → List Bool → Result Bool Fault → Type 0
 EndsBroken addresses up ending =
-    ((ending ≡ Err faults.Read) × ((k : ℕ) → k < length addresses → up k ≡ true))
-    ⊎ ((ending ≡ Err faults.Link) × (k : ℕ) × (k < length addresses) × (up k ≡ false))
+    ((ending ≡ Err faults.Read) × ((k : ℕ) → k < length addresses → is_up up k ≡ true))
+    ⊎ ((ending ≡ Err faults.Link) × (k : ℕ) × (k < length addresses) × (is_up up k ≡ false))
 
--- A run over links that a failed read broke off: over each link went what would have gone over it alone.
-pub record BrokenSend {S D : Type 0} (name : List ℕ) (addresses : List Address) (pace from : ℕ) (live : Live) (ending : Result Bool Fault)
+-- A run over links that a failed read broke off: the frames before were sent, and some link hadn't failed.
+pub record BrokenSend {S D : Type 0} (name : List ℕ) (addresses : List Address) (pace : ℕ) (stretch : Stretch) (live : Live) (ending : Result Bool Fault)
     (shelf_known : S → Known Files) (shelf shelf' : S) (input input' : Known Input) (dock_known : D → Known DockContents) (dock dock' : D) : Type 0 where
   -- which links didn't fail
-  pub up : ℕ → Bool
+  pub up : List Bool
+  pub left : IsOneUp up
   pub ends : EndsBroken addresses up ending
   -- no opening failed
   pub same : (dock_known dock').faults ≡ (dock_known dock).faults
-  pub run : BrokenRun name live (3 * from) shelf_known shelf shelf' input input' (λ p n. KnownThrough (dock_known dock) (dock_known dock')
-      (GoesOver (λ k start over. GoFrames pace (3 * from) n p (up k) start.sends over.gone over.rests) addresses))
+  pub run : BrokenRun name live stretch shelf_known shelf shelf' input input' (λ p n. KnownThrough (dock_known dock) (dock_known dock')
+      (GroupRan (FramesCome p (first_in stretch) pace n) up addresses))
 
--- A run of `serve --to` these addresses: over each link goes what would go over it alone of the schedule that input makes.
-abbrev pub LiveSendRun : {S I D : Type 0} → List ℕ → List Address → ℕ → ℕ → Live → Result Bool Fault → (S → Known Files) → S → S → (I → Known Input) → I → I → (D → Known DockContents) → D → D → Type 0
-LiveSendRun name addresses pace from live ending shelf_known shelf shelf' input_known input input' dock_known dock dock' =
-    FedRun name live (3 * from) ending shelf_known shelf shelf' (input_known input) (input_known input')
-    (λ reading. SendRun reading addresses pace from (done_of ending) shelf_known shelf shelf' dock_known dock dock')
-    ⊎ BrokenSend name addresses pace from live ending shelf_known shelf shelf' (input_known input) (input_known input') dock_known dock dock'
+-- A run of `serve --to` these addresses: what happened at the links is what the schedule that input makes calls for. Where no stream is
+-- live it is the schedule itself, and input is left alone.
+abbrev pub LiveSendRun : {S I D : Type 0} → List ℕ → List Address → ℕ → Stretch → Live → Result Bool Fault → (S → Known Files) → S → S → (I → Known Input) → I → I → (D → Known DockContents) → D → D → Type 0
+LiveSendRun name addresses pace stretch live ending shelf_known shelf shelf' input_known input input' dock_known dock dock' =
+    FedRun name live stretch ending shelf_known shelf shelf' (input_known input) (input_known input')
+    (λ reading. SendRun reading addresses pace stretch (done_of ending) shelf_known shelf shelf' dock_known dock dock')
+    ⊎ BrokenSend name addresses pace stretch live ending shelf_known shelf shelf' (input_known input) (input_known input') dock_known dock dock'

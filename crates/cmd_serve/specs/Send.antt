@@ -1,17 +1,20 @@
 -- The command `serve --to`: a schedule becomes datagrams over links.
-use Rattle.std.specs.Prelude.{ℕ, ◌≡◌, ◌-◌, ◌*◌, ◌<◌, ◌⊎◌, ◌↔◌, Bool, true, false, List, [], ◌∷◌, ◌++◌, length, slice_index_or, Option, Some, Result, Ok, Err, IfOk}
+use Rattle.std.specs.Prelude.{ℕ, ◌≡◌, ◌-◌, ◌*◌, ◌<◌, ◌≤◌, ◌⊎◌, ◌↔◌, Bool, true, false, List, [], length, replicate, slice_index_or, Option, None, Some, Result, Ok, Err, IfOk}
 use Rattle.std.specs.FinMap as map
 use Rattle.drm_links.specs.Known.{HasFailed, Known, HasCause, KnownThrough}
 use Rattle.drm_links.specs.Shelf.{Files, ShelfSupplies}
 use Rattle.drm_links.specs.Dock.{DockContents, LinkStart, address_key, OpeningFinds, DockKnownThrough}
 use Rattle.drm_links.specs.Transmission.{TakesSends, TakesFewer}
+use Rattle.drm_links.specs.History.{GroupEvent, History, EventsHappen}
+use Rattle.drm_links.specs.Calls.{is_up, NoneUp}
+use Rattle.drm_links.specs.Gathering.{ReachesNone, ReachesFew, GroupStarts, after_gathering, after_disbanding}
 use Rattle.drm_links.specs.declared.dock.Address.{Address}
 use Rattle.drm_schedule.specs.declared.plan.Plan.{Plan}
 use Rattle.drm_schedule.specs.Valid.{IsSchedule}
-use Rattle.link_group.specs.Reaching.{ReachesNone, ReachesFew, GoesOver}
-use Rattle.drm_timeline.specs.Numbers.{frame_count}
-use Rattle.drm_server.specs.Datagrams.{AreDatagrams, AreBefore, AreOfFrames}
-use Rattle.drm_server.specs.Rests.{ArePaced}
+use Rattle.drm_server.specs.declared.stretch.Stretch.{Stretch}
+use Rattle.drm_server.specs.Stretch.{first_in, frames_in}
+use Rattle.drm_server.specs.Datagrams.{AreDatagrams}
+use Rattle.drm_server.specs.Serving.{FramesCome}
 use Rattle.cmd_load.specs.Loading.{ShelfReading, ReadBy}
 use Rattle.cmd_serve.specs.ScheduleRun.{ServeEndsBy}
 use Rattle.cmd_faults.specs.Fault.{UnlessMemory}
@@ -20,32 +23,33 @@ use Rattle.cmd_load.specs.declared.loading.ScheduleFault.{ScheduleFault}
 use Rattle.cmd_faults.specs.declared.fault.Fault.{Fault}
 use Rattle.cmd_faults.specs.declared.fault.Fault.TheVariants as faults
 
--- What goes over a link that takes so many sends, of n frames of a schedule from frame `first` on, and the rests before each datagram
--- and after the last: all of their datagrams, at this pace, without a rest after the last, where the link doesn't fail; where it does,
--- some first ones of the schedule's from there on, after which no more are taken, with the rest before the next one.
-abbrev pub GoFrames : ℕ → ℕ → ℕ → Plan → Bool → Option ℕ → List (List ℕ) → List ℕ → Type 0
-GoFrames pace first n schedule true sends gone rests =
-    AreOfFrames schedule first n gone × TakesSends sends (length gone)
-    × (waits : List ℕ) × ArePaced pace schedule first gone waits × (rests ≡ waits ++ 0 ∷ [])
-GoFrames pace first n schedule false sends gone rests =
-    (next : List ℕ) × AreBefore schedule first next gone × (sends ≡ Some (length gone))
-    × ArePaced pace schedule first (gone ++ next ∷ []) rests
+-- What comes of the frames of a schedule that are sent, over a group of links: all of them go, or as many as until no link is left. Where no
+-- schedule came nothing happens.
+abbrev pub RunComes : ℕ → Stretch → Result Plan ScheduleFault → List Bool → List GroupEvent → List Bool → Type 0
+RunComes pace stretch (Ok schedule) up events up' =
+    (n : ℕ) × (n ≤ frames_in stretch schedule) × FramesCome schedule (first_in stretch) pace n up events up' × ((n ≡ frames_in stretch schedule) ⊎ NoneUp up')
+RunComes pace stretch (Err fault) up events up' = (events ≡ []) × (up' ≡ up)
 
--- All frames of the schedule that came from frame `first` on; where none came nothing, without a rest.
-abbrev pub SentDatagrams : ℕ → ℕ → Result Plan ScheduleFault → Bool → Option ℕ → List (List ℕ) → List ℕ → Type 0
-SentDatagrams pace first (Ok schedule) up sends gone rests = GoFrames pace first (frame_count schedule - first) schedule up sends gone rests
-SentDatagrams pace first (Err fault) up sends gone rests = (gone ≡ []) × (rests ≡ 0 ∷ [])
+-- A group of links was opened at these addresses, what happened at it came so, and it was closed.
+pub record GroupRan (Comes : List Bool → List GroupEvent → List Bool → Type 0) (up : List Bool) (addresses : List Address) (before after : DockContents) : Type 0 where
+  pub start : History
+  pub starts : GroupStarts None addresses before start
+  pub events : List GroupEvent
+  pub last : History
+  pub happened : EventsHappen events start last
+  pub comes : Comes (replicate (length addresses) true) events up
+  pub contents : after ≡ after_disbanding None addresses events (after_gathering None addresses before)
 
--- The link takes fewer sends than the schedule that came has datagrams from frame `first` on.
-abbrev pub LacksSends : ℕ → Result Plan ScheduleFault → Option ℕ → Type 0
-LacksSends first (Ok schedule) sends = (datagrams : List (List ℕ)) → AreDatagrams schedule first datagrams → TakesFewer sends (length datagrams)
-LacksSends first (Err fault) sends = ⊥
+-- The link takes fewer sends than the schedule that came has datagrams to be sent.
+abbrev pub LacksSends : Stretch → Result Plan ScheduleFault → Option ℕ → Type 0
+LacksSends stretch (Ok schedule) sends = (datagrams : List (List ℕ)) → AreDatagrams schedule stretch datagrams → TakesFewer sends (length datagrams)
+LacksSends stretch (Err fault) sends = ⊥
 
--- The link that is opened at some address takes fewer sends than the schedule that came has datagrams from frame `first` on.
-pub record LacksSome (first : ℕ) (outcome : Result Plan ScheduleFault) (contents : DockContents) (addresses : List Address) : Type 0 where
+-- The link that is opened at some address takes fewer sends than that.
+pub record LacksSome (stretch : Stretch) (outcome : Result Plan ScheduleFault) (contents : DockContents) (addresses : List Address) : Type 0 where
   pub k : ℕ
   pub within : k < length addresses
-  pub lacks : (at : Address) → (start : LinkStart) × OpeningFinds contents k (slice_index_or addresses k at) start × LacksSends first outcome start.sends
+  pub lacks : (at : Address) → (start : LinkStart) × OpeningFinds contents k (slice_index_or addresses k at) start × LacksSends stretch outcome start.sends
 
 -- The link that is opened at each address takes so many sends.
 abbrev pub TakeAll : DockContents → List Address → ℕ → Type 0
@@ -61,7 +65,7 @@ pub record ClosedRun {S D : Type 0} (addresses : List Address) (ending : Result 
   pub once : HasFailed (dock_known dock) (dock_known dock')
 
 -- A run whose links were opened, before the schedule was read, and closed at the end.
-pub record LinksRun {S D : Type 0} (reading : ShelfReading Plan) (addresses : List Address) (pace from : ℕ) (ending : Result (Unit {0}) Fault)
+pub record LinksRun {S D : Type 0} (reading : ShelfReading Plan) (addresses : List Address) (pace : ℕ) (stretch : Stretch) (ending : Result (Unit {0}) Fault)
     (shelf_known : S → Known Files) (shelf shelf' : S)
     (dock_known : D → Known DockContents) (dock dock' : D) : Type 0 where
   -- the schedule, or why there is none
@@ -72,11 +76,10 @@ pub record LinksRun {S D : Type 0} (reading : ShelfReading Plan) (addresses : Li
   pub sound : IfOk outcome IsSchedule
   pub ends : ServeEndsBy faults.Link outcome ending
   -- which links didn't fail
-  pub up : ℕ → Bool
-  -- Over each link goes what would go over it alone, whether another one fails or not.
-  pub contents : KnownThrough (dock_known dock) (dock_known dock')
-      (GoesOver (λ k start over. SentDatagrams pace (3 * from) outcome (up k) start.sends over.gone over.rests) addresses)
-  pub failed : (ending ≡ Err faults.Link) ↔ ((k : ℕ) × (k < length addresses) × (up k ≡ false))
+  pub up : List Bool
+  -- What happened at the links, in one order, is what the schedule calls for.
+  pub contents : KnownThrough (dock_known dock) (dock_known dock') (GroupRan (RunComes pace stretch outcome) up addresses)
+  pub failed : (ending ≡ Err faults.Link) ↔ ((k : ℕ) × (k < length addresses) × (is_up up k ≡ false))
   -- No opening failed. The shelf's count of faults rose, by one, exactly where a load ended the run.
   pub same : (dock_known dock').faults ≡ (dock_known dock).faults
   pub read_cause : HasCause (shelf_known shelf) (shelf_known shelf') (ending ≡ Err faults.Read)
@@ -87,30 +90,30 @@ pub record UnopenedRun {S D : Type 0} (ending : Result (Unit {0}) Fault) (shelf 
   pub unread : shelf' ≡ shelf
   pub unopened : dock' ≡ dock
 
--- A run of `serve --to` these addresses, of the schedule that is read so, with this pace, from super frame `from` on.
-pub record SendRun {S D : Type 0} (reading : ShelfReading Plan) (addresses : List Address) (pace from : ℕ) (ending : Result (Unit {0}) Fault)
+-- A run of `serve --to` these addresses, of the schedule that is read so, with this pace, of these super frames.
+pub record SendRun {S D : Type 0} (reading : ShelfReading Plan) (addresses : List Address) (pace : ℕ) (stretch : Stretch) (ending : Result (Unit {0}) Fault)
     (shelf_known : S → Known Files) (shelf shelf' : S)
     (dock_known : D → Known DockContents) (dock dock' : D) : Type 0 where
   pub run : ClosedRun addresses ending shelf shelf' dock_known dock dock'
-      ⊎ LinksRun reading addresses pace from ending shelf_known shelf shelf' dock_known dock dock'
+      ⊎ LinksRun reading addresses pace stretch ending shelf_known shelf shelf' dock_known dock dock'
       ⊎ UnopenedRun ending shelf shelf' dock dock'
-  -- It fails by a link where an opening fails, and where a link takes fewer sends than the schedule has datagrams from there on;
+  -- It fails by a link where an opening fails, and where a link takes fewer sends than the schedule has datagrams there;
   -- nowhere else.
   pub unopened : DockKnownThrough (dock_known dock) (dock_known dock') (λ contents. ReachesNone contents addresses → UnlessMemory ending (ending ≡ Err faults.Link))
   pub cut : DockKnownThrough (dock_known dock) (dock_known dock') (λ contents. ShelfSupplies (shelf_known shelf) (shelf_known shelf') (λ files _.
       UnlessMemory ending ((ending ≡ Err faults.Link)
-      ↔ (ReachesNone contents addresses ⊎ LacksSome (3 * from) (reading files).outcome contents addresses))))
+      ↔ (ReachesNone contents addresses ⊎ LacksSome stretch (reading files).outcome contents addresses))))
   -- Where each opening finds a link, and one of these takes all datagrams, they have gone at its address, whatever becomes of the
   -- others.
   pub complete : KnownThrough (dock_known dock) (dock_known dock') (λ before after. (ReachesNone before addresses → ⊥)
       → ShelfSupplies (shelf_known shelf) (shelf_known shelf') (λ files _. (schedule : Plan) (datagrams : List (List ℕ))
-      → (reading files).outcome ≡ Ok schedule → AreDatagrams schedule (3 * from) datagrams
+      → (reading files).outcome ≡ Ok schedule → AreDatagrams schedule stretch datagrams
       → (k : ℕ) (at : Address) (start : LinkStart) → k < length addresses → OpeningFinds before k (slice_index_or addresses k at) start
       → TakesSends start.sends (length datagrams)
       → UnlessMemory ending (map.get after.gone (address_key (slice_index_or addresses k at)) ≡ Some datagrams)))
   -- Where each takes them the run is done.
   pub done : DockKnownThrough (dock_known dock) (dock_known dock') (λ contents. ShelfSupplies (shelf_known shelf) (shelf_known shelf') (λ files _.
-      (schedule : Plan) (datagrams : List (List ℕ)) → (reading files).outcome ≡ Ok schedule → AreDatagrams schedule (3 * from) datagrams
+      (schedule : Plan) (datagrams : List (List ℕ)) → (reading files).outcome ≡ Ok schedule → AreDatagrams schedule stretch datagrams
       → TakeAll contents addresses (length datagrams) → UnlessMemory ending (ending ≡ Ok tt)))
   -- After a run that is done the same has gone at each address.
   pub alike : ending ≡ Ok tt → KnownThrough (dock_known dock) (dock_known dock') (λ _ after. (j k : ℕ) (at : Address) → j < length addresses → k < length addresses

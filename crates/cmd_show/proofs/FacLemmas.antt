@@ -35,61 +35,11 @@ comes_once bytes (Err (FacCrc s c)) (Ok g) is_v is_w = absurd (fac_or_fault g (C
 comes_once bytes (Err (FacCrc s c)) (Err (FacLength m)) is_v is_w = absurd (omega (arith, is_w.0, is_w.1, is_v.nine))
 comes_once bytes (Err (FacCrc s c)) (Err FacOver) is_v is_w = absurd (omega (arith, is_v.nine, is_w))
 comes_once bytes (Err (FacCrc s c)) (Err (FacCrc t d)) is_v is_w = let same = same_fault s c t d bytes is_v is_w in cc
-comes_once bytes (Ok f) (Err NoMemory) is_v is_w = absurd is_w
-comes_once bytes (Ok f) (Err Link) is_v is_w = absurd is_w
-comes_once bytes (Ok f) (Err Words) is_v is_w = absurd is_w
-comes_once bytes (Ok f) (Err Read) is_v is_w = absurd is_w
-comes_once bytes (Ok f) (Err Write) is_v is_w = absurd is_w
-comes_once bytes (Ok f) (Err (Schedule l r)) is_v is_w = absurd is_w
-comes_once bytes (Ok f) (Err (Script l r)) is_v is_w = absurd is_w
-comes_once bytes (Ok f) (Err (Capture g)) is_v is_w = absurd is_w
-comes_once bytes (Ok f) (Err CaptureTooLong) is_v is_w = absurd is_w
-comes_once bytes (Ok f) (Err (PacketSize p)) is_v is_w = absurd is_w
-comes_once bytes (Ok f) (Err (Units p)) is_v is_w = absurd is_w
-comes_once bytes (Err (FacLength n)) (Err NoMemory) is_v is_w = absurd is_w
-comes_once bytes (Err (FacLength n)) (Err Link) is_v is_w = absurd is_w
-comes_once bytes (Err (FacLength n)) (Err Words) is_v is_w = absurd is_w
-comes_once bytes (Err (FacLength n)) (Err Read) is_v is_w = absurd is_w
-comes_once bytes (Err (FacLength n)) (Err Write) is_v is_w = absurd is_w
-comes_once bytes (Err (FacLength n)) (Err (Schedule l r)) is_v is_w = absurd is_w
-comes_once bytes (Err (FacLength n)) (Err (Script l r)) is_v is_w = absurd is_w
-comes_once bytes (Err (FacLength n)) (Err (Capture f)) is_v is_w = absurd is_w
-comes_once bytes (Err (FacLength n)) (Err CaptureTooLong) is_v is_w = absurd is_w
-comes_once bytes (Err (FacLength n)) (Err (PacketSize p)) is_v is_w = absurd is_w
-comes_once bytes (Err (FacLength n)) (Err (Units p)) is_v is_w = absurd is_w
-comes_once bytes (Err FacOver) (Err NoMemory) is_v is_w = absurd is_w
-comes_once bytes (Err FacOver) (Err Link) is_v is_w = absurd is_w
-comes_once bytes (Err FacOver) (Err Words) is_v is_w = absurd is_w
-comes_once bytes (Err FacOver) (Err Read) is_v is_w = absurd is_w
-comes_once bytes (Err FacOver) (Err Write) is_v is_w = absurd is_w
-comes_once bytes (Err FacOver) (Err (Schedule l r)) is_v is_w = absurd is_w
-comes_once bytes (Err FacOver) (Err (Script l r)) is_v is_w = absurd is_w
-comes_once bytes (Err FacOver) (Err (Capture f)) is_v is_w = absurd is_w
-comes_once bytes (Err FacOver) (Err CaptureTooLong) is_v is_w = absurd is_w
-comes_once bytes (Err FacOver) (Err (PacketSize p)) is_v is_w = absurd is_w
-comes_once bytes (Err FacOver) (Err (Units p)) is_v is_w = absurd is_w
-comes_once bytes (Err (FacCrc s c)) (Err NoMemory) is_v is_w = absurd is_w
-comes_once bytes (Err (FacCrc s c)) (Err Link) is_v is_w = absurd is_w
-comes_once bytes (Err (FacCrc s c)) (Err Words) is_v is_w = absurd is_w
-comes_once bytes (Err (FacCrc s c)) (Err Read) is_v is_w = absurd is_w
-comes_once bytes (Err (FacCrc s c)) (Err Write) is_v is_w = absurd is_w
-comes_once bytes (Err (FacCrc s c)) (Err (Schedule l r)) is_v is_w = absurd is_w
-comes_once bytes (Err (FacCrc s c)) (Err (Script l r)) is_v is_w = absurd is_w
-comes_once bytes (Err (FacCrc s c)) (Err (Capture f)) is_v is_w = absurd is_w
-comes_once bytes (Err (FacCrc s c)) (Err CaptureTooLong) is_v is_w = absurd is_w
-comes_once bytes (Err (FacCrc s c)) (Err (PacketSize p)) is_v is_w = absurd is_w
-comes_once bytes (Err (FacCrc s c)) (Err (Units p)) is_v is_w = absurd is_w
-comes_once bytes (Err NoMemory) w is_v is_w = absurd is_v
-comes_once bytes (Err Link) w is_v is_w = absurd is_v
-comes_once bytes (Err Words) w is_v is_w = absurd is_v
-comes_once bytes (Err Read) w is_v is_w = absurd is_v
-comes_once bytes (Err Write) w is_v is_w = absurd is_v
-comes_once bytes (Err (Schedule l r)) w is_v is_w = absurd is_v
-comes_once bytes (Err (Script l r)) w is_v is_w = absurd is_v
-comes_once bytes (Err (Capture f)) w is_v is_w = absurd is_v
-comes_once bytes (Err CaptureTooLong) w is_v is_w = absurd is_v
-comes_once bytes (Err (PacketSize p)) w is_v is_w = absurd is_v
-comes_once bytes (Err (Units p)) w is_v is_w = absurd is_v
+comes_once bytes (Ok f) (Err _) is_v is_w = absurd is_w
+comes_once bytes (Err (FacLength n)) (Err _) is_v is_w = absurd is_w
+comes_once bytes (Err FacOver) (Err _) is_v is_w = absurd is_w
+comes_once bytes (Err (FacCrc s c)) (Err _) is_v is_w = absurd is_w
+comes_once bytes (Err _) w is_v is_w = absurd is_v
 
 whole : (left : List ℕ) → length left ≤ 9 → take 10 left ≡ left
 whole left few = take_all 10 left (omega (arith, few))
@@ -108,17 +58,7 @@ comes_whole left (Ok f) is = along (Ok f) (take 10 left) left (whole_of_front le
 comes_whole left (Err (FacLength n)) is = along (Err (FacLength n)) (take 10 left) left (whole_of_front left (omega (arith, is.0, is.1))) is
 comes_whole left (Err FacOver) is = over_whole left is
 comes_whole left (Err (FacCrc s c)) is = along (Err (FacCrc s c)) (take 10 left) left (whole_of_front left (omega (arith, is.nine))) is
-comes_whole left (Err NoMemory) is = is
-comes_whole left (Err Link) is = is
-comes_whole left (Err Words) is = is
-comes_whole left (Err Read) is = is
-comes_whole left (Err Write) is = is
-comes_whole left (Err (Schedule l r)) is = is
-comes_whole left (Err (Script l r)) is = is
-comes_whole left (Err (Capture f)) is = is
-comes_whole left (Err CaptureTooLong) is = is
-comes_whole left (Err (PacketSize p)) is = is
-comes_whole left (Err (Units p)) is = is
+comes_whole left (Err _) is = is
 
 -- a head that was read, and what it comes to
 judged : (outcome : Result Fac Fault) (a b : Known Input) (head : List ℕ) → ReadsHead head a b → FacComesTo head outcome → InputsBytes a b (λ left rest. FacComesTo left outcome)
@@ -145,21 +85,8 @@ comes (Err (PacketSize p)) a b no_fault (head, reads, is) = judged (Err (PacketS
 comes (Err (Units p)) a b no_fault (head, reads, is) = judged (Err (Units p)) a b head reads is
 
 is_read : (outcome : Result Fac Fault) → (outcome ≡ Err Read) ⊎ (outcome ≡ Err Read → ⊥)
-is_read (Ok f) = inr (λ e. cc)
-is_read (Err NoMemory) = inr (λ e. cc)
-is_read (Err Link) = inr (λ e. cc)
-is_read (Err Words) = inr (λ e. cc)
-is_read (Err (FacLength n)) = inr (λ e. cc)
-is_read (Err FacOver) = inr (λ e. cc)
-is_read (Err (FacCrc s c)) = inr (λ e. cc)
 is_read (Err Read) = inl refl
-is_read (Err Write) = inr (λ e. cc)
-is_read (Err (Schedule l r)) = inr (λ e. cc)
-is_read (Err (Script l r)) = inr (λ e. cc)
-is_read (Err (Capture f)) = inr (λ e. cc)
-is_read (Err CaptureTooLong) = inr (λ e. cc)
-is_read (Err (PacketSize p)) = inr (λ e. cc)
-is_read (Err (Units p)) = inr (λ e. cc)
+is_read _ = inr (λ e. cc)
 
 failed_within : (outcome : Result Fac Fault) (a b : Known Input) → outcome ≡ Err Read → ReadsFac outcome a b → (taken : ℕ) × FailsWithin taken a b
 failed_within outcome a b is reads = let P : Result Fac Fault → Type 0 = λ v. ReadsFac v a b in subst P is reads
@@ -183,33 +110,11 @@ status_of_outcome (Err fault) ending known out out' writes none is = let same : 
 three_exactly : {O : Type 0} (outcome : Result Fac Fault) (ending : Result (Unit {0}) Fault) (known : O → Known Output) (out out' : O) (left : List ℕ) → WritesOutcome outcome ending known out out' → FacComesTo left outcome → (status_of ending ≡ 3) ↔ ((fac : Fac) → IsFac fac left → ⊥)
 three_exactly (Ok fac) (Ok done) known out out' left writes comes = (λ e. absurd (omega (arith, e)), λ none. absurd (none fac comes))
 three_exactly (Ok fac) (Err Write) known out out' left writes comes = (λ e. absurd (omega (arith, e)), λ none. absurd (none fac comes))
-three_exactly (Ok fac) (Err NoMemory) known out out' left writes comes = absurd writes
-three_exactly (Ok fac) (Err Link) known out out' left writes comes = absurd writes
-three_exactly (Ok fac) (Err Words) known out out' left writes comes = absurd writes
-three_exactly (Ok fac) (Err (FacLength n)) known out out' left writes comes = absurd writes
-three_exactly (Ok fac) (Err FacOver) known out out' left writes comes = absurd writes
-three_exactly (Ok fac) (Err (FacCrc s c)) known out out' left writes comes = absurd writes
-three_exactly (Ok fac) (Err (Schedule l r)) known out out' left writes comes = absurd writes
-three_exactly (Ok fac) (Err (Script l r)) known out out' left writes comes = absurd writes
-three_exactly (Ok fac) (Err (Capture f)) known out out' left writes comes = absurd writes
-three_exactly (Ok fac) (Err CaptureTooLong) known out out' left writes comes = absurd writes
-three_exactly (Ok fac) (Err (PacketSize p)) known out out' left writes comes = absurd writes
-three_exactly (Ok fac) (Err (Units p)) known out out' left writes comes = absurd writes
-three_exactly (Ok fac) (Err Read) known out out' left writes comes = absurd writes
+three_exactly (Ok fac) (Err _) known out out' left writes comes = absurd writes
 three_exactly (Err (FacLength n)) ending known out out' left writes comes = (λ e fac is. let wrong : Err (FacLength n) ≡ Ok fac = comes_once left (Err (FacLength n)) (Ok fac) comes is in cc, λ none. ap status_of writes.0)
 three_exactly (Err FacOver) ending known out out' left writes comes = (λ e fac is. let wrong : Err FacOver ≡ Ok fac = comes_once left (Err FacOver) (Ok fac) comes is in cc, λ none. ap status_of writes.0)
 three_exactly (Err (FacCrc s c)) ending known out out' left writes comes = (λ e fac is. let wrong : Err (FacCrc s c) ≡ Ok fac = comes_once left (Err (FacCrc s c)) (Ok fac) comes is in cc, λ none. ap status_of writes.0)
-three_exactly (Err NoMemory) ending known out out' left writes comes = absurd comes
-three_exactly (Err Link) ending known out out' left writes comes = absurd comes
-three_exactly (Err Words) ending known out out' left writes comes = absurd comes
-three_exactly (Err Read) ending known out out' left writes comes = absurd comes
-three_exactly (Err Write) ending known out out' left writes comes = absurd comes
-three_exactly (Err (Schedule l r)) ending known out out' left writes comes = absurd comes
-three_exactly (Err (Script l r)) ending known out out' left writes comes = absurd comes
-three_exactly (Err (Capture f)) ending known out out' left writes comes = absurd comes
-three_exactly (Err CaptureTooLong) ending known out out' left writes comes = absurd comes
-three_exactly (Err (PacketSize p)) ending known out out' left writes comes = absurd comes
-three_exactly (Err (Units p)) ending known out out' left writes comes = absurd comes
+three_exactly (Err _) ending known out out' left writes comes = absurd comes
 
 -- status 3 comes exactly where the input is no FAC
 run_refused : {O : Type 0} (outcome : Result Fac Fault) (ending : Result (Unit {0}) Fault) (a b : Known Input) (out_known : O → Known Output) (out out' : O)
@@ -223,19 +128,7 @@ run_refused outcome ending a b out_known out out' reads writes none =
 printed : {O : Type 0} (fac : Fac) (ending : Result (Unit {0}) Fault) (known : O → Known Output) (out out' : O) → WritesOutcome (Ok fac) ending known out out' → (ending ≡ Err Write → ⊥) → (ending ≡ Ok tt) × OutputsText (known out) (known out') (λ text. text ≡ fac_line fac)
 printed fac (Ok done) known out out' writes none = (refl, writes)
 printed fac (Err Write) known out out' writes none = absurd (none refl)
-printed fac (Err NoMemory) known out out' writes none = absurd writes
-printed fac (Err Link) known out out' writes none = absurd writes
-printed fac (Err Words) known out out' writes none = absurd writes
-printed fac (Err (FacLength n)) known out out' writes none = absurd writes
-printed fac (Err FacOver) known out out' writes none = absurd writes
-printed fac (Err (FacCrc s c)) known out out' writes none = absurd writes
-printed fac (Err (Schedule l r)) known out out' writes none = absurd writes
-printed fac (Err (Script l r)) known out out' writes none = absurd writes
-printed fac (Err (Capture f)) known out out' writes none = absurd writes
-printed fac (Err CaptureTooLong) known out out' writes none = absurd writes
-printed fac (Err (PacketSize p)) known out out' writes none = absurd writes
-printed fac (Err (Units p)) known out out' writes none = absurd writes
-printed fac (Err Read) known out out' writes none = absurd writes
+printed fac (Err _) known out out' writes none = absurd writes
 
 -- where neither side failed a FAC is printed
 run_complete : {O : Type 0} (outcome : Result Fac Fault) (ending : Result (Unit {0}) Fault) (a b : Known Input) (out_known : O → Known Output) (out out' : O)
@@ -326,20 +219,8 @@ run_ends ending input_known input input' out_known out out' run = (
     along_ending fault is = let P : Result (Unit {0}) Fault → Type 0 = λ e. WritesOutcome run.outcome e out_known out out' in subst P is run.writes
 
     ended : {O : Type 0} (outcome : Result Fac Fault) (fault : Fault) (known : O → Known Output) (out out' : O) → WritesOutcome outcome (Err fault) known out out' → ReadsFac outcome (input_known input) (input_known input') → (fault ≡ Write → ⊥) → (ReadsFac (Err fault) (input_known input) (input_known input') → ⊥) → ⊥
-    ended (Ok fac) Words known out out' writes reads no_write none = writes
-    ended (Ok fac) NoMemory known out out' writes reads no_write none = writes
-    ended (Ok fac) Link known out out' writes reads no_write none = writes
-    ended (Ok fac) (FacLength n) known out out' writes reads no_write none = writes
-    ended (Ok fac) FacOver known out out' writes reads no_write none = writes
-    ended (Ok fac) (FacCrc s c) known out out' writes reads no_write none = writes
-    ended (Ok fac) (Schedule l r) known out out' writes reads no_write none = writes
-    ended (Ok fac) (Script l r) known out out' writes reads no_write none = writes
-    ended (Ok fac) (Capture f) known out out' writes reads no_write none = writes
-    ended (Ok fac) CaptureTooLong known out out' writes reads no_write none = writes
-    ended (Ok fac) (PacketSize p) known out out' writes reads no_write none = writes
-    ended (Ok fac) (Units p) known out out' writes reads no_write none = writes
-    ended (Ok fac) Read known out out' writes reads no_write none = writes
     ended (Ok fac) Write known out out' writes reads no_write none = no_write refl
+    ended (Ok fac) _ known out out' writes reads no_write none = writes
     ended (Err other) fault known out out' writes reads no_write none =
         let same : other ≡ fault = cc in
         let P : Fault → Type 0 = λ f. ReadsFac (Err f) (input_known input) (input_known input') in

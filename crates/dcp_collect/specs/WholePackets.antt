@@ -17,7 +17,7 @@ TellsWhole c (Packet q bytes whole) = whole ≡ is_whole_packet (of_packet q c.k
 TellsWhole c (Lost q had total) = Unit {0}
 TellsWhole c (Damaged q) = Unit {0}
 
--- what is told to be whole is an AF packet, so its check value is right
+-- what is told to be whole is an AF packet, so its check value is right, unless it says that none counts
 abbrev pub IsAfIfWhole : Out → Type 0
 IsAfIfWhole (Packet q bytes whole) = whole ≡ true → (af : AfPacket) × IsAf af bytes.now
 IsAfIfWhole (Lost q had total) = Unit {0}

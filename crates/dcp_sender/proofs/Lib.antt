@@ -1,6 +1,6 @@
+pub mod MakingLemmas
 pub mod Taken
 pub mod Lists
-pub mod Links
+pub mod SomeFragments
 pub mod Gathering
-pub mod RestingLemmas
 pub mod OverLinks

@@ -29,6 +29,3 @@ one_longer datagrams next i many = length-append datagrams (next ∷ []) ∙ ap 
 pub itself : (seq : ℕ) (packet : List ℕ) → AreFirst None seq packet (packet ∷ [])
 itself seq packet zero none below = refl
 itself seq packet (suc i) none below = absurd (omega (arith, below))
-
-pub no_part : (seq : ℕ) (packet : List ℕ) → AreFirst None seq packet []
-no_part seq packet i none below = absurd (omega (arith, below))

@@ -1,7 +1,6 @@
+pub mod Making
 pub mod Parity
 pub mod Sending
 pub mod Packets
 pub mod CarriesText
-pub mod Resting
-pub mod Targets
 pub mod OverLinks

@@ -1,14 +1,10 @@
 -- A packet that is sent over a link: itself, or its fragments (TS 102 821).
-use Rattle.std.specs.Prelude.{ℕ, ◌≡◌, ◌+◌, ◌<◌, List, length, replicate, Option, None, Some, slice_index_or}
+use Rattle.std.specs.Prelude.{ℕ, ◌≡◌, ◌<◌, Bool, List, length, Option, None, Some, slice_index_or}
 use Rattle.dcp_pft.specs.declared.shape.Shape.{Shape}
 use Rattle.dcp_pft.specs.Head.{IsFragmentOf}
-use Rattle.drm_links.specs.Known.{Known}
-use Rattle.drm_links.specs.Link.{Traffic}
-use Rattle.drm_links.specs.Transmission.{LinkTransmits, SendsAll, SendsNoMore, WaitsBetween}
-
--- so many calls were made
-abbrev pub MadeCalls : ℕ → Traffic → Traffic → Type 0
-MadeCalls n before after = after.calls ≡ before.calls + n
+use Rattle.drm_links.specs.History.{GroupEvent}
+use Rattle.drm_links.specs.Calls.{sends}
+use Rattle.dcp_sender.specs.Making.{CallsMake}
 
 -- datagram i of a packet with this sequence number that is carried whole, or cut in this shape
 abbrev pub IsDatagramOf : Option Shape → ℕ → List ℕ → ℕ → List ℕ → Type 0
@@ -25,22 +21,11 @@ abbrev pub AreFirst : Option Shape → ℕ → List ℕ → List (List ℕ) → 
 AreFirst cut sequence packet datagrams =
     (i : ℕ) (none : List ℕ) → i < length datagrams → IsDatagramOf cut sequence packet i (slice_index_or datagrams i none)
 
--- All of them were sent, and they are n.
-abbrev pub SentPacket : Option Shape → ℕ → List ℕ → ℕ → Known Traffic → Known Traffic → Type 0
-SentPacket cut sequence packet n before after =
-    (datagrams : List (List ℕ)) × AreFirst cut sequence packet datagrams × (length datagrams ≡ count_of cut) × (n ≡ length datagrams)
-    × LinkTransmits before after (SendsAll datagrams)
+-- all of them
+abbrev pub AreAll : Option Shape → ℕ → List ℕ → List (List ℕ) → Type 0
+AreAll cut sequence packet datagrams = AreFirst cut sequence packet datagrams × (length datagrams ≡ count_of cut)
 
--- Some first ones were sent, without a rest between them, and no more were taken: not the next one.
-abbrev pub SentSome : Option Shape → ℕ → List ℕ → Known Traffic → Known Traffic → Type 0
-SentSome cut sequence packet before after =
-    (datagrams : List (List ℕ)) × AreFirst cut sequence packet datagrams × (length datagrams < count_of cut)
-    × (next : List ℕ) × IsDatagramOf cut sequence packet (length datagrams) next
-    × LinkTransmits before after (λ x y. SendsNoMore datagrams x y × WaitsBetween (replicate (length datagrams) 0) 0 x y)
-
--- the same of a packet that is cut
-abbrev pub SentFragments : Shape → ℕ → List ℕ → ℕ → Known Traffic → Known Traffic → Type 0
-SentFragments shape = SentPacket (Some shape)
-
-abbrev pub SentFewer : Shape → ℕ → List ℕ → Known Traffic → Known Traffic → Type 0
-SentFewer shape = SentSome (Some shape)
+-- What happened is what comes of a packet's datagrams over the k-th link, one after another and without a rest.
+abbrev pub MakesPacket : Option Shape → ℕ → List ℕ → ℕ → List Bool → List Bool → (List GroupEvent → Type 0) → Type 0
+MakesPacket cut sequence packet k up up' Happened =
+    (datagrams : List (List ℕ)) × AreAll cut sequence packet datagrams × CallsMake (sends k datagrams) up up' Happened

@@ -2,24 +2,27 @@
 //! written to a sink, or sent over links one after another. A packet is coded once, however many
 //! links there are.
 //!
-//! It builds on `dcp_pft`, which says how a packet is cut and makes parity and fragments,
-//! `drm_links` (`Sink`, `Link`) and `link_group` (links of which one that fails is left out). It is
-//! used by `drm_server`, `cmd_convert` and `drm_gate`.
+//! It builds on `dcp_pft`, which says how a packet is cut and makes parity and fragments, and
+//! `drm_links` (`Sink`, and `Group`: links of which one that fails is left out). `Outlets`
+//! (`src/outlets.rt`) are links that it sends over: each group, and others of which each link tells
+//! for itself. It is used by `drm_server`, `cmd_convert` and `drm_gate`.
 //!
 //! It makes no packets (`drm_server` with `mdi_items` and `dcp_af`) and doesn't wait between frames
-//! (`serve_links` of `drm_server`; `drm_adapt`). Fragments are put together again by `dcp_collect`.
+//! (`drm_server`; `drm_adapt`). Fragments are put together again by `dcp_collect`.
 //!
 //! Begin with `PacketSender` (`src/sender.rt`), then `send_packet` (`src/send.rt`). `CarriesText`
-//! (`specs/CarriesText.antt`) says what is written of a packet, `SentPacket` (`specs/Sending.antt`)
-//! what is sent of it over a link.
+//! (`specs/CarriesText.antt`) says what is written of a packet, `SendsPacket` (`specs/OverLinks.antt`)
+//! what is sent of it over several links.
 #![tactic(auto)]
 
 mod cut;
 mod number;
+mod outlets;
 mod send;
 mod sender;
 
 pub use cut::{write_cut, write_parity};
 pub use number::sequence;
-pub use send::{send_datagram, send_packet};
+pub use outlets::Outlets;
+pub use send::send_packet;
 pub use sender::PacketSender;

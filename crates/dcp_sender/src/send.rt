@@ -1,101 +1,104 @@
-//! Datagrams over a link.
+//! Datagrams over one of several links.
 
-ghost use Rattle.std.specs.Prelude.{[], ◌∷◌, ◌≡◌, ◌≤◌, length, replicate, Some, IfOk, IfSome, OnOk, OnErr, IsErr};
-ghost use Rattle.dcp_pft.specs.Limits.{most_parity, most_fragment, most_fragments};
+ghost use Rattle.std.specs.Prelude.{ℕ, List, ◌≡◌, ◌≤◌, ◌<◌, ◌∷◌, [], length, Some, IfSome};
+ghost use Rattle.dcp_pft.specs.Limits.{most_parity, most_fragment};
 ghost use Rattle.dcp_pft.specs.Cutting.{IsShapeOf};
-ghost use Rattle.drm_links.specs.Known.{HasCause};
+ghost use Rattle.dcp_pft.specs.Head.{IsFragmentOf};
 ghost use Rattle.drm_links.specs.Link.{longest_kept};
-ghost use Rattle.drm_links.specs.ManyCalls.{MakesCalls};
-ghost use Rattle.drm_links.specs.Transmission.{LinkTransmits, SendsAll, SendsNoMore, WaitsBetween};
+ghost use Rattle.drm_links.specs.Calls.{Send};
+ghost use Rattle.dcp_sender.specs.Making.{CallsMake};
 ghost use Rattle.dcp_sender.specs.Parity.{HoldsParity};
-ghost use Rattle.dcp_sender.specs.Sending.{MadeCalls, SentPacket, SentSome, SentFragments, SentFewer};
+ghost use Rattle.dcp_sender.specs.Sending.{MakesPacket};
 
+use crate::Outlets;
 use crate::cut::write_cut;
-use dcp_pft::{Shape, all_taken};
-use drm_links::{Link, LinkFault, Sent};
+use dcp_pft::Shape;
 
-/// Sends the datagrams of a packet, one after another without a rest, and gives their number: the packet itself where it isn't
-/// cut, else its fragments, by way of the room. The parity of a packet that is cut stands at the front of `parity`.
-pub fn send_packet<L: Link>(
+/// Sends the datagrams of a packet over the k-th link, one after another and without a rest, unless it has failed or fails at one of
+/// them: the packet itself where it isn't cut, else its fragments, by way of the room. The parity of a packet that is cut stands at the
+/// front of `parity`.
+pub fn send_packet<O: Outlets>(
     packet: &[u8],
     cut: Option<Shape>,
     parity: &[u8],
     seq: u16,
     scratch: &mut [u8],
-    link: &mut L,
-) -> Result<u64, LinkFault>
+    k: usize,
+    outlets: &mut O,
+)
     requires shaped { IfSome cut (IsShapeOf (length packet.now)) }
     requires stands { HoldsParity cut packet.now parity.now }
     requires whole_length { length parity.now ≡ most_parity }
     requires in_range { length packet.now ≤ longest_kept }
     requires room { most_fragment ≤ length scratch.old }
-    ensures whole { IfOk result (λ n. SentPacket cut seq packet.now n (L.known link.old) (L.known link.new)) }
-    ensures waits { IfOk result (λ n. LinkTransmits (L.known link.old) (L.known link.new) (WaitsBetween (replicate n 0) 0)) }
-    ensures at_least_one { IfOk result (λ n. 1 ≤ n) }
-    ensures within_limit { IfOk result (λ n. n ≤ most_fragments) }
-    ensures counted { IfOk result (λ n. LinkTransmits (L.known link.old) (L.known link.new) (MadeCalls n)) }
-    ensures part { OnErr result (SentSome cut seq packet.now (L.known link.old) (L.known link.new)) }
-    ensures cause { HasCause (L.known link.old) (L.known link.new) (IsErr result) }
-    ensures idle { L.idles link.new ≡ L.idles link.old }
-    ensures calls { MakesCalls (λ traffic. traffic.calls) most_fragments (L.known link.old) (L.known link.new) }
+    ensures made { MakesPacket cut seq packet.now k (O.up outlets.old) (O.up outlets.new) (λ events. O.happened events outlets.old outlets.new) }
+    ensures same_count { length (O.up outlets.new) ≡ length (O.up outlets.old) }
     ensures room { length scratch.new ≡ length scratch.old }
 {
     match cut {
-        None => {
-            send_datagram(link, packet)?;
-            Ok(1)
-        }
-        Some(shape) => send_fragments(packet, &shape, parity, seq, scratch, link),
+        None => send_datagram(packet, k, outlets),
+        Some(shape) => send_fragments(packet, &shape, parity, seq, scratch, k, outlets),
     }
 }
 
 // Sends the fragments of a packet that is cut.
-fn send_fragments<L: Link>(
+fn send_fragments<O: Outlets>(
     packet: &[u8],
     shape: &Shape,
     parity: &[u8],
     seq: u16,
     scratch: &mut [u8],
-    link: &mut L,
-) -> Result<u64, LinkFault>
+    k: usize,
+    outlets: &mut O,
+)
     requires shaped { IsShapeOf (length packet.now) shape.now }
     requires stands { HoldsParity (Some shape.now) packet.now parity.now }
     requires whole_length { length parity.now ≡ most_parity }
     requires room { most_fragment ≤ length scratch.old }
-    ensures whole { IfOk result (λ n. SentFragments shape.now seq packet.now n (L.known link.old) (L.known link.new)) }
-    ensures waits { IfOk result (λ n. LinkTransmits (L.known link.old) (L.known link.new) (WaitsBetween (replicate n 0) 0)) }
-    ensures at_least_one { IfOk result (λ n. 1 ≤ n) }
-    ensures within_limit { IfOk result (λ n. n ≤ most_fragments) }
-    ensures counted { IfOk result (λ n. LinkTransmits (L.known link.old) (L.known link.new) (MadeCalls n)) }
-    ensures part { OnErr result (SentFewer shape.now seq packet.now (L.known link.old) (L.known link.new)) }
-    ensures cause { HasCause (L.known link.old) (L.known link.new) (IsErr result) }
-    ensures idle { L.idles link.new ≡ L.idles link.old }
-    ensures calls { MakesCalls (λ traffic. traffic.calls) most_fragments (L.known link.old) (L.known link.new) }
+    ensures made { MakesPacket (Some shape.now) seq packet.now k (O.up outlets.old) (O.up outlets.new) (λ events. O.happened events outlets.old outlets.new) }
+    ensures same_count { length (O.up outlets.new) ≡ length (O.up outlets.old) }
     ensures room { length scratch.new ≡ length scratch.old }
 {
-    // For its clause alone: what is cut passes no limit of a reader.
-    all_taken();
     for i in 0..shape.count {
-        let len = write_cut(packet, shape, parity, seq, i, scratch);
-        send_datagram(link, &scratch[..len])?;
+        send_fragment(packet, shape, parity, seq, i, scratch, k, outlets);
     }
-    Ok(u64::from(shape.count))
 }
 
-/// Sends a datagram.
-pub fn send_datagram<L: Link>(link: &mut L, datagram: &[u8]) -> Result<(), LinkFault>
-    requires { length datagram.now ≤ longest_kept }
-    ensures sent { OnOk result (LinkTransmits (L.known link.old) (L.known link.new) (SendsAll (datagram.now ∷ []))) }
-    ensures none { OnErr result (LinkTransmits (L.known link.old) (L.known link.new) (SendsNoMore [])) }
-    ensures waited { OnOk result (LinkTransmits (L.known link.old) (L.known link.new) (WaitsBetween (0 ∷ []) 0)) }
-    ensures waits { OnErr result (LinkTransmits (L.known link.old) (L.known link.new) (WaitsBetween [] 0)) }
-    ensures counted { LinkTransmits (L.known link.old) (L.known link.new) (MadeCalls 1) }
-    ensures cause { HasCause (L.known link.old) (L.known link.new) (IsErr result) }
-    ensures idle { L.idles link.new ≡ L.idles link.old }
-    ensures calls { MakesCalls (λ traffic. traffic.calls) 1 (L.known link.old) (L.known link.new) }
+// Sends one of them.
+fn send_fragment<O: Outlets>(
+    packet: &[u8],
+    shape: &Shape,
+    parity: &[u8],
+    seq: u16,
+    i: u32,
+    scratch: &mut [u8],
+    k: usize,
+    outlets: &mut O,
+)
+    requires shaped { IsShapeOf (length packet.now) shape.now }
+    requires stands { HoldsParity (Some shape.now) packet.now parity.now }
+    requires whole_length { length parity.now ≡ most_parity }
+    requires within { i < shape.now.count }
+    requires room { most_fragment ≤ length scratch.old }
+    ensures made { (datagram : List ℕ) × IsFragmentOf shape.now seq packet.now i datagram
+        × CallsMake (Send k datagram ∷ []) (O.up outlets.old) (O.up outlets.new) (λ events. O.happened events outlets.old outlets.new) }
+    ensures same_count { length (O.up outlets.new) ≡ length (O.up outlets.old) }
+    ensures room { length scratch.new ≡ length scratch.old }
 {
-    match link.send(datagram) {
-        Sent::Sent => Ok(()),
-        Sent::Failed => Err(LinkFault),
+    if outlets.is_up(k) {
+        let len = write_cut(packet, shape, parity, seq, i, scratch);
+        send_datagram(&scratch[..len], k, outlets);
     }
+}
+
+// Sends a datagram over the k-th link, unless it has failed.
+fn send_datagram<O: Outlets>(datagram: &[u8], k: usize, outlets: &mut O)
+    requires { length datagram.now ≤ longest_kept }
+    ensures made { CallsMake (Send k datagram.now ∷ []) (O.up outlets.old) (O.up outlets.new) (λ events. O.happened events outlets.old outlets.new) }
+    ensures same_count { length (O.up outlets.new) ≡ length (O.up outlets.old) }
+{
+    if !outlets.is_up(k) {
+        return;
+    }
+    let _ = outlets.send(k, datagram);
 }

@@ -1,6 +1,6 @@
 //! Packets under a carry.
 
-ghost use Rattle.std.specs.Prelude.{◌≡◌, ◌<◌, ◌≤◌, ◌+◌, ℕ, List, false, length, slice_index_or, take, drop, IfOk, IfSome, Some};
+ghost use Rattle.std.specs.Prelude.{◌≡◌, ◌<◌, ◌≤◌, ◌+◌, ℕ, List, false, length, take, drop, IfOk, IfSome, Some};
 ghost use Rattle.std.specs.List.{concat};
 ghost use Rattle.dcp_pft.specs.Limits.{most_packet, most_parity, most_fragment, most_fragments, most_losses, least_fragment};
 ghost use Rattle.dcp_pft.specs.Cutting.{IsShapeOf};
@@ -9,11 +9,13 @@ ghost use Rattle.dcp_pft.specs.Head.{IsFragmentOf};
 ghost use Rattle.dcp_pft.specs.declared.carry.Carry.TheVariants.{Pft};
 ghost use Rattle.drm_links.specs.Link.{longest_kept};
 ghost use Rattle.drm_links.specs.Sink.{WritesWhole};
+ghost use Rattle.dcp_sender.specs.Making.{CallsMake};
 ghost use Rattle.dcp_sender.specs.Parity.{HoldsParity, IsCoded};
 ghost use Rattle.dcp_sender.specs.CarriesText.{CarriesText, most_room, is_too_long};
-ghost use Rattle.dcp_sender.specs.OverLinks.{is_large, SentTo, CutOver};
-ghost use Rattle.dcp_sender.specs.Targets.{target};
+ghost use Rattle.dcp_sender.specs.Sending.{AreAll};
+ghost use Rattle.dcp_sender.specs.OverLinks.{is_large, over_each, SendsPacket};
 
+use crate::Outlets;
 use crate::cut::{write_cut, write_parity};
 use crate::send::send_packet;
 use dcp_pft::{
@@ -21,8 +23,7 @@ use dcp_pft::{
     datagrams, most_packet, shape_for,
 };
 use drm_bits::{NoMemory, zeros};
-use drm_links::{Link, Sink, WriteFault, write_all};
-use link_group::Member;
+use drm_links::{Sink, WriteFault, write_all};
 use std::alloc::Global;
 use std::marker::Model;
 
@@ -106,13 +107,13 @@ impl PacketSender {
         len > most_packet(self.carry)
     }
 
-    /// Sends the datagrams of a packet with this sequence number over each link that hasn't failed, in their order, and gives their
-    /// number. The packet is coded once.
-    pub fn send<K: Link>(&mut self, seq: u16, packet: &[u8], links: &mut [Member<K>]) -> u64
+    /// Sends the datagrams of a packet with this sequence number over each link that hasn't failed, all over one before the first over
+    /// the next, and gives their number. The packet is coded once.
+    pub fn send<O: Outlets>(&mut self, seq: u16, packet: &[u8], outlets: &mut O) -> u64
         requires at_least_one { 1 ≤ length packet.now }
         requires in_range { is_large self.old (length packet.now) ≡ false }
-        ensures each { (k : ℕ) (d : _) → k < length links.old → SentTo self.old seq packet.now result
-            (target K.known (slice_index_or links.old k d)) (target K.known (slice_index_or links.new k d)) }
+        ensures made { SendsPacket self.old seq packet.now result (O.up outlets.old) (O.up outlets.new) (λ events. O.happened events outlets.old outlets.new) }
+        ensures same_count { length (O.up outlets.new) ≡ length (O.up outlets.old) }
         ensures within_limit { result ≤ most_fragments }
         ensures carry { self.new ≡ self.old }
     {
@@ -120,9 +121,7 @@ impl PacketSender {
         all_taken();
         let cut = cut_for(self.carry, packet.len());
         write_parity(packet, cut, &mut self.parity);
-        for link in links.iter_mut() {
-            send_over(packet, cut, &self.parity, seq, &mut self.scratch, link);
-        }
+        send_each(packet, cut, &self.parity, seq, &mut self.scratch, outlets);
         u64::from(datagrams(cut))
     }
 }
@@ -170,25 +169,26 @@ fn write_behind(
     write_cut(packet, shape, parity, seq, i, &mut into[at..])
 }
 
-// Sends the datagrams of a packet over a link, unless it has failed.
-fn send_over<K: Link>(
+// Sends the datagrams of a packet over each link.
+fn send_each<O: Outlets>(
     packet: &[u8],
     cut: Option<Shape>,
     parity: &[u8],
     seq: u16,
     scratch: &mut [u8],
-    link: &mut Member<K>,
+    outlets: &mut O,
 )
     requires shaped { IfSome cut (IsShapeOf (length packet.now)) }
     requires stands { HoldsParity cut packet.now parity.now }
     requires whole_length { length parity.now ≡ most_parity }
     requires in_range { length packet.now ≤ longest_kept }
     requires room { most_fragment ≤ length scratch.old }
-    ensures sent { CutOver link.old.up cut seq packet.now (target K.known link.old) (target K.known link.new) }
+    ensures made { (datagrams : List (List ℕ)) × AreAll cut seq packet.now datagrams
+        × CallsMake (over_each (length (O.up outlets.old)) datagrams) (O.up outlets.old) (O.up outlets.new) (λ events. O.happened events outlets.old outlets.new) }
+    ensures same_count { length (O.up outlets.new) ≡ length (O.up outlets.old) }
     ensures room { length scratch.new ≡ length scratch.old }
 {
-    if link.up {
-        let sent = send_packet(packet, cut, parity, seq, scratch, &mut link.link);
-        link.up = sent.is_ok();
+    for k in 0..outlets.len() {
+        send_packet(packet, cut, parity, seq, scratch, k, outlets);
     }
 }

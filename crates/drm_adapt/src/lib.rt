@@ -21,10 +21,12 @@ mod pace;
 mod refusals;
 mod streams;
 mod udp_dock;
+mod udp_group;
 mod udp_link;
 
 pub use edge::Edge;
 pub use file_shelf::FileShelf;
 pub use streams::{StreamSink, StreamSource};
 pub use udp_dock::UdpDock;
+pub use udp_group::UdpGroup;
 pub use udp_link::UdpLink;

@@ -1,11 +1,14 @@
 //! The network of the system as a dock. It tells nothing.
 
-ghost use Rattle.std.specs.Prelude.{◌≡◌, None, IfOk};
+ghost use Rattle.std.specs.Prelude.{◌≡◌, true, None, length, replicate, IsErr, IfOk};
 ghost use Rattle.drm_links.specs.Known.{RisesWhere};
 ghost use Rattle.drm_links.specs.Dock.{IsFresh, IsFailed};
+ghost use Rattle.drm_links.specs.Gathering.{IsFreshGroup, IsNotGathered};
 
-use crate::{Edge, UdpLink};
-use drm_links::{Address, Dock, Link, Opened};
+use crate::{Edge, UdpGroup, UdpLink};
+use drm_bits::NoMemory;
+use drm_links::{Address, Addresses, Dock, GatheredGroup, Group, Link, LinkFault, Opened};
+use std::alloc::Global;
 use std::io::{self, Eprint};
 use std::net::{Ipv4Addr, Net, SocketAddr, SocketAddrV4, UdpSocket};
 use std::time::Clock;
@@ -55,6 +58,99 @@ impl<'a, R: Net + Clock + Eprint> UdpDock<'a, R> {
         let _ = self.failures.push(Failure { at, fault });
     }
 
+    // Takes back a link, and keeps why it failed, if it did.
+    fn put_back(&mut self, at: Address, link: UdpLink<'a, R>)
+        ensures { (self.new).faults ≡ (self.old).faults }
+    {
+        if let Some(fault) = ended(link) {
+            self.keep(at, fault);
+        }
+    }
+
+    // The same of links that were opened at the first addresses, in their order.
+    fn put_all_back(&mut self, to: &Addresses, links: Vec<UdpLink<'a, R>>)
+        ensures { (self.new).faults ≡ (self.old).faults }
+    {
+        let mut k = 0;
+        for link in links {
+            if k < to.len() {
+                self.put_back(*to.get(k), link);
+                k += 1;
+            }
+        }
+    }
+
+    // The socket isn't connected: else the system would make it a fault of a send that nobody listens there.
+    fn open_towards(&mut self, at: Address) -> Opened<UdpLink<'a, R>>
+        ensures fresh { IsFresh ⟦<UdpLink<'a, R> as Link>⟧.known ⟦<UdpLink<'a, R> as Link>⟧.idles result }
+        ensures cause { RisesWhere self.old.faults self.new.faults (IsFailed result) }
+    {
+        self.edge.reaches_one_more();
+        self.open(ANY, Some(at))
+    }
+
+    // Opens a link to each address, up to one that can't be opened, with memory that was taken before.
+    fn open_all(
+        &mut self,
+        room: Vec<UdpLink<'a, R>>,
+        to: &Addresses,
+    ) -> Result<Vec<UdpLink<'a, R>>, LinkFault>
+        ensures { RisesWhere self.old.faults self.new.faults (IsErr result) }
+    {
+        let mut links = room;
+        for k in 0..to.len() {
+            match self.open_towards(*to.get(k)) {
+                Opened::Link(link) => {
+                    // There is room.
+                    let _ = links.push(link);
+                }
+                Opened::Failed => {
+                    self.put_all_back(to, links);
+                    return Err(LinkFault);
+                }
+            }
+        }
+        Ok(links)
+    }
+
+    // A group that receives over this link.
+    fn open_group(
+        &mut self,
+        source: Option<UdpLink<'a, R>>,
+        from: Option<Address>,
+        to: &Addresses,
+        room: SocketRoom<'a, R>,
+    ) -> GatheredGroup<UdpGroup<'a, R>>
+        requires { room.ups.items ≡ replicate (length to.now) true }
+        ensures fresh { IsFreshGroup ⟦<UdpGroup<'a, R> as Group>⟧.known ⟦<UdpGroup<'a, R> as Group>⟧.up (length to.now) result }
+        ensures has_memory { result ≡ GatheredGroup.NoMemory → ⊥ }
+        ensures cause { RisesWhere self.old.faults self.new.faults (IsNotGathered result) }
+    {
+        let SocketRoom { links, ups } = room;
+        match self.open_all(links, to) {
+            Ok(links) => GatheredGroup::Group(UdpGroup {
+                source,
+                links,
+                ups,
+                faults: 0,
+            }),
+            Err(_) => {
+                self.close_source(from, source);
+                GatheredGroup::Failed
+            }
+        }
+    }
+
+    fn close_source(&mut self, from: Option<Address>, source: Option<UdpLink<'a, R>>)
+        ensures { (self.new).faults ≡ (self.old).faults }
+    {
+        if let Some(at) = from
+            && let Some(link) = source
+        {
+            self.put_back(at, link);
+        }
+    }
+
     fn open(&mut self, at: Address, dest: Option<Address>) -> Opened<UdpLink<'a, R>>
         ensures fresh { IsFresh ⟦<UdpLink<'a, R> as Link>⟧.known ⟦<UdpLink<'a, R> as Link>⟧.idles result }
         ensures cause { RisesWhere self.old.faults self.new.faults (IsFailed result) }
@@ -73,23 +169,68 @@ impl<'a, R: Net + Clock + Eprint> UdpDock<'a, R> {
 impl<'a, R: Net + Clock + Eprint> Dock for UdpDock<'a, R> {
     type L = UdpLink<'a, R>;
 
+    type G = UdpGroup<'a, R>;
+
     ghost known = { λ dock. record { faults = dock.faults; contents = None } };
 
     fn bind(&mut self, at: Address) -> Opened<UdpLink<'a, R>> {
         self.open(at, None)
     }
 
-    // The socket isn't connected: else the system would make it a fault of a send that nobody listens there.
     fn reach(&mut self, at: Address) -> Opened<UdpLink<'a, R>> {
-        self.edge.reaches_one_more();
-        self.open(ANY, Some(at))
+        self.open_towards(at)
     }
 
     fn close(&mut self, at: Address, link: UdpLink<'a, R>) {
-        if let Some(fault) = ended(link) {
-            self.keep(at, fault);
+        self.put_back(at, link);
+    }
+
+    fn gather(
+        &mut self,
+        alloc: Global,
+        from: Option<Address>,
+        to: &Addresses,
+    ) -> GatheredGroup<UdpGroup<'a, R>> {
+        let Ok(room) = room_for(alloc, to.len()) else {
+            return GatheredGroup::NoMemory;
+        };
+        let Some(at) = from else {
+            return self.open_group(None, from, to, room);
+        };
+        match self.open(at, None) {
+            Opened::Link(link) => self.open_group(Some(link), from, to, room),
+            Opened::Failed => GatheredGroup::Failed,
         }
     }
+
+    fn disband(&mut self, from: Option<Address>, to: &Addresses, group: UdpGroup<'a, R>) {
+        let UdpGroup {
+            source,
+            links,
+            ups: _,
+            faults: _,
+        } = group;
+        self.put_all_back(to, links);
+        self.close_source(from, source);
+    }
+}
+
+// The memory for a group, of which each link is up.
+#[derive(Drop)]
+struct SocketRoom<'a, R> {
+    links: Vec<UdpLink<'a, R>>,
+    ups: Vec<bool>,
+}
+
+fn room_for<'a, R>(alloc: Global, links: usize) -> Result<SocketRoom<'a, R>, NoMemory>
+    ensures { IfOk result (λ room. room.ups.items ≡ replicate links true) }
+{
+    let mut ups = Vec::new(alloc);
+    ups.resize(links, true)?;
+    Ok(SocketRoom {
+        links: Vec::with_capacity(alloc, links)?,
+        ups,
+    })
 }
 
 fn open_link<'a, R: Net + Clock + Eprint>(

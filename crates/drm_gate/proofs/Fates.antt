@@ -1,7 +1,6 @@
 -- An item has one fate, as far as datagrams go.
-use Rattle.std.proofs.Common.{◌≡◌, ◌<◌, ◌≤◌, ℕ, suc, List, [], ◌∷◌, ◌++◌, length, sym, ap, ap₂, ◌∙◌, refl, arith, length-append, slice_index_or}
+use Rattle.std.proofs.Common.{◌≡◌, ◌≤◌, ℕ, List, [], ◌∷◌, ◌++◌, length, sym, ap, ap₂, ◌∙◌, refl, arith, slice_index_or}
 use Rattle.std.proofs.lemmas.Bool.{true≢false}
-use Rattle.std.proofs.lemmas.List.{append-nil}
 use Rattle.dcp_pft.specs.declared.carry.Carry.{Carry}
 use Rattle.dcp_pft.specs.declared.carry.Carry.TheVariants.{Plain, Pft}
 use Rattle.dcp_pft.specs.Carrying.{CarriesPacket}
@@ -10,25 +9,9 @@ use Rattle.dcp_af.proofs.Answered.{no_fault}
 use Rattle.dcp_collect.specs.Runs.{CollectorItem, Packet, Lost, Damaged}
 use Rattle.law_collect.proofs.SentCuts.{packet_long}
 use Rattle.dcp_sender.specs.CarriesText.{AreOf}
+use Rattle.dcp_sender.proofs.SomeFragments.{same_lists}
 use Rattle.dcp_sender.specs.Packets.{IsAny, sequence_of}
-use Rattle.dcp_sender.specs.OverLinks.{AreSome}
-use Rattle.drm_gate.specs.Passing.{Outcome, Sent, Bad, Large, Missing, IsNone, OutcomeOf, SendsSome, OutcomesOf, datagrams_of, sent_of}
-use Rattle.drm_gate.specs.Run.{IsProperPrefix}
-
--- ---- lists of datagrams
-
--- one that isn't longer, and has the same at each place, is a front
-front_list : (xs ys : List (List ℕ)) → length xs ≤ length ys → ((i : ℕ) (none : List ℕ) → i < length xs → slice_index_or xs i none ≡ slice_index_or ys i none) → (rest : List (List ℕ)) × (ys ≡ xs ++ rest)
-front_list [] ys few same = (ys, refl)
-front_list (x ∷ xs) [] few same = absurd (omega (arith, few))
-front_list (x ∷ xs) (y ∷ ys) few same =
-    let first : x ≡ y = same 0 [] (omega arith) in
-    let (rest, are) = front_list xs ys (omega (arith, few)) (λ i none below. same (suc i) none (omega (arith, below))) in
-    (rest, ap₂ (λ z zs. z ∷ zs) (sym first) are)
-
-no_rest : (xs ys rest : List (List ℕ)) → ys ≡ xs ++ rest → length ys ≤ length xs → ys ≡ xs
-no_rest xs ys [] are few = are ∙ append-nil xs
-no_rest xs ys (r ∷ rest) are few = absurd (omega (arith, few, ap length are, length-append xs (r ∷ rest)))
+use Rattle.drm_gate.specs.Passing.{Outcome, Sent, Bad, Large, Missing, IsNone, OutcomeOf, OutcomesOf, datagrams_of, sent_of}
 
 -- ---- the datagrams of a packet
 
@@ -42,16 +25,8 @@ some_bytes packet any = let l = packet_long any.0 packet any.1 in omega (arith, 
 pub one_sending : (carry : Carry) (sequence : ℕ) (packet : List ℕ) (xs ys : List (List ℕ)) → IsAny packet → AreOf carry sequence packet xs → AreOf carry sequence packet ys → xs ≡ ys
 one_sending carry sequence packet xs ys any a b =
     let size : length xs ≡ length ys = a.many ∙ sym b.many in
-    let (rest, are) = front_list xs ys (omega (arith, size))
-    (λ i none below. carried_same carry sequence i packet (slice_index_or xs i none) (slice_index_or ys i none) (some_bytes packet any) (a.each i none below) (b.each i none (omega (arith, below, size)))) in
-    sym (no_rest xs ys rest are (omega (arith, size)))
-
-pub some_first : (carry : Carry) (sequence : ℕ) (packet : List ℕ) (xs ys : List (List ℕ)) → IsAny packet → AreSome carry sequence packet xs → AreOf carry sequence packet ys → IsProperPrefix ys xs
-some_first carry sequence packet xs ys any a b =
-    let few : length xs < length ys = omega (arith, a.fewer, b.many) in
-    let (rest, are) = front_list xs ys (omega (arith, few))
-    (λ i none below. carried_same carry sequence i packet (slice_index_or xs i none) (slice_index_or ys i none) (some_bytes packet any) (a.each i none below) (b.each i none (omega (arith, below, few)))) in
-    (rest, omega (arith, few, ap length are, length-append xs rest), are)
+    same_lists xs ys size
+    (λ i none below. carried_same carry sequence i packet (slice_index_or xs i none) (slice_index_or ys i none) (some_bytes packet any) (a.each i none below) (b.each i none (omega (arith, below, size))))
 
 -- ---- one item
 
@@ -80,14 +55,6 @@ one_sent carry first item Large Missing a b = refl
 one_sent carry first item Missing Bad a b = refl
 one_sent carry first item Missing Large a b = refl
 one_sent carry first item Missing Missing a b = refl
-
-pub begins_front : (carry : Carry) (first : ℕ) (item : CollectorItem) (datagrams : List (List ℕ)) (g : Outcome) → SendsSome carry first item datagrams → OutcomeOf carry first item g → IsProperPrefix (datagrams_of g) datagrams
-begins_front carry first (Packet q bytes) datagrams (Sent ys) a b = some_first carry (sequence_of first q) bytes datagrams ys a.0 a.2 b.2
-begins_front carry first (Packet q bytes) datagrams Bad a b = absurd (no_bad bytes a.0 b)
-begins_front carry first (Packet q bytes) datagrams Large a b = absurd (true≢false (sym b.1 ∙ a.1))
-begins_front carry first (Packet q bytes) datagrams Missing a b = absurd b
-begins_front carry first (Lost q had total) datagrams g a b = absurd a
-begins_front carry first (Damaged q) datagrams g a b = absurd a
 
 -- ---- several
 

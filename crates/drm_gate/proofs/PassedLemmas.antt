@@ -1,23 +1,15 @@
 -- What becomes of items that are passed on, one after another.
-use Rattle.std.proofs.Common.{◌≡◌, ℕ, ◌+◌, ◌*◌, ◌≤◌, List, [], ◌∷◌, ◌++◌, sym, subst, ap, ◌∙◌, refl, arith, length-append, unwrap_or}
-use Rattle.std.proofs.lemmas.List.{append-nil}
+use Rattle.std.proofs.Common.{◌≡◌, ℕ, ◌+◌, ◌≤◌, List, [], ◌∷◌, ◌++◌, sym, subst, ap, ◌∙◌, refl, arith, length-append, unwrap_or}
 use Rattle.std.proofs.lemmas.List.Concat.{flat_map-append}
 use Rattle.dcp_pft.specs.declared.carry.Carry.{Carry}
-use Rattle.dcp_pft.specs.Limits.{most_fragments}
-use Rattle.recv_reading.proofs.Common.{CollectorState, CollectorItem, Packet, Lost, Damaged, IsItem, MayBeFirst, KnowsFirst, KeepsFirst}
+use Rattle.recv_reading.proofs.Common.{CollectorState, CollectorItem, Packet, Lost, Damaged, IsItem, MayBeFirst, KnowsFirst, KeepsFirst, first_of}
 use Rattle.recv_reading.proofs.First.{packet_first}
 use Rattle.recv_reading.specs.ReadingReached.{packets_in}
 use Rattle.drm_gate.specs.declared.tally.Tally.{Tally}
-use Rattle.drm_gate.specs.Passing.{Outcome, Sent, Bad, Large, Missing, OutcomeOf, SendsSome, OutcomesOf, datagrams_of, sent_of}
-use Rattle.dcp_sender.specs.Targets.{Target}
-use Rattle.drm_gate.specs.Targets.{EachTakes}
-use Rattle.drm_gate.specs.Tallies.{plus, tally_one, tally_of}
-use Rattle.drm_gate.specs.Steps.{ItemPassed}
+use Rattle.drm_gate.specs.Passing.{Outcome, Sent, Bad, Large, Missing, OutcomeOf, OutcomesOf, datagrams_of, sent_of}
+use Rattle.drm_gate.specs.Tallies.{nothing, plus, tally_one, tally_of}
 use Rattle.drm_gate.specs.Passed.{PassedAll}
-use Rattle.drm_gate.proofs.TargetLemmas.{takes_nothing, then_takes, none_sent, more_sent, few_sent_each}
-use Rattle.drm_gate.proofs.Tallying.{plus_nothing, plus_assoc, tally_join}
-
--- ---- fates
+use Rattle.drm_gate.proofs.Tallying.{plus_nothing, tally_join}
 
 pub become_join : (carry : Carry) (first : ℕ) (items more : List CollectorItem) (fates others : List Outcome) → OutcomesOf carry first items fates → OutcomesOf carry first more others → OutcomesOf carry first (items ++ more) (fates ++ others)
 become_join carry first [] more [] others a b = b
@@ -27,31 +19,6 @@ become_join carry first (item ∷ items) more (fate ∷ fates) others a b = (a.0
 
 pub sent_join : (xs ys : List Outcome) → sent_of (xs ++ ys) ≡ sent_of xs ++ sent_of ys
 sent_join xs ys = flat_map-append datagrams_of xs ys
-
--- nothing was passed on yet
-pub all_none : (carry : Carry) (c : CollectorState) (t : Tally) (to : List Target) → PassedAll carry c [] t t to to
-all_none carry c t to = record { fates = []; many = refl; become = λ first may. tt; tally = sym (plus_nothing t); sent = takes_nothing to; only = none_sent to }
-
--- two stretches; what may be the first number of the later state may be that of the earlier one
-pub all_then : (carry : Carry) (c d : CollectorState) (items more : List CollectorItem) (t u v : Tally) (x y z : List Target) → ((first : ℕ) → MayBeFirst d first → MayBeFirst c first)
-    → PassedAll carry c items t u x y → PassedAll carry d more u v y z → PassedAll carry d (items ++ more) t v x z
-all_then carry c d items more t u v x y z may first second =
-    let P : List (List ℕ) → Type 0 = λ l. EachTakes l x z in
-    record {
-      fates = first.fates ++ second.fates;
-      many =
-          omega (arith, length-append first.fates second.fates, length-append items more, first.many, second.many);
-      become = λ f is. become_join carry f items more first.fates second.fates (first.become f (may f is)) (second.become f is);
-      tally = second.tally
-          ∙ (ap (λ w. plus w (tally_of second.fates)) first.tally
-          ∙ (plus_assoc t (tally_of first.fates) (tally_of second.fates) ∙ ap (plus t) (sym (tally_join first.fates second.fates))));
-      sent = subst P (sym (sent_join first.fates second.fates)) (then_takes (sent_of first.fates) (sent_of second.fates) x y z first.sent second.sent);
-      only =
-          let m : ℕ = most_fragments * (tally_of first.fates).given in
-          let n : ℕ = most_fragments * (tally_of second.fates).given in
-          let given : (tally_of (first.fates ++ second.fates)).given ≡ (tally_of first.fates).given + (tally_of second.fates).given = ap (λ (w : Tally). w.given) (tally_join first.fates second.fates) in
-          few_sent_each (m + n) (most_fragments * (tally_of (first.fates ++ second.fates)).given) x z (omega (arith, given)) (more_sent m n x y z first.only second.only);
-    }
 
 -- ---- the first number
 
@@ -74,38 +41,25 @@ becomes_at carry d (Packet q bytes) fate first knows is may becomes =
 becomes_at carry d (Lost q had total) fate first knows is may becomes = lost_at carry (unwrap_or d.first 0) first q had total fate becomes
 becomes_at carry d (Damaged q) fate first knows is may becomes = damaged_at carry (unwrap_or d.first 0) first q fate becomes
 
--- one item
-pub all_one : (carry : Carry) (d : CollectorState) (item : CollectorItem) (t u : Tally) (x y : List Target) → KnowsFirst d → IsItem d item → ItemPassed carry (unwrap_or d.first 0) item t u x y → PassedAll carry d (item ∷ []) t u x y
-all_one carry d item t u x y knows is one =
-    let P : List (List ℕ) → Type 0 = λ l. EachTakes l x y in
-    record {
-      fates = one.fate ∷ [];
-      many = refl;
-      become = λ first may. (becomes_at carry d item one.fate first knows is may one.becomes, tt);
-      tally = one.tally ∙ ap (plus t) (sym (plus_nothing (tally_one one.fate)));
-      sent = subst P (sym (append-nil (datagrams_of one.fate))) one.sent;
-      only = few_sent_each (most_fragments * (tally_one one.fate).given) (most_fragments * (tally_of (one.fate ∷ [])).given) x y (omega arith) one.only;
-    }
+-- ---- several
 
-pub begins_at : (carry : Carry) (d : CollectorState) (item : CollectorItem) (first : ℕ) (datagrams : List (List ℕ)) → KnowsFirst d → IsItem d item → MayBeFirst d first → SendsSome carry (unwrap_or d.first 0) item datagrams → SendsSome carry first item datagrams
-begins_at carry d (Packet q bytes) first datagrams knows is may begins =
-    let at : unwrap_or d.first 0 ≡ first = packet_first d q bytes first knows is may in
-    subst (λ (n : ℕ). SendsSome carry n (Packet q bytes) datagrams) at begins
-begins_at carry d (Lost q had total) first datagrams knows is may begins = absurd begins
-begins_at carry d (Damaged q) first datagrams knows is may begins = absurd begins
+-- nothing was passed on yet
+pub all_none : (carry : Carry) (c : CollectorState) (t : Tally) → t ≡ nothing → PassedAll carry c [] t []
+all_none carry c t empty = record { many = refl; become = λ first may. tt; tally = empty }
+
+-- one item more; what may be the first number of the later state may be that of the earlier one
+pub all_more : (carry : Carry) (c d : CollectorState) (items : List CollectorItem) (t u : Tally) (fates : List Outcome) (item : CollectorItem) (fate : Outcome) → KeepsFirst c d → KnowsFirst c → IsItem c item
+    → PassedAll carry c items t fates → OutcomeOf carry (first_of c) item fate → u ≡ plus t (tally_one fate) → PassedAll carry d (items ++ item ∷ []) u (fates ++ fate ∷ [])
+all_more carry c d items t u fates item fate keeps knows is all becomes counted = record {
+  many = omega (arith, length-append fates (fate ∷ []), length-append items (item ∷ []), all.many);
+  become = λ first may. become_join carry first items (item ∷ []) fates (fate ∷ []) (all.become first (keeps first may)) (becomes_at carry c item fate first knows is (keeps first may) becomes, tt);
+  tally = counted ∙ (ap (λ v. plus v (tally_one fate)) all.tally ∙ (ap (plus (tally_of fates)) (sym (plus_nothing (tally_one fate))) ∙ sym (tally_join fates (fate ∷ []))));
+}
 
 -- ---- at another state
 
--- what may be the first number of the later state may be that of the earlier one
-pub all_later : (carry : Carry) (c d : CollectorState) (items : List CollectorItem) (t u : Tally) (x y : List Target) → KeepsFirst c d → PassedAll carry c items t u x y → PassedAll carry d items t u x y
-all_later carry c d items t u x y keeps all = record {
-  fates = all.fates;
-  many = all.many;
-  become = λ first may. all.become first (keeps first may);
-  tally = all.tally;
-  sent = all.sent;
-  only = all.only;
-}
+pub all_later : (carry : Carry) (c d : CollectorState) (items : List CollectorItem) (t : Tally) (fates : List Outcome) → KeepsFirst c d → PassedAll carry c items t fates → PassedAll carry d items t fates
+all_later carry c d items t fates keeps all = record { many = all.many; become = λ first may. all.become first (keeps first may); tally = all.tally }
 
 -- ---- how many packets are sent
 

@@ -1,5 +1,5 @@
--- What was sent before a send failed is a front of all that would have been sent.
-use Rattle.std.proofs.Common.{◌≡◌, ℕ, List, [], ◌∷◌, ◌++◌, Option, Some, sym, subst, ap, ap₂, ◌∙◌, refl, inl, inr, arith, append_assoc, length-append, IfSome}
+-- What was passed on before the last link failed is a front of all that would have been.
+use Rattle.std.proofs.Common.{◌≡◌, ℕ, List, [], ◌∷◌, ◌++◌, Option, Some, sym, subst, ap, ap₂, ◌∙◌, refl, inl, inr, append_assoc, IfSome}
 use Rattle.std.proofs.lemmas.List.{append-nil}
 use Rattle.std.proofs.lemmas.List.Elements.{filter_map-append}
 use Rattle.recv_reading.proofs.Common.{Answer, Datagram, datagram_of, Taken, CollectorState, made, after_finish, CollectorItem, CollectorTakes, CollectorGives, CollectorSteps}
@@ -19,10 +19,10 @@ use Rattle.recv_reading.proofs.First.{may_taken, first_itself, given_first}
 use Rattle.recv_reading.proofs.Reaching.{one_way}
 use Rattle.recv_reading.proofs.PacketLemmas.{stands_at}
 use Rattle.recv_reading.proofs.Ways.{Starts, starts_more, starts_up_to, taken_starts, taken_first, finished_starts, gives_first}
-use Rattle.drm_gate.specs.Passing.{Outcome, SendsSome, OutcomesOf, sent_of}
-use Rattle.drm_gate.specs.Run.{IsOnward, IsProperPrefix, IsPrefixOfOnward, StopsAt}
+use Rattle.drm_gate.specs.Passing.{Outcome, OutcomesOf, sent_of}
+use Rattle.drm_gate.specs.Relaying.{IsOnward, SomeBecome}
 use Rattle.drm_gate.proofs.PassedLemmas.{sent_join}
-use Rattle.drm_gate.proofs.Fates.{begins_front, all_sent, split}
+use Rattle.drm_gate.proofs.Fates.{all_sent, split}
 
 -- ---- where the item stands
 
@@ -31,24 +31,19 @@ of_answers xs ys = filter_map-append datagram_of xs ys
 
 -- ---- a front of the whole
 
-behind_item : (carry : Carry) (first : ℕ) (item : CollectorItem) (rest : List CollectorItem) (datagrams : List (List ℕ)) (gs : List Outcome) → SendsSome carry first item datagrams → OutcomesOf carry first (item ∷ rest) gs → IsProperPrefix (sent_of gs) datagrams
-behind_item carry first item rest datagrams [] begins all = absurd all
-behind_item carry first item rest datagrams (g ∷ gs) begins all =
-    let (others, some, are) = begins_front carry first item datagrams g begins all.0 in
-    (others ++ sent_of gs, omega (arith, some, length-append others (sent_of gs)), ap (λ l. l ++ sent_of gs) are ∙ append_assoc datagrams others (sent_of gs))
+-- these are the first of those
+abbrev pub StartsWith : List (List ℕ) → List (List ℕ) → Type 0
+StartsWith whole front = (rest : List (List ℕ)) × (whole ≡ front ++ rest)
 
 -- all that becomes of items that start with those that were passed on, and the one behind them
-front_of : (carry : Carry) (first : ℕ) (items given : List CollectorItem) (item : CollectorItem) (fs fates : List Outcome) (datagrams sent : List (List ℕ)) → Starts items item given
-    → OutcomesOf carry first items fs → SendsSome carry first item datagrams → sent ≡ sent_of fs ++ datagrams → OutcomesOf carry first given fates → IsProperPrefix (sent_of fates) sent
-front_of carry first items given item fs fates datagrams sent (rest, are) become begins sent_is all =
-    let (gs, hs, fates_are, front, back) = split carry first items (item ∷ rest) fates (subst (λ (l : List CollectorItem). OutcomesOf carry first l fates) are all) in
-    let (others, some, tail) = behind_item carry first item rest datagrams hs begins back in
+front_of : (carry : Carry) (first : ℕ) (items given : List CollectorItem) (item : CollectorItem) (fs fates : List Outcome) → Starts items item given
+    → OutcomesOf carry first (items ++ item ∷ []) fs → OutcomesOf carry first given fates → StartsWith (sent_of fates) (sent_of fs)
+front_of carry first items given item fs fates (rest, are) become all =
+    let are' : given ≡ (items ++ item ∷ []) ++ rest = are ∙ sym (append_assoc items (item ∷ []) rest) in
+    let (gs, hs, fates_are, front, back) = split carry first (items ++ item ∷ []) rest fates (subst (λ (l : List CollectorItem). OutcomesOf carry first l fates) are' all) in
     let whole : sent_of fates ≡ sent_of gs ++ sent_of hs = ap sent_of fates_are ∙ sent_join gs hs in
-    let same : sent_of gs ≡ sent_of fs = all_sent carry first items gs fs front become in (
-      others,
-      some,
-      whole ∙ (ap (λ l. l ++ sent_of hs) same ∙ (ap (λ l. sent_of fs ++ l) tail ∙ (sym (append_assoc (sent_of fs) datagrams others) ∙ ap (λ l. l ++ others) (sym sent_is)))),
-    )
+    let same : sent_of gs ≡ sent_of fs = all_sent carry first (items ++ item ∷ []) gs fs front become in
+    (sent_of hs, whole ∙ ap (λ l. l ++ sent_of hs) same)
 
 -- ---- the answers ahead
 
@@ -78,7 +73,7 @@ may_steps c d (b ∷ ds) (a ∷ taken) items first (now, later, kept, mid, takes
 
 -- ---- the law
 
-module _ (rules : ReceiveOptions) (carry : Carry) (answers : List Answer) (sent : List (List ℕ)) (s : StopsAt rules carry answers sent) where
+module _ (rules : ReceiveOptions) (carry : Carry) (answers : List Answer) (done : List Outcome) (s : SomeBecome rules carry answers done) where
   abbrev new : CollectorState
   new = made rules.window rules.reach rules.first
 
@@ -95,14 +90,14 @@ module _ (rules : ReceiveOptions) (carry : Carry) (answers : List Answer) (sent 
     abbrev first : ℕ
     first = first_of o.run.mid
 
-    among : Starts before s.item (o.run.during ++ o.run.rest) → MayBeFirst s.last first → IsProperPrefix (sent_of fates) sent
+    among : Starts before s.item (o.run.during ++ o.run.rest) → MayBeFirst s.last first → StartsWith (sent_of fates) (sent_of done)
     among begins may =
         let items : Starts before s.item o.items =
         subst (λ (l : List CollectorItem). Starts before s.item l) (sym o.run.are) (starts_up_to rules.frames before s.item (o.run.during ++ o.run.rest) s.within begins) in
-        front_of carry first before o.items s.item s.fates fates s.datagrams sent items (s.become first may) (s.begins first may) s.sent_is o.become
+        front_of carry first before o.items s.item done fates items (s.become first may) o.become
 
     -- behind a datagram that was taken
-    taken_case : (bytes : List ℕ) (answer : Taken) → s.later ≡ Datagram bytes ∷ [] → CollectorTakes s.mid bytes answer s.state → IsProperPrefix (sent_of fates) sent
+    taken_case : (bytes : List ℕ) (answer : Taken) → s.later ≡ Datagram bytes ∷ [] → CollectorTakes s.mid bytes answer s.state → StartsWith (sent_of fates) (sent_of done)
     unfolding comes_at
     taken_case bytes answer is takes =
         let all : datagrams (answers ++ more) ≡ datagrams answers ++ datagrams more = of_answers answers more in
@@ -115,7 +110,7 @@ module _ (rules : ReceiveOptions) (carry : Carry) (answers : List Answer) (sent 
         among (starts_more before s.item o.run.during o.run.rest begins) (subst (λ (v : Option ℕ). IfSome v (λ n. n ≡ first)) known may)
 
     -- at the end of the reading
-    finished_case : s.later ≡ [] → s.state ≡ after_finish s.mid rules.frames → answers ++ more ≡ answers → IsProperPrefix (sent_of fates) sent
+    finished_case : s.later ≡ [] → s.state ≡ after_finish s.mid rules.frames → answers ++ more ≡ answers → StartsWith (sent_of fates) (sent_of done)
     unfolding comes_at
     finished_case none is same =
         let steps : CollectorSteps new (datagrams answers) o.taken o.run.during o.run.mid = subst (λ (l : List Answer). CollectorSteps new (datagrams l) o.taken o.run.during o.run.mid) same o.run.steps in
@@ -127,10 +122,12 @@ module _ (rules : ReceiveOptions) (carry : Carry) (answers : List Answer) (sent 
         let known : s.last.first ≡ o.run.mid.first = given_first s.more s.state s.last s.gives ∙ (ap (λ (v : CollectorState). v.first) is ∙ sym (ap (λ (v : CollectorState). v.first) mids)) in
         among begins (subst (λ (v : Option ℕ). IfSome v (λ n. n ≡ first)) (sym known) (first_itself o.run.mid))
 
-  pub front_follows : ReadingGoesOn rules answers → IsPrefixOfOnward rules carry answers sent
+  -- however the reading goes on that these answers begin
+  pub front_follows : ReadingGoesOn rules answers → (more : List Answer) (ending : Option EndWord) (fates : List Outcome) → ReadingEnds rules (answers ++ more) ending → IsOnward rules carry (datagrams (answers ++ more)) fates
+      → StartsWith (sent_of fates) (sent_of done)
   front_follows goes_on more ending fates other o = by s.comes
     where
-      by : ComesTo rules answers s.later s.mid s.state → IsProperPrefix (sent_of fates) sent
+      by : ComesTo rules answers s.later s.mid s.state → StartsWith (sent_of fates) (sent_of done)
       by (inl (bytes, answer, is, takes)) = taken_case more fates o bytes answer is takes
       by (inr (word, none, ends, is)) = finished_case more fates o none is (no_more one_reading rules answers more word ending goes_on ends other)
 

@@ -1,9 +1,10 @@
 -- A gateway as data, and by what it reads.
-use Rattle.std.specs.Prelude.{◌≡◌, ◌<◌, ◌≤◌, IfSome}
+use Rattle.std.specs.Prelude.{ℕ, ◌≡◌, ◌<◌, ◌≤◌, Bool, true, List, length, IfSome}
 use Rattle.dcp_pft.specs.declared.carry.Carry.{Carry}
 use Rattle.dcp_collect.specs.CollectorState.{CollectorState, made}
 use Rattle.recv_reading.specs.declared.options.ReceiveOptions.{ReceiveOptions}
 use Rattle.recv_reading.specs.Values.{receive_options}
+use Rattle.drm_links.specs.Calls.{is_up}
 use Rattle.drm_gate.specs.declared.gate.GateOptions.{GateOptions}
 
 -- its collector, and the carry under which it sends
@@ -27,3 +28,7 @@ pub record AreGateOptionsInRange (options : GateOptions) : Type 0 where
   pub limit : 0 < options.limit
   pub some_frames : IfSome options.frames (λ n. 0 < n)
   pub few_frames : IfSome options.frames (λ n. n ≤ 3000000)
+
+-- no link has failed
+abbrev pub AllUp : List Bool → Type 0
+AllUp up = (k : ℕ) → k < length up → is_up up k ≡ true

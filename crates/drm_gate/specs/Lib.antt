@@ -1,8 +1,11 @@
 pub mod Passed
+pub mod Apart
+pub mod ApartLaws
 pub mod Gateway
 pub mod Passing
-pub mod Reading
+pub mod Relaying
+pub mod Hearing
 pub mod Run
 pub mod Steps
 pub mod Tallies
-pub mod Targets
+pub mod Laws

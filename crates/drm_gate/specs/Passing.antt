@@ -5,9 +5,10 @@ use Rattle.dcp_pft.specs.declared.carry.Carry.{Carry}
 use Rattle.dcp_af.specs.declared.fault.AfFault.{AfFault}
 use Rattle.dcp_af.specs.Faults.{IsFault}
 use Rattle.dcp_collect.specs.Runs.{CollectorItem, Packet, Lost, Damaged}
+use Rattle.drm_links.specs.Calls.{Call}
 use Rattle.dcp_sender.specs.CarriesText.{AreOf}
 use Rattle.dcp_sender.specs.Packets.{IsAny, sequence_of}
-use Rattle.dcp_sender.specs.OverLinks.{is_large, AreSome}
+use Rattle.dcp_sender.specs.OverLinks.{is_large, over_each}
 
 -- It is sent, as these datagrams, or it is none that can be sent: bad, or above the limit of the carry, or missing.
 pub data Outcome : Type 0 where
@@ -32,12 +33,6 @@ OutcomeOf carry first (Lost index had total) other = ⊥
 OutcomeOf carry first (Damaged index) Bad = Unit {0}
 OutcomeOf carry first (Damaged index) other = ⊥
 
--- some of the datagrams that it becomes, and not all
-abbrev pub SendsSome : Carry → ℕ → CollectorItem → List (List ℕ) → Type 0
-SendsSome carry first (Packet index bytes) datagrams =
-    IsAny bytes × (is_large carry (length bytes) ≡ false) × AreSome carry (sequence_of first index) bytes datagrams
-SendsSome carry first other datagrams = ⊥
-
 -- each item has its fate
 abbrev pub OutcomesOf : Carry → ℕ → List CollectorItem → List Outcome → Type 0
 OutcomesOf carry first [] [] = Unit {0}
@@ -53,3 +48,7 @@ datagrams_of Missing = []
 
 abbrev pub sent_of : List Outcome → List (List ℕ)
 sent_of fates = flat_map datagrams_of fates
+
+-- the calls by which they are passed on: what each becomes goes over each of so many links
+abbrev pub passing : ℕ → List Outcome → List Call
+passing links fates = flat_map (λ fate. over_each links (datagrams_of fate)) fates

@@ -1,24 +1,23 @@
 //! A gateway: what comes over one link is sent over others.
 
-ghost use Rattle.std.specs.Prelude.{◌≡◌, ◌*◌, ◌≤◌, length, IfOk};
+ghost use Rattle.std.specs.Prelude.{◌≡◌, ◌≤◌, length, IfOk};
 ghost use Rattle.dcp_pft.specs.Carrying.{CarryFits};
-ghost use Rattle.dcp_pft.specs.Limits.{most_fragments};
 ghost use Rattle.dcp_collect.specs.CollectorState.{made};
 ghost use Rattle.drm_links.specs.Known.{HasCause};
-ghost use Rattle.drm_gate.specs.Gateway.{IsNewGateway, AreGateOptionsInRange, rules_of};
-ghost use Rattle.drm_gate.specs.Reading.{most_taken};
-ghost use Rattle.drm_gate.specs.Run.{GateRun, CountsOver};
-ghost use Rattle.dcp_sender.specs.Targets.{targets};
-ghost use Rattle.link_group.specs.Reaching.{AreUp};
+ghost use Rattle.drm_links.specs.Members.{AreUp};
+ghost use Rattle.drm_links.specs.History.{GroupTells};
+ghost use Rattle.drm_gate.specs.Gateway.{IsNewGateway, AreGateOptionsInRange, rules_of, AllUp};
+ghost use Rattle.drm_gate.specs.Run.{GateRun};
+ghost use Rattle.drm_gate.specs.Apart.{LinksTell, ups_of};
 
 use crate::Tally;
-use crate::reading::{GateError, pass_on};
+use crate::apart::LinksApart;
+use crate::reading::pass_on;
 use dcp_collect::Collector;
 use dcp_pft::Carry;
 use dcp_sender::PacketSender;
 use drm_bits::NoMemory;
-use drm_links::Link;
-use link_group::{Member, all_up};
+use drm_links::{Group, Link, Member};
 use std::alloc::Global;
 use std::marker::Model;
 
@@ -80,8 +79,34 @@ impl Gate {
     }
 }
 
-/// Reads a link until it has read enough, and sends each packet that comes of it over each of the others that hasn't failed, in their
-/// order, as soon as it is given. It ends at once where none is left. The gateway is new. The buffer holds one datagram.
+/// Hears what comes over a group until it has heard enough, and sends each packet that comes of it over each link that hasn't failed, in
+/// their order, before it hears more. It ends at once where no link is left. The gateway is new, and no link has failed. The buffer holds
+/// one datagram.
+pub fn pass_over_group<G: Group>(
+    gate: &mut Gate,
+    group: &mut G,
+    options: &GateOptions,
+    buffer: &mut [u8],
+) -> GateEnded
+    requires new { IsNewGateway gate.old }
+    requires buffer { 65536 ≤ length buffer.old }
+    requires options { AreGateOptionsInRange options.now }
+    requires links { (1 ≤ length (G.up group.old)) × (length (G.up group.old) ≤ 16) }
+    requires up { AllUp (G.up group.old) }
+    ensures { GateRun (rules_of gate.old.collector options.now) gate.old.carry
+        (G.up group.old) (G.up group.new) (λ events. GroupTells events (G.known group.old) (G.known group.new)) result }
+{
+    pass_on(
+        &mut gate.collector,
+        &mut gate.sender,
+        group,
+        options,
+        buffer,
+    )
+}
+
+/// The same over links that are lent apart: `from` is heard, and what comes of it goes over each of `to` that hasn't failed. No one of
+/// them tells in which order it was; there is one order of which each tells what is its own.
 pub fn gate_one<L: Link, K: Link>(
     gate: &mut Gate,
     from: &mut L,
@@ -94,36 +119,15 @@ pub fn gate_one<L: Link, K: Link>(
     requires options { AreGateOptionsInRange options.now }
     requires links { (1 ≤ length to.old) × (length to.old ≤ 16) }
     requires up { AreUp to.old }
-    // What was read of the one link, and what was sent of it over each of the others.
     ensures ended { GateRun (rules_of gate.old.collector options.now) gate.old.carry
-        (L.known from.old) (L.known from.new) (targets K.known to.old) (targets K.known to.new) result }
-    ensures from { HasCause (L.known from.old) (L.known from.new) (result ≡ GateEnded.FromFailed) }
+        (ups_of to.old) (ups_of to.new) (LinksTell (L.known from.old) (L.known from.new) K.known to.old to.new) result }
+    ensures cause { HasCause (L.known from.old) (L.known from.new) (result ≡ GateEnded.FromFailed) }
 {
-    let passed = pass_on(
+    pass_on(
         &mut gate.collector,
         &mut gate.sender,
-        from,
-        to,
+        &mut LinksApart { from, to },
         options,
         buffer,
-    );
-    let tally = match passed {
-        Ok(tally) => tally,
-        Err(GateError::From) => return GateEnded::FromFailed,
-        Err(GateError::To) => return GateEnded::ToFailed,
-    };
-    passed_all(&tally, to)
-}
-
-// How a gateway ended that passed on all, and counted this for each link that hasn't failed.
-fn passed_all<K: Link>(tally: &Tally, to: &[Member<K>]) -> GateEnded
-    requires sent { tally.now.sent ≤ most_fragments * most_taken }
-    requires links { length to.now ≤ 16 }
-    ensures { CountsOver (targets K.known to.now) tally.now result }
-{
-    if all_up(to) {
-        GateEnded::Done(tally.over(to.len() as u64))
-    } else {
-        GateEnded::SomeFailed
-    }
+    )
 }

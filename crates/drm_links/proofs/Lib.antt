@@ -10,3 +10,13 @@ pub mod ManyCallsLemmas
 pub mod WritingLemmas
 pub mod Places
 pub mod Hearing
+pub mod CallLemmas
+pub mod OpeningLemmas
+pub mod ReachLemmas
+pub mod CloseLemmas
+pub mod AloneLemmas
+pub mod GotLemmas
+pub mod DisbandLemmas
+pub mod BindLemmas
+pub mod GroupLemmas
+pub mod GatherLemmas

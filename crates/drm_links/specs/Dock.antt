@@ -7,6 +7,7 @@ use Rattle.std.specs.Cmp.Lexicographic.{slice_cmp}
 use Rattle.std.specs.FinMap as map
 use Rattle.drm_links.specs.Known.{Known, KnownThrough}
 use Rattle.drm_links.specs.Link.{Answer, Traffic, IsUnused, rests_of}
+use Rattle.drm_links.specs.History.{GroupEvent}
 use Rattle.drm_links.specs.declared.dock.Address.{Address}
 use Rattle.drm_links.specs.declared.dock.Opened.{Opened}
 use Rattle.drm_links.specs.declared.dock.Opened.TheVariants.{Link, Failed}
@@ -27,8 +28,8 @@ abbrev pub over_of : Traffic → Over
 over_of traffic = record { answers = traffic.answers; gone = traffic.gone; rests = rests_of traffic }
 
 -- The number of openings so far, and of those by `reach`; the numbers of the openings, from 0, that are to fail; the links
--- that stand at addresses; what the links had answered that were closed, what had gone over them, and how long these had rested; and
--- the number of calls so far.
+-- that stand at addresses; what the links had answered that were closed, what had gone over them, and how long these had rested; what
+-- happened at each group that was closed, the last one first, and how many events are told of one; and the number of calls so far.
 pub record DockContents : Type 0 where
   pub openings : ℕ
   pub reaches : ℕ
@@ -37,6 +38,8 @@ pub record DockContents : Type 0 where
   pub answers : map.FinMap (slice_cmp nat_cmp) (List Answer)
   pub gone : map.FinMap (slice_cmp nat_cmp) (List (List ℕ))
   pub rests : map.FinMap (slice_cmp nat_cmp) (List ℕ)
+  pub histories : List (List GroupEvent)
+  pub room : ℕ
   pub calls : ℕ
 
 -- the key of an address: its four bytes and its port
@@ -84,8 +87,11 @@ abbrev pub DockReaches : {L : Type 0} → (L → Known Traffic) → Address → 
 DockReaches known at opened before after = DockOpens known at opened (with_reach before) after
 
 -- A new link has no faults and no idles, and where it tells, no call was made on it.
+abbrev pub IsNewLink : {L : Type 0} → (L → Known Traffic) → (L → ℕ) → L → Type 0
+IsNewLink known idles link = ((known link).faults ≡ 0) × (idles link ≡ 0) × IfSome (known link).contents IsUnused
+
 abbrev pub IsFresh : {L : Type 0} → (L → Known Traffic) → (L → ℕ) → Opened L → Type 0
-IsFresh known idles (Link link) = ((known link).faults ≡ 0) × (idles link ≡ 0) × IfSome (known link).contents IsUnused
+IsFresh known idles (Link link) = IsNewLink known idles link
 IsFresh known idles Failed = Unit {0}
 
 abbrev pub IsFailed : {L : Type 0} → Opened L → Type 0

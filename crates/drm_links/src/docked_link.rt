@@ -1,6 +1,6 @@
 //! The links of a dock in memory.
 
-ghost use Rattle.std.specs.Prelude.{◌≡◌, [], ◌∷◌, ◌≤◌, Some, length, IfOk, IfErr};
+ghost use Rattle.std.specs.Prelude.{◌≡◌, ◌↔◌, [], ◌∷◌, ◌≤◌, Some, length, IsTrue, IfOk, IfErr};
 ghost use Rattle.drm_links.specs.Known.{RisesWhere, HasCause, CountsCall, IfBothKnown};
 ghost use Rattle.drm_links.specs.Link.{LinkReceives, LinkSends, LinkRests, KeepsAnswers, FitsBuffer};
 ghost use Rattle.drm_links.specs.MemoryLink.{MemLinkReceives, MemLinkSends, IsUntouchedLink, after_rest, link_known};
@@ -47,6 +47,13 @@ impl DockedLink {
             Ok(()) => Ok(DockedLink { link, node }),
             Err(_) => Err(link),
         }
+    }
+
+    /// Whether no call was made on it.
+    pub fn is_unused(&self) -> bool
+        ensures { IsTrue result ↔ (self.now.calls ≡ 0) }
+    {
+        self.link.is_unused()
     }
 
     /// The link alone.

@@ -1,8 +1,8 @@
 //! Room for one datagram.
 
-ghost use Rattle.std.specs.Prelude.{◌≡◌, ◌≤◌, [], length, IfOk};
-ghost use Rattle.drm_links.specs.Link.{longest_kept};
+ghost use Rattle.std.specs.Prelude.{◌≡◌, ◌≤◌, [], length, vec_len, IfOk};
 
+use crate::LONGEST_DATAGRAM;
 use drm_bits::NoMemory;
 use std::alloc::Global;
 use std::marker::Model;
@@ -10,7 +10,7 @@ use std::marker::Model;
 /// The most bytes of a datagram that is kept.
 pub const LONGEST_KEPT: usize = 32_780;
 
-/// Room for a datagram of at most `LONGEST_KEPT` bytes, and the bytes that lie in it.
+/// Room for a datagram, and the bytes that lie in it.
 #[derive(Drop)]
 pub struct KeptDatagram {
     bytes: Vec<u8>,
@@ -18,13 +18,12 @@ pub struct KeptDatagram {
 
 impl Model for KeptDatagram {
     ghost use Rattle.std.specs.Prelude.{ℕ, ◌≤◌, List, vec_capacity};
-    ghost use Rattle.drm_links.specs.Link.{longest_kept};
 
     ghost Value = { List ℕ };
 
     ghost view = { λ room. room.bytes.items };
 
-    ghost invariant = { λ room. longest_kept ≤ vec_capacity room.bytes };
+    ghost invariant = { λ room. 65536 ≤ vec_capacity room.bytes };
 }
 
 impl KeptDatagram {
@@ -33,13 +32,13 @@ impl KeptDatagram {
         ensures { IfOk result (λ room. room ≡ []) }
     {
         Ok(KeptDatagram {
-            bytes: Vec::with_capacity(alloc, LONGEST_KEPT)?,
+            bytes: Vec::with_capacity(alloc, LONGEST_DATAGRAM)?,
         })
     }
 
     /// Puts a datagram in, in place of what lies there.
     pub fn fill(&mut self, datagram: &[u8])
-        requires { length datagram.now ≤ longest_kept }
+        requires { length datagram.now ≤ 65536 }
         ensures { self.new ≡ datagram.now }
     {
         self.bytes.clear();
@@ -54,4 +53,18 @@ impl KeptDatagram {
     {
         &self.bytes
     }
+}
+
+/// Room for so many datagrams.
+pub fn make_spare(alloc: Global, count: usize) -> Result<Vec<KeptDatagram>, NoMemory>
+    ensures { IfOk result (λ spare. vec_len spare ≡ count) }
+{
+    let mut spare = Vec::with_capacity(alloc, count)?;
+    for _ in 0..count {
+        let room = KeptDatagram::make(alloc)?;
+        let Ok(()) = spare.push(room) else {
+            return Err(NoMemory);
+        };
+    }
+    Ok(spare)
 }

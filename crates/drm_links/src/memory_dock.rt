@@ -1,16 +1,20 @@
 //! A dock in memory.
 
-ghost use Rattle.std.specs.Prelude.{◌≡◌, ◌+◌, ◌^◌, ◌<◌, ◌≤◌, [], ◌∷◌, Some, IsNone, is_some, length, IfOk, IfErr, OnOk, OnErr};
+ghost use Rattle.std.specs.Prelude.{◌≡◌, ◌+◌, ◌^◌, ◌<◌, ◌≤◌, [], ◌∷◌, true, Some, IsNone, is_some, length, IfOk, IfErr, OnOk, OnErr};
 ghost use Rattle.std.specs.Option.{option_map, option_copied};
 ghost use Rattle.std.specs.FinMap as map;
-ghost use Rattle.drm_links.specs.Known.{HasCause, CountsCall, IfBothKnown, one_more};
-ghost use Rattle.drm_links.specs.Dock.{DockBinds, DockReaches, DockCloses, IsFresh, IsFailed, address_key};
+ghost use Rattle.drm_links.specs.Known.{HasCause, CountsCall, IfBothKnown, KnownThrough, one_more};
+ghost use Rattle.drm_links.specs.Dock.{DockBinds, DockReaches, DockCloses, IsFresh, IsFailed, AreDifferent, address_key};
+ghost use Rattle.drm_links.specs.Gathering.{DockGathers, DockDisbands, IsFreshGroup, IsNotGathered, with_history};
+ghost use Rattle.drm_links.specs.MemoryGroup.{group_known, ups_of};
 ghost use Rattle.drm_links.specs.MemoryLink.{IsUntouchedLink};
-ghost use Rattle.drm_links.specs.MemoryDock.{LeavesDock, reached, after_close, link_at, closed_at, dock_known, start_of, with_start};
+ghost use Rattle.drm_links.specs.MemoryDock.{LeavesDock, reached, after_close, link_at, closed_at, dock_known, first_room, past_telling, start_of, with_start};
 
+use crate::book::GroupBook;
 use crate::docked_link::{ClosedLink, DockedLink, Standing};
 use crate::failing::is_listed;
-use crate::{Address, Dock, Link, MemLink, Opened};
+use crate::memory_group::{GroupRoom, room_for_group};
+use crate::{Address, Addresses, Dock, GatheredGroup, Link, MemGroup, MemLink, Opened};
 use drm_bits::NoMemory;
 use std::alloc::Global;
 use std::collections::{BTreeMap, LinkedList};
@@ -28,6 +32,8 @@ pub struct MemDock {
     links: BTreeMap<[u16; 5], Standing>,
     closed: LinkedList<Option<ClosedLink>>,
     failing: Vec<u64>,
+    histories: LinkedList<Option<GroupBook>>,
+    room: u32,
     openings: u64,
     reaches: u64,
     calls: u64,
@@ -43,12 +49,14 @@ impl Model for MemDock {
 
     ghost coded = { dock_code };
 
-    ghost use Rattle.drm_links.specs.ClosedLinks.{entries_of};
+    ghost use Rattle.drm_links.specs.ClosedLinks.{entries_of, histories_of};
 
     ghost view = { λ dock. record {
       links = map.from_entries dock.links.entries;
       closed = entries_of dock.closed;
       failing = dock.failing.items;
+      histories = histories_of dock.histories;
+      room = dock.room;
       openings = dock.openings;
       reaches = dock.reaches;
       calls = dock.calls;
@@ -63,6 +71,12 @@ impl Model for MemDock {
 
 // The most nodes of a list.
 const MOST_CLOSED: usize = 0x7fff_ffff_ffff_ffff;
+
+// How many events are told of a group, unless another number is set.
+const FIRST_ROOM: u32 = 1024;
+
+// More calls than those after which the dock still tells.
+const PAST_TELLING: u64 = (1 << 62) + 1;
 
 // The key of an address: its four bytes and its port.
 fn key_of(at: Address) -> [u16; 5]
@@ -85,6 +99,8 @@ impl MemDock {
           links = map.empty;
           closed = [];
           failing = fail.now;
+          histories = [];
+          room = first_room;
           openings = 0;
           reaches = 0;
           calls = 0;
@@ -99,6 +115,8 @@ impl MemDock {
               answers = map.empty;
               gone = map.empty;
               rests = map.empty;
+              histories = [];
+              room = first_room;
               calls = 0;
             })) }
         ensures faults { IfOk result (λ dock. (⟦<MemDock as Dock>⟧.known dock).faults ≡ 0) }
@@ -107,6 +125,8 @@ impl MemDock {
             links: BTreeMap::new(alloc),
             closed: LinkedList::new(alloc),
             failing: fail.to_vec(alloc)?,
+            histories: LinkedList::new(alloc),
+            room: FIRST_ROOM,
             openings: 0,
             reaches: 0,
             calls: 0,
@@ -138,6 +158,13 @@ impl MemDock {
         }
     }
 
+    /// Has so many events told of each group that is opened from now on.
+    pub fn set_room(&mut self, events: u32)
+        ensures { self.new ≡ record self.old { room = events } }
+    {
+        self.room = events;
+    }
+
     /// Whether a link stands at this address.
     pub fn has(&self, at: Address) -> bool
         ensures { result ≡ is_some (link_at self.now at) }
@@ -167,6 +194,78 @@ impl MemDock {
         ensures reaches { self.now.reaches ≤ self.now.calls }
     {
         let _ = &self.calls;
+    }
+
+    // Tells nothing any more.
+    fn stop_telling(&mut self)
+        ensures { self.new ≡ past_telling self.old }
+    {
+        self.calls = self.calls.max(PAST_TELLING);
+    }
+
+    // Opens a link that receives.
+    pub(crate) fn open_bound(&mut self, at: Address) -> Opened<DockedLink>
+        ensures exact { LeavesDock result at self.old self.new }
+        ensures fresh { IsFresh ⟦<DockedLink as Link>⟧.known ⟦<DockedLink as Link>⟧.idles result }
+        ensures opened { IfBothKnown (dock_known self.old) (dock_known self.new)
+            (DockBinds ⟦<DockedLink as Link>⟧.known at result) }
+        ensures counts_call { CountsCall (λ contents. contents.calls) (dock_known self.old) (dock_known self.new) }
+        ensures cause { HasCause (dock_known self.old) (dock_known self.new) (IsFailed result) }
+    {
+        self.counted();
+        self.take_out(at)
+    }
+
+    // Opens a link that sends.
+    pub(crate) fn open_reached(&mut self, at: Address) -> Opened<DockedLink>
+        ensures exact { LeavesDock result at (reached self.old) self.new }
+        ensures fresh { IsFresh ⟦<DockedLink as Link>⟧.known ⟦<DockedLink as Link>⟧.idles result }
+        ensures opened { IfBothKnown (dock_known self.old) (dock_known self.new)
+            (DockReaches ⟦<DockedLink as Link>⟧.known at result) }
+        ensures counts_call { CountsCall (λ contents. contents.calls) (dock_known self.old) (dock_known self.new) }
+        ensures cause { HasCause (dock_known self.old) (dock_known self.new) (IsFailed result) }
+    {
+        self.counted();
+        let opened = self.take_out(at);
+        self.count_reach();
+        opened
+    }
+
+    // Takes back a link.
+    pub(crate) fn close_link(&mut self, at: Address, link: DockedLink)
+        ensures exact { length self.old.closed + 1 < 2 ^ 63 → self.new ≡ after_close at link self.old }
+        ensures gone { IfBothKnown (dock_known self.old) (dock_known self.new)
+            (DockCloses (⟦<DockedLink as Link>⟧.known link).contents at) }
+        ensures counts_call { CountsCall (λ contents. contents.calls) (dock_known self.old) (dock_known self.new) }
+        ensures cause { self.new.faults ≡ self.old.faults }
+    {
+        self.calls = self.calls.saturating_add(1);
+        if self.closed.len() < MOST_CLOSED {
+            let mut node = link.into_closed(at);
+            let Ok(()) = node.append(&mut self.closed) else {
+                unreachable!()
+            };
+            self.closed = node;
+        }
+    }
+
+    // Keeps what happened at a group, or tells nothing any more where that isn't known.
+    fn keep_history(&mut self, book: GroupBook, page: LinkedList<Option<GroupBook>>)
+        requires { length page ≡ 1 }
+        ensures kept { KnownThrough (dock_known self.old) (dock_known self.new) (λ before after.
+            (book.tells ≡ true) × (after ≡ with_history book.events before)) }
+        ensures cause { self.new.faults ≡ self.old.faults }
+    {
+        let tells = book.tells();
+        let mut node = filled(book, page);
+        if tells && self.histories.len() < MOST_CLOSED {
+            let Ok(()) = node.append(&mut self.histories) else {
+                unreachable!()
+            };
+            self.histories = node;
+        } else {
+            self.stop_telling();
+        }
     }
 
     // Counts an opening by `reach`.
@@ -201,6 +300,8 @@ impl MemDock {
 impl Dock for MemDock {
     type L = DockedLink;
 
+    type G = MemGroup;
+
     ghost known = { dock_known };
 
     fn bind(&mut self, at: Address) -> Opened<DockedLink>
@@ -211,8 +312,7 @@ impl Dock for MemDock {
         ensures counts_call { CountsCall (λ contents. contents.calls) (dock_known self.old) (dock_known self.new) }
         ensures cause { HasCause (dock_known self.old) (dock_known self.new) (IsFailed result) }
     {
-        self.counted();
-        self.take_out(at)
+        self.open_bound(at)
     }
 
     fn reach(&mut self, at: Address) -> Opened<DockedLink>
@@ -223,10 +323,7 @@ impl Dock for MemDock {
         ensures counts_call { CountsCall (λ contents. contents.calls) (dock_known self.old) (dock_known self.new) }
         ensures cause { HasCause (dock_known self.old) (dock_known self.new) (IsFailed result) }
     {
-        self.counted();
-        let opened = self.take_out(at);
-        self.count_reach();
-        opened
+        self.open_reached(at)
     }
 
     fn close(&mut self, at: Address, link: DockedLink)
@@ -236,13 +333,56 @@ impl Dock for MemDock {
         ensures counts_call { CountsCall (λ contents. contents.calls) (dock_known self.old) (dock_known self.new) }
         ensures cause { self.new.faults ≡ self.old.faults }
     {
-        self.calls = self.calls.saturating_add(1);
-        if self.closed.len() < MOST_CLOSED {
-            let mut node = link.into_closed(at);
-            let Ok(()) = node.append(&mut self.closed) else {
-                unreachable!()
-            };
-            self.closed = node;
+        self.close_link(at, link);
+    }
+
+    fn gather(
+        &mut self,
+        alloc: Global,
+        from: Option<Address>,
+        to: &Addresses,
+    ) -> GatheredGroup<MemGroup>
+        requires different { AreDifferent to.now }
+        ensures fresh { IsFreshGroup group_known (λ group. ups_of group.members) (length to.now) result }
+        ensures gathered { KnownThrough (dock_known self.old) (dock_known self.new) (DockGathers group_known from to.now result) }
+        ensures untouched { result ≡ GatheredGroup.NoMemory → self.new ≡ self.old }
+        ensures cause { HasCause (dock_known self.old) (dock_known self.new) (IsNotGathered result) }
+    {
+        let Ok(room) = room_for_group(alloc, to.len(), self.room) else {
+            return GatheredGroup::NoMemory;
+        };
+        match from {
+            Some(at) => self.gather_from(at, room, to),
+            None => self.gather_idle(alloc, room, to),
         }
     }
+
+    fn disband(&mut self, from: Option<Address>, to: &Addresses, group: MemGroup)
+        requires { length (ups_of group.members) ≡ length to.now }
+        ensures disbanded { KnownThrough (dock_known self.old) (dock_known self.new) (DockDisbands (group_known group) from to.now) }
+        ensures cause { self.new.faults ≡ self.old.faults }
+    {
+        let (source, room) = group.into_parts();
+        let GroupRoom {
+            members,
+            book,
+            page,
+        } = room;
+        self.close_all(to, members);
+        self.close_source(from, source);
+        self.keep_history(book, page);
+    }
+}
+
+// A node that holds this book.
+fn filled(book: GroupBook, page: LinkedList<Option<GroupBook>>) -> LinkedList<Option<GroupBook>>
+    requires { length page ≡ 1 }
+    ensures { result ≡ Some book ∷ [] }
+{
+    let mut page = page;
+    let Some(place) = page.front_mut() else {
+        unreachable!()
+    };
+    *place = Some(book);
+    page
 }

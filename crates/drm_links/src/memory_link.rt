@@ -1,13 +1,13 @@
 //! A link in memory.
 
-ghost use Rattle.std.specs.Prelude.{◌≡◌, ◌<◌, ◌≤◌, ◌++◌, [], ◌∷◌, Some, length, slice_get, slice_index_or, vec_len, IfOk, OnOk, OnErr, MatchOption};
+ghost use Rattle.std.specs.Prelude.{◌≡◌, ◌↔◌, ◌<◌, ◌≤◌, ◌++◌, [], ◌∷◌, Some, length, slice_get, slice_index_or, IsTrue, IfOk, OnOk, OnErr, MatchOption};
 ghost use Rattle.drm_links.specs.Known.{RisesWhere, HasCause, CountsCall, IfBothKnown};
 ghost use Rattle.drm_links.specs.Link.{LinkReceives, LinkSends, LinkRests, KeepsAnswers, FitsBuffer};
 ghost use Rattle.drm_links.specs.MemoryLink.{LinkState, MemLinkReceives, MemLinkSends, BringsDatagram, IsCounted, longest_brought, answers_ahead, taken_from, after_rest, link_known};
 
 use crate::failing::is_listed;
 use crate::front::fill_front;
-use crate::kept_datagram::{KeptDatagram, LONGEST_KEPT};
+use crate::kept_datagram::{KeptDatagram, LONGEST_KEPT, make_spare};
 use crate::{Came, Link, Sent};
 use drm_bits::{NoMemory, Octets};
 use std::alloc::Global;
@@ -130,6 +130,13 @@ impl MemLink {
         })
     }
 
+    /// Whether no call was made on it.
+    pub fn is_unused(&self) -> bool
+        ensures { IsTrue result ↔ (self.now.calls ≡ 0) }
+    {
+        self.calls == 0
+    }
+
     /// Puts a datagram behind all others that are still to come.
     pub fn bring(&mut self, alloc: Global, datagram: &[u8]) -> Result<(), NoMemory>
         requires { length datagram.now ≤ longest_brought }
@@ -235,20 +242,6 @@ impl MemLink {
         self.waiting = 0;
         Sent::Sent
     }
-}
-
-// Room for so many datagrams.
-fn make_spare(alloc: Global, count: usize) -> Result<Vec<KeptDatagram>, NoMemory>
-    ensures { IfOk result (λ spare. vec_len spare ≡ count) }
-{
-    let mut spare = Vec::with_capacity(alloc, count)?;
-    for _ in 0..count {
-        let room = KeptDatagram::make(alloc)?;
-        let Ok(()) = spare.push(room) else {
-            return Err(NoMemory);
-        };
-    }
-    Ok(spare)
 }
 
 impl Link for MemLink {

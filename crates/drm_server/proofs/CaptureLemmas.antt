@@ -8,7 +8,8 @@ use Rattle.drm_schedule.specs.declared.plan.Plan.{Plan}
 use Rattle.drm_links.specs.Known.{Known}
 use Rattle.drm_links.specs.Sink.{Output, OutputsText, IsPrefix}
 use Rattle.drm_links.proofs.KnownLemmas.{OutputsText-then}
-use Rattle.drm_timeline.specs.Numbers.{frame_count}
+use Rattle.drm_server.specs.declared.stretch.Stretch.{Stretch}
+use Rattle.drm_server.specs.Stretch.{first_in, frames_in}
 use Rattle.drm_server.specs.Datagrams.{IsDatagramAt, AreFirst, AreOfFrames, AreDatagrams}
 use Rattle.drm_server.specs.Capture.{IsCapture, IsPrefixOfCapture}
 use Rattle.drm_server.specs.Gathering.{GathersDatagrams, IsPrefixOfFrame, IsPrefixWithDatagram}
@@ -43,10 +44,10 @@ nothing_before : (part rest : List ℕ) → [] ≡ part ++ rest → part ≡ []
 nothing_before [] rest is = refl
 nothing_before (x ∷ part) rest is = cc
 
-module _ (plan : Plan) (from : ℕ) where
+module _ (plan : Plan) (stretch : Stretch) where
   -- datagrams of the frames before, some first ones of this frame, and a front of the next one
-  ends_in : (n i : ℕ) → from + n < frame_count plan → (before first : List (List ℕ)) → AreOfFrames plan from n before → AreFirst plan (from + n) i first
-      → (next front : List ℕ) → IsDatagramAt plan (from + n) i next → IsPrefix next front → IsPrefixOfCapture plan from (concat before ++ (concat first ++ front))
+  ends_in : (n i : ℕ) → n < frames_in stretch plan → (before first : List (List ℕ)) → AreOfFrames plan (first_in stretch) n before → AreFirst plan (first_in stretch + n) i first
+      → (next front : List ℕ) → IsDatagramAt plan (first_in stretch + n) i next → IsPrefix next front → IsPrefixOfCapture plan stretch (concat before ++ (concat first ++ front))
   ends_in n i within before first are are_first next front is is_front = (
     next,
     before ++ first,
@@ -57,24 +58,24 @@ module _ (plan : Plan) (from : ℕ) where
   )
 
   -- a front of some first datagrams and one more: it ends in that one, or where `early` says
-  in_next : (n i : ℕ) → from + n < frame_count plan → (before others : List (List ℕ)) (datagram : List ℕ) → AreOfFrames plan from n before → AreFirst plan (from + n) i others → IsDatagramAt plan (from + n) i datagram
-      → (part : List ℕ) → (IsPrefix (concat others) part → IsPrefixOfCapture plan from (concat before ++ part)) → IsPrefix (concat (others ++ datagram ∷ [])) part
-      → IsPrefixOfCapture plan from (concat before ++ part)
+  in_next : (n i : ℕ) → n < frames_in stretch plan → (before others : List (List ℕ)) (datagram : List ℕ) → AreOfFrames plan (first_in stretch) n before → AreFirst plan (first_in stretch + n) i others → IsDatagramAt plan (first_in stretch + n) i datagram
+      → (part : List ℕ) → (IsPrefix (concat others) part → IsPrefixOfCapture plan stretch (concat before ++ part)) → IsPrefix (concat (others ++ datagram ∷ [])) part
+      → IsPrefixOfCapture plan stretch (concat before ++ part)
   in_next n i within before others datagram are are_others is part early (rest, front) =
       elim (front_of_two (concat others) datagram part (rest, sym (concat_push others datagram) ∙ front)) [
         | inl first ↦ early first
         | inr found ↦
-            subst (λ l. IsPrefixOfCapture plan from (concat before ++ l)) (sym found.2)
+            subst (λ l. IsPrefixOfCapture plan stretch (concat before ++ l)) (sym found.2)
             (ends_in n i within before others are are_others datagram found.0 is found.1)
       ]
 
   -- a front of one or more first datagrams of a frame, behind all of the frames before it
-  front_in_frame : (n i : ℕ) → from + n < frame_count plan → (before first : List (List ℕ)) → AreOfFrames plan from n before → AreFirst plan (from + n) (suc i) first
-      → (part : List ℕ) → IsPrefix (concat first) part → IsPrefixOfCapture plan from (concat before ++ part)
+  front_in_frame : (n i : ℕ) → n < frames_in stretch plan → (before first : List (List ℕ)) → AreOfFrames plan (first_in stretch) n before → AreFirst plan (first_in stretch + n) (suc i) first
+      → (part : List ℕ) → IsPrefix (concat first) part → IsPrefixOfCapture plan stretch (concat before ++ part)
   front_in_frame n zero within before first are (others, datagram, none, is, same) part front =
       in_next n zero within before others datagram are none is part
       (λ (rest, is_front).
-      subst (λ l. IsPrefixOfCapture plan from (concat before ++ l)) (sym (nothing_before part rest (sym (ap concat none) ∙ is_front)))
+      subst (λ l. IsPrefixOfCapture plan stretch (concat before ++ l)) (sym (nothing_before part rest (sym (ap concat none) ∙ is_front)))
       (ends_in n zero within before [] are refl datagram [] is (datagram, refl)))
       (subst (λ l. IsPrefix (concat l) part) same front)
   front_in_frame n (suc i) within before first are (others, datagram, are_others, is, same) part front =
@@ -83,8 +84,8 @@ module _ (plan : Plan) (from : ℕ) where
       (subst (λ l. IsPrefix (concat l) part) same front)
 
   -- a front of the datagrams of some first frames: it ends in one of them, or there are none and nothing else
-  front_in_frames : (n : ℕ) → from + n ≤ frame_count plan → (before : List (List ℕ)) → AreOfFrames plan from n before
-      → (text : List ℕ) → IsPrefix (concat before) text → IsPrefixOfCapture plan from text ⊎ (text ≡ concat before)
+  front_in_frames : (n : ℕ) → n ≤ frames_in stretch plan → (before : List (List ℕ)) → AreOfFrames plan (first_in stretch) n before
+      → (text : List ℕ) → IsPrefix (concat before) text → IsPrefixOfCapture plan stretch text ⊎ (text ≡ concat before)
   front_in_frames zero within before none text (rest, is) =
       inr (nothing_before text rest (sym (ap concat none) ∙ is) ∙ sym (ap concat none))
   front_in_frames (suc n) within before (others, of_frame, are, (count, has, first), same) text (rest, is) =
@@ -98,39 +99,39 @@ module _ (plan : Plan) (from : ℕ) where
         | inr found ↦ last count first found.0 found.1 found.2
       ]
     where
-      last : (count : ℕ) → AreFirst plan (from + n) count of_frame → (part : List ℕ) → IsPrefix (concat of_frame) part → text ≡ concat others ++ part
-          → IsPrefixOfCapture plan from text ⊎ (text ≡ concat before)
+      last : (count : ℕ) → AreFirst plan (first_in stretch + n) count of_frame → (part : List ℕ) → IsPrefix (concat of_frame) part → text ≡ concat others ++ part
+          → IsPrefixOfCapture plan stretch text ⊎ (text ≡ concat before)
       last zero none part (rest, front) is =
           let empty : part ≡ [] = nothing_before part rest (sym (ap concat none) ∙ front) in
           inr (is ∙ (ap (λ l. concat others ++ l) (empty ∙ sym (ap concat none)) ∙ sym (ap concat same ∙ concat_append others of_frame)))
       last (suc i) first part front is =
-          inl (subst (IsPrefixOfCapture plan from) (sym is) (front_in_frame n i (omega (arith, within)) others of_frame are first part front))
+          inl (subst (IsPrefixOfCapture plan stretch) (sym is) (front_in_frame n i (omega (arith, within)) others of_frame are first part front))
 
   -- All datagrams of one frame or more are a front too: the last of them is whole.
-  all_are_front : (n i : ℕ) → from + n < frame_count plan → (before first : List (List ℕ)) → AreOfFrames plan from n before → AreFirst plan (from + n) (suc i) first
-      → IsPrefixOfCapture plan from (concat (before ++ first))
+  all_are_front : (n i : ℕ) → n < frames_in stretch plan → (before first : List (List ℕ)) → AreOfFrames plan (first_in stretch) n before → AreFirst plan (first_in stretch + n) (suc i) first
+      → IsPrefixOfCapture plan stretch (concat (before ++ first))
   all_are_front n i within before first are are_first =
-      subst (IsPrefixOfCapture plan from) (sym (concat_append before first))
+      subst (IsPrefixOfCapture plan stretch) (sym (concat_append before first))
       (front_in_frame n i within before first are are_first (concat first) ([], sym (append-nil (concat first))))
 
-  pub one_or_more : (n count : ℕ) → from + n < frame_count plan → 1 ≤ count → (before first : List (List ℕ)) → AreOfFrames plan from n before → AreFirst plan (from + n) count first
-      → IsPrefixOfCapture plan from (concat (before ++ first))
+  pub one_or_more : (n count : ℕ) → n < frames_in stretch plan → 1 ≤ count → (before first : List (List ℕ)) → AreOfFrames plan (first_in stretch) n before → AreFirst plan (first_in stretch + n) count first
+      → IsPrefixOfCapture plan stretch (concat (before ++ first))
   one_or_more n zero within some before first are are_first = absurd (omega (arith, some))
   one_or_more n (suc i) within some before first are are_first = all_are_front n i within before first are are_first
 
   -- a front of all frames before, and of one or more first datagrams of this frame
-  front_so_far : (n i : ℕ) → from + n < frame_count plan → (before first : List (List ℕ)) → AreOfFrames plan from n before → AreFirst plan (from + n) (suc i) first
-      → (text : List ℕ) → IsPrefix (concat before ++ concat first) text → IsPrefixOfCapture plan from text
+  front_so_far : (n i : ℕ) → n < frames_in stretch plan → (before first : List (List ℕ)) → AreOfFrames plan (first_in stretch) n before → AreFirst plan (first_in stretch + n) (suc i) first
+      → (text : List ℕ) → IsPrefix (concat before ++ concat first) text → IsPrefixOfCapture plan stretch text
   front_so_far n i within before first are are_first text front =
       elim (front_of_two (concat before) (concat first) text front) [
         | inl early ↦
             elim (front_in_frames n (omega (arith, within)) before are text early) [
               | inl found ↦ found
               | inr whole ↦
-                  subst (IsPrefixOfCapture plan from) (append-nil (concat before) ∙ sym whole)
+                  subst (IsPrefixOfCapture plan stretch) (append-nil (concat before) ∙ sym whole)
                   (front_in_frame n i within before first are are_first [] (concat first, refl))
             ]
-        | inr found ↦ subst (IsPrefixOfCapture plan from) (sym found.2) (front_in_frame n i within before first are are_first found.0 found.1)
+        | inr found ↦ subst (IsPrefixOfCapture plan stretch) (sym found.2) (front_in_frame n i within before first are are_first found.0 found.1)
       ]
 
 -- what waited, and more behind it, and more again
@@ -176,30 +177,30 @@ pub gathers_frame : (before of_frame : List (List ℕ)) (then_waits waits : List
 gathers_frame before of_frame then_waits waits a b c first second =
     subst (λ l. GathersDatagrams [] l waits a c) (sym (concat_append before of_frame)) (gathers_then [] (concat before) (concat of_frame) then_waits waits a b c first second)
 
-module _ (plan : Plan) (from : ℕ) where
+module _ (plan : Plan) (stretch : Stretch) where
   -- a part of the next frame
-  pub part_written : (n : ℕ) (datagrams : List (List ℕ)) (waits : List ℕ) (a b c : Known Output) → from + n < frame_count plan → AreOfFrames plan from n datagrams
-      → GathersDatagrams [] (concat datagrams) waits a b → OutputsText b c (IsPrefixOfFrame plan (from + n) waits) → OutputsText a c (IsPrefixOfCapture plan from)
+  pub part_written : (n : ℕ) (datagrams : List (List ℕ)) (waits : List ℕ) (a b c : Known Output) → n < frames_in stretch plan → AreOfFrames plan (first_in stretch) n datagrams
+      → GathersDatagrams [] (concat datagrams) waits a b → OutputsText b c (IsPrefixOfFrame plan (first_in stretch + n) waits) → OutputsText a c (IsPrefixOfCapture plan stretch)
   part_written n datagrams waits a b c within are first second =
-      OutputsText-then (λ s. concat datagrams ≡ s ++ waits) (IsPrefixOfFrame plan (from + n) waits) (IsPrefixOfCapture plan from) a b c first second
+      OutputsText-then (λ s. concat datagrams ≡ s ++ waits) (IsPrefixOfFrame plan (first_in stretch + n) waits) (IsPrefixOfCapture plan stretch) a b c first second
       (λ s u is (i, of_frame, are_first, (rest, front)).
-      front_so_far plan from n i within datagrams of_frame are are_first (s ++ u)
+      front_so_far plan stretch n i within datagrams of_frame are are_first (s ++ u)
       (rest, ap (λ l. l ++ concat of_frame) is ∙ (append_assoc s waits (concat of_frame) ∙ (ap (λ l. s ++ l) front ∙ sym (append_assoc s u rest)))))
 
   -- a front of what waits at the end
-  pub end_written : (n : ℕ) (datagrams : List (List ℕ)) (waits : List ℕ) (a b c : Known Output) → from + n ≤ frame_count plan → AreOfFrames plan from n datagrams → IsPrefixOfCapture plan from (concat datagrams)
-      → GathersDatagrams [] (concat datagrams) waits a b → OutputsText b c (IsPrefix waits) → OutputsText a c (IsPrefixOfCapture plan from)
+  pub end_written : (n : ℕ) (datagrams : List (List ℕ)) (waits : List ℕ) (a b c : Known Output) → n ≤ frames_in stretch plan → AreOfFrames plan (first_in stretch) n datagrams → IsPrefixOfCapture plan stretch (concat datagrams)
+      → GathersDatagrams [] (concat datagrams) waits a b → OutputsText b c (IsPrefix waits) → OutputsText a c (IsPrefixOfCapture plan stretch)
   end_written n datagrams waits a b c within are all first second =
-      OutputsText-then (λ s. concat datagrams ≡ s ++ waits) (IsPrefix waits) (IsPrefixOfCapture plan from) a b c first second
+      OutputsText-then (λ s. concat datagrams ≡ s ++ waits) (IsPrefix waits) (IsPrefixOfCapture plan stretch) a b c first second
       (λ s u is (rest, front).
-      ⊎_elim (λ found. found) (λ whole. subst (IsPrefixOfCapture plan from) (sym whole) all)
-      (front_in_frames plan from n within datagrams are (s ++ u) (rest, is ∙ (ap (λ l. s ++ l) front ∙ sym (append_assoc s u rest)))))
+      ⊎_elim (λ found. found) (λ whole. subst (IsPrefixOfCapture plan stretch) (sym whole) all)
+      (front_in_frames plan stretch n within datagrams are (s ++ u) (rest, is ∙ (ap (λ l. s ++ l) front ∙ sym (append_assoc s u rest)))))
 
   -- all of what waits at the end
-  pub all_written : (datagrams : List (List ℕ)) (waits : List ℕ) (a b c : Known Output) → AreDatagrams plan from datagrams
-      → GathersDatagrams [] (concat datagrams) waits a b → OutputsText b c (λ text. text ≡ waits) → OutputsText a c (IsCapture plan from)
+  pub all_written : (datagrams : List (List ℕ)) (waits : List ℕ) (a b c : Known Output) → AreDatagrams plan stretch datagrams
+      → GathersDatagrams [] (concat datagrams) waits a b → OutputsText b c (λ text. text ≡ waits) → OutputsText a c (IsCapture plan stretch)
   all_written datagrams waits a b c are first second =
-      OutputsText-then (λ s. concat datagrams ≡ s ++ waits) (λ text. text ≡ waits) (IsCapture plan from) a b c first second
+      OutputsText-then (λ s. concat datagrams ≡ s ++ waits) (λ text. text ≡ waits) (IsCapture plan stretch) a b c first second
       (λ s u is last. (datagrams, are, ap (λ l. s ++ l) last ∙ sym is))
 
 -- all that waits of one frame, and a front of it

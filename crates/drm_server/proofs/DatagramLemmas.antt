@@ -1,5 +1,5 @@
 -- The datagrams of one frame, and of one frame more.
-use Rattle.std.proofs.Common.{◌≡◌, ◌+◌, ℕ, zero, suc, List, [], ◌∷◌, ◌++◌, length, refl, ap, subst, ◌∙◌, arith, length-append}
+use Rattle.std.proofs.Common.{◌≡◌, ◌+◌, ℕ, zero, suc, List, [], ◌∷◌, ◌++◌, length, refl, ap, ap₂, subst, ◌∙◌, arith, length-append}
 use Rattle.drm_schedule.specs.declared.plan.Plan.{Plan}
 use Rattle.drm_server.specs.ServerState.{ServerState}
 use Rattle.drm_server.specs.Datagrams.{IsDatagramAt, AreFirst, AreOfFrame, AreOfFrames}
@@ -28,5 +28,5 @@ first_length plan t (suc i) datagrams (before, datagram, are, is, same) =
     omega (arith, whole, first_length plan t i before are)
 
 -- the server that loaded frame t of its schedule
-pub at_frame : (old new : ServerState) (plan : Plan) (t : ℕ) → new ≡ record { base = old.base; plan = old.base; frame = t } → old.base ≡ plan → new ≡ record { base = plan; plan = plan; frame = t }
-at_frame old new plan t is same = is ∙ ap (λ (p : Plan). record { base = p; plan = p; frame = t }) same
+pub at_frame : (old new : ServerState) (plan : Plan) (k t : ℕ) → new ≡ record { base = old.base; plan = old.base; frame = k } → k ≡ t → old.base ≡ plan → new ≡ record { base = plan; plan = plan; frame = t }
+at_frame old new plan k t is at same = is ∙ ap₂ (λ (p : Plan) (i : ℕ). record { base = p; plan = p; frame = i }) same at

@@ -10,11 +10,11 @@ pub mod OneDelivery
 pub mod DatagramLemmas
 pub mod CutLemmas
 pub mod CaptureLemmas
-pub mod SendingLemmas
-pub mod RestLemmas
-pub mod PaceLemmas
 pub mod FrameLemmas
-pub mod SeveralLemmas
 pub mod PieceLemmas
 pub mod LiveLemmas
 pub mod SameFrame
+pub mod ServingLemmas
+pub mod CallsAt
+pub mod FramesAt
+pub mod StretchLemmas

@@ -7,7 +7,9 @@ use Rattle.dcp_pft.specs.declared.carry.Carry.{Carry}
 use Rattle.dcp_pft.specs.declared.carry.Carry.TheVariants.{Plain, Pft}
 use Rattle.drm_schedule.specs.declared.plan.Plan.{Plan}
 use Rattle.dcp_pft.specs.Laws.{OneFragment}
-use Rattle.drm_timeline.specs.Numbers.{frame_count, sequence_number}
+use Rattle.drm_timeline.specs.Numbers.{sequence_number}
+use Rattle.drm_server.specs.declared.stretch.Stretch.{Stretch}
+use Rattle.drm_server.specs.Stretch.{first_in, frames_in}
 use Rattle.dcp_pft.specs.Carrying.{CarriesPacket, datagram_count}
 use Rattle.drm_server.specs.Datagrams.{HasDatagrams, IsDatagramAt, AreFirst, AreOfFrame, AreOfFrames, AreDatagrams, AreBefore}
 use Rattle.drm_server.specs.Capture.{IsCapture}
@@ -27,7 +29,7 @@ below_count plan t i count datagram x y =
     omega (arith, x.within, same)
 
 -- the i-th of some first datagrams, and those before it
-first_split : (plan : Plan) (t i k : ℕ) (datagrams : List (List ℕ)) → i < k → AreFirst plan t k datagrams
+pub first_split : (plan : Plan) (t i k : ℕ) (datagrams : List (List ℕ)) → i < k → AreFirst plan t k datagrams
     → (first : List (List ℕ)) × (next : List ℕ) × (behind : List (List ℕ)) × AreFirst plan t i first × IsDatagramAt plan t i next × (datagrams ≡ first ++ next ∷ behind)
 first_split plan t i zero datagrams l are = absurd (omega arith)
 first_split plan t i (suc k) datagrams l (before, datagram, are, is, same) =
@@ -70,7 +72,7 @@ module _ (one_fragment : OneFragment) where
   one_first plan t (suc i) datagrams others (before, datagram, are, is, same) (before', datagram', are', is', same') =
       same ∙ (ap (λ l. l ++ datagram ∷ []) (one_first plan t i before before' are are') ∙ (ap (λ d. before' ++ d ∷ []) (one_datagram plan t i datagram datagram' is is') ∙ sym same'))
 
-  one_of_frame : (plan : Plan) (t : ℕ) (datagrams others : List (List ℕ)) → AreOfFrame plan t datagrams → AreOfFrame plan t others → datagrams ≡ others
+  pub one_of_frame : (plan : Plan) (t : ℕ) (datagrams others : List (List ℕ)) → AreOfFrame plan t datagrams → AreOfFrame plan t others → datagrams ≡ others
   one_of_frame plan t datagrams others (count, has, are) (count', has', are') =
       let same : count ≡ count' = one_count plan t count count' has has' in
       one_first plan t count' datagrams others (subst (λ k. AreFirst plan t k datagrams) same are) are'
@@ -80,19 +82,19 @@ module _ (one_fragment : OneFragment) where
   one_of_frames plan from (suc n) datagrams others (before, of_frame, are, is, same) (before', of_frame', are', is', same') =
       same ∙ (ap (λ l. l ++ of_frame) (one_of_frames plan from n before before' are are') ∙ (ap (λ l. before' ++ l) (one_of_frame plan (from + n) of_frame of_frame' is is') ∙ sym same'))
 
-  pub one_delivery : (plan : Plan) (from : ℕ) (datagrams others : List (List ℕ)) → AreDatagrams plan from datagrams → AreDatagrams plan from others → datagrams ≡ others
-  one_delivery plan from datagrams others x y = one_of_frames plan from (frame_count plan - from) datagrams others x y
+  pub one_delivery : (plan : Plan) (stretch : Stretch) (datagrams others : List (List ℕ)) → AreDatagrams plan stretch datagrams → AreDatagrams plan stretch others → datagrams ≡ others
+  one_delivery plan stretch datagrams others x y = one_of_frames plan (first_in stretch) (frames_in stretch plan) datagrams others x y
 
-  pub one_capture : (plan : Plan) (from : ℕ) (bytes others : List ℕ) → IsCapture plan from bytes → IsCapture plan from others → bytes ≡ others
-  one_capture plan from bytes others (datagrams, are, same) (datagrams', are', same') =
-      same ∙ (ap concat (one_delivery plan from datagrams datagrams' are are') ∙ sym same')
+  pub one_capture : (plan : Plan) (stretch : Stretch) (bytes others : List ℕ) → IsCapture plan stretch bytes → IsCapture plan stretch others → bytes ≡ others
+  one_capture plan stretch bytes others (datagrams, are, same) (datagrams', are', same') =
+      same ∙ (ap concat (one_delivery plan stretch datagrams datagrams' are are') ∙ sym same')
 
-  pub first_ones_are_prefix : (plan : Plan) (from : ℕ) (datagrams first : List (List ℕ)) (next : List ℕ) → AreDatagrams plan from datagrams → AreBefore plan from next first
+  pub first_ones_are_prefix : (plan : Plan) (stretch : Stretch) (datagrams first : List (List ℕ)) (next : List ℕ) → AreDatagrams plan stretch datagrams → AreBefore plan stretch next first
       → (behind : List (List ℕ)) × (datagrams ≡ first ++ next ∷ behind)
-  first_ones_are_prefix plan from datagrams first next are x =
+  first_ones_are_prefix plan stretch datagrams first next are x =
+      let from : ℕ = first_in stretch in
       let t : ℕ = from + x.n in
-      let sent : x.n < frame_count plan - from = omega (arith, x.within) in
-      let f = frames_split plan from x.n (frame_count plan - from) datagrams sent are in
+      let f = frames_split plan from x.n (frames_in stretch plan) datagrams x.within are in
       let g = first_split plan t x.i f.4.0 f.1 (below_count plan t x.i f.4.0 next x.is_next f.4.1) f.4.2 in
       let same_frames : f.0 ≡ x.of_frames = one_of_frames plan from x.n f.0 x.of_frames f.3 x.are_of_frames in
       let same_first : g.0 ≡ x.of_frame = one_first plan t x.i g.0 x.of_frame g.3 x.are_first in

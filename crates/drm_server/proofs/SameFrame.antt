@@ -1,11 +1,8 @@
 -- What is sent or written of a frame that a server has loaded is that of the frame of each schedule that has it.
-use Rattle.std.proofs.Common.{◌≡◌, ◌+◌, ◌%◌, ◌^◌, ◌<◌, ℕ, zero, suc, List, length, Some, None, refl, ap, sym, ◌∙◌, subst}
+use Rattle.std.proofs.Common.{◌≡◌, ◌+◌, ◌%◌, ◌^◌, ◌<◌, ℕ, Bool, zero, suc, List, length, Some, None, refl, ap, sym, ◌∙◌, subst}
 use Rattle.drm_links.specs.Known.{Known}
-use Rattle.drm_links.specs.Link.{Traffic}
 use Rattle.drm_links.specs.Sink.{Output, OutputsText}
-use Rattle.drm_links.specs.Transmission.{LinkTransmits}
 use Rattle.drm_links.proofs.KnownLemmas.{OutputsText-weaker}
-use Rattle.drm_links.proofs.TransmissionLemmas.{Transmits-weaker}
 use Rattle.drm_schedule.specs.declared.live.Live.{Live}
 use Rattle.drm_schedule.specs.declared.plan.Plan.{Plan}
 use Rattle.drm_schedule.specs.Valid.{IsSchedule}
@@ -15,7 +12,8 @@ use Rattle.drm_timeline.specs.Numbers.{frame_count, sequence_number}
 use Rattle.live_streams.specs.Live.{LivePieces, AreWhole, piece_at, live_schedule}
 use Rattle.live_streams.proofs.FrameLemmas.{same_carry, same_seq}
 use Rattle.drm_server.specs.Datagrams.{HasDatagrams, IsDatagramAt, AreFirst, AreOfFrame}
-use Rattle.drm_server.specs.OneFrame.{SentFrame, SendsPartOfFrame}
+use Rattle.drm_links.specs.History.{History}
+use Rattle.drm_server.specs.Serving.{ServesFrame}
 use Rattle.drm_server.specs.Gathering.{WroteFrame, IsPrefixOfFrame}
 use Rattle.drm_server.specs.ServerState.{ServerState, HasFrame, only_at}
 use Rattle.drm_server.proofs.LiveLemmas.{only_here, only_whole, same_frame, plain_frame, empty_frame}
@@ -71,13 +69,8 @@ module _ (server : ServerState) (plan : Plan) (has : HasFrame server plan) where
   same_of_frame datagrams (count, counted, are) = (count, same_count count counted, same_first count datagrams are)
 
   -- sent
-  pub same_sent : (n : ℕ) (before after : Known Traffic) → SentFrame server.plan t n before after → SentFrame plan t n before after
-  same_sent n before after (datagrams, are, size, sent) = (datagrams, same_of_frame datagrams are, size, sent)
-
-  pub same_part : (before after : Known Traffic) → LinkTransmits before after (SendsPartOfFrame server.plan t) → LinkTransmits before after (SendsPartOfFrame plan t)
-  same_part before after sent =
-      Transmits-weaker (SendsPartOfFrame server.plan t) (SendsPartOfFrame plan t) before after sent
-      (λ x y (i, next, datagrams, stand, none, waits). (i, next, datagrams, (same_datagram i next stand.0, same_first i datagrams stand.1), none, waits))
+  pub same_served : (pace n : ℕ) (up up' : List Bool) (before after : Known History) → ServesFrame server.plan t pace n up up' before after → ServesFrame plan t pace n up up' before after
+  same_served pace n up up' before after (datagrams, are, made) = (datagrams, same_of_frame datagrams are, made)
 
   -- and written
   pub same_written : (n : ℕ) (before after : Known Output) → WroteFrame server.plan t n before after → WroteFrame plan t n before after

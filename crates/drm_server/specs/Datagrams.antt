@@ -1,8 +1,10 @@
 -- The datagrams of a schedule: the packet of each frame, whole or cut into fragments (TS 102 821).
-use Rattle.std.specs.Prelude.{ℕ, zero, suc, ◌≡◌, ◌+◌, ◌-◌, ◌<◌, List, [], ◌∷◌, ◌++◌, length}
+use Rattle.std.specs.Prelude.{ℕ, zero, suc, ◌≡◌, ◌+◌, ◌<◌, List, [], ◌∷◌, ◌++◌, length}
 use Rattle.drm_schedule.specs.declared.plan.Plan.{Plan}
-use Rattle.drm_timeline.specs.Numbers.{frame_count, sequence_number}
+use Rattle.drm_timeline.specs.Numbers.{sequence_number}
 use Rattle.dcp_pft.specs.Carrying.{datagram_count, CarriesPacket}
+use Rattle.drm_server.specs.declared.stretch.Stretch.{Stretch}
+use Rattle.drm_server.specs.Stretch.{first_in, frames_in}
 use Rattle.drm_server.specs.Frames.{IsPacketAt}
 
 -- The packet of frame t is carried by so many datagrams.
@@ -38,19 +40,18 @@ AreOfFrames plan first zero datagrams = datagrams ≡ []
 AreOfFrames plan first (suc n) datagrams =
     (before : List (List ℕ)) × (of_frame : List (List ℕ)) × AreOfFrames plan first n before × AreOfFrame plan (first + n) of_frame × (datagrams ≡ before ++ of_frame)
 
--- the datagrams of a schedule from frame `first` on: all of them from frame 0 on, and none where it has no frame `first`
-abbrev pub AreDatagrams : Plan → ℕ → List (List ℕ) → Type 0
-AreDatagrams plan first datagrams = AreOfFrames plan first (frame_count plan - first) datagrams
+-- the datagrams of those frames of a schedule that are sent
+abbrev pub AreDatagrams : Plan → Stretch → List (List ℕ) → Type 0
+AreDatagrams plan stretch datagrams = AreOfFrames plan (first_in stretch) (frames_in stretch plan) datagrams
 
--- The datagrams of a schedule from frame `first` on that stand before a certain one: those of the n frames before its frame,
--- and those of its frame before it.
-pub record AreBefore (plan : Plan) (first : ℕ) (next : List ℕ) (datagrams : List (List ℕ)) : Type 0 where
+-- Those of them that stand before a certain one: those of the n frames before its frame, and those of its frame before it.
+pub record AreBefore (plan : Plan) (stretch : Stretch) (next : List ℕ) (datagrams : List (List ℕ)) : Type 0 where
   pub n : ℕ
-  pub within : first + n < frame_count plan
+  pub within : n < frames_in stretch plan
   pub i : ℕ
-  pub is_next : IsDatagramAt plan (first + n) i next
+  pub is_next : IsDatagramAt plan (first_in stretch + n) i next
   pub of_frames : List (List ℕ)
-  pub are_of_frames : AreOfFrames plan first n of_frames
+  pub are_of_frames : AreOfFrames plan (first_in stretch) n of_frames
   pub of_frame : List (List ℕ)
-  pub are_first : AreFirst plan (first + n) i of_frame
+  pub are_first : AreFirst plan (first_in stretch + n) i of_frame
   pub are : datagrams ≡ of_frames ++ of_frame

@@ -2,12 +2,11 @@ pub mod Frames
 pub mod Multiplex
 pub mod Placing
 pub mod ServerState
+pub mod Placed
 pub mod Lending
+pub mod Stretch
 pub mod Datagrams
 pub mod Capture
-pub mod Sending
-pub mod Rests
-pub mod OneFrame
 pub mod Gathering
-pub mod Several
 pub mod Laws
+pub mod Serving

@@ -1,25 +1,23 @@
 //! One frame of a schedule, ready to be sent.
 
-ghost use Rattle.std.specs.Prelude.{ℕ, List, [], ◌≡◌, ◌<◌, ◌≤◌, length, take, replicate, true, IfOk, OnErr, IsErr};
+ghost use Rattle.std.specs.Prelude.{ℕ, List, [], ◌≡◌, ◌+◌, ◌<◌, ◌≤◌, length, take, true, IfOk};
 ghost use Rattle.dcp_pft.specs.Limits.{longest_packet, most_packet, most_fragments, most_parity};
-ghost use Rattle.drm_links.specs.Known.{HasCause};
-ghost use Rattle.drm_links.specs.ManyCalls.{MakesCalls};
-ghost use Rattle.drm_links.specs.Transmission.{LinkTransmits, WaitsBetween};
-ghost use Rattle.dcp_sender.specs.Sending.{MadeCalls};
 ghost use Rattle.drm_timeline.specs.Numbers as numbers;
 ghost use Rattle.drm_timeline.specs.Numbers.{packet_size};
 ghost use Rattle.live_streams.specs.Live.{piece_at, live_schedule};
 ghost use Rattle.drm_server.specs.ServerState.{only_at};
+ghost use Rattle.drm_server.specs.Stretch.{first_in, frames_in};
 ghost use Rattle.drm_server.specs.Frames.{IsPacketAt};
-ghost use Rattle.drm_server.specs.Datagrams.{HasDatagrams, HasDatagram, IsDatagramAt};
-ghost use Rattle.drm_server.specs.OneFrame.{SentFrame, SendsPartOfFrame};
+ghost use Rattle.drm_server.specs.Datagrams.{HasDatagrams, HasDatagram, IsDatagramAt, AreOfFrame};
+ghost use Rattle.drm_links.specs.Calls.{sends, GroupMakes};
 
+use crate::Stretch;
 use crate::packet::write_packet;
 use crate::payload::PayloadBuffers;
 use dcp_pft::{LONGEST_PACKET, MOST_PARITY, Shape, all_taken, cut_for, datagrams, most_packet};
 use dcp_sender::{send_packet, write_cut, write_parity};
 use drm_bits::{NoMemory, zeros};
-use drm_links::{Link, LinkFault};
+use drm_links::Group;
 use drm_schedule::{Live, Schedule};
 use drm_timeline::{frame_count, sequence_number};
 use live_streams::{MOST_PIECE, piece_len};
@@ -140,6 +138,15 @@ impl<'a> EncodedFrame<'a> {
         frame_count(self.plan)
     }
 
+    /// How many of them are in this stretch.
+    pub fn frames_in(&self, stretch: Stretch) -> u32
+        ensures frames { result ≡ frames_in stretch self.now.base }
+        ensures within { (n : ℕ) → n < result → first_in stretch + n < numbers.frame_count self.now.base }
+        ensures within_limit { (n : ℕ) → n < result → first_in stretch + n < 3000000 }
+    {
+        stretch.frames(self.plan)
+    }
+
     /// The most bytes of a datagram.
     pub fn most(&self) -> usize
         ensures { result ≡ most_packet self.now.plan.carry }
@@ -223,25 +230,25 @@ impl<'a> EncodedFrame<'a> {
         }
     }
 
-    /// Sends the datagrams of the frame over a link, one after another and by way of this room, and gives their number.
-    pub fn send<L: Link>(&self, scratch: &mut [u8], link: &mut L) -> Result<u64, LinkFault>
+    /// For its clause alone: the frame has datagrams.
+    pub fn has_datagrams(&self)
+        ensures { (datagrams : List (List ℕ)) × AreOfFrame self.now.plan self.now.frame datagrams }
+    {
+        let _ = &self.plan;
+    }
+
+    /// Sends the datagrams of the frame over the k-th link of a group, one after another and by way of this room, up to one that is refused.
+    pub fn send<G: Group>(&self, scratch: &mut [u8], k: usize, group: &mut G)
         requires { most_packet self.now.plan.carry ≤ length scratch.old }
-        ensures whole { IfOk result (λ n. SentFrame self.now.plan self.now.frame n
-            (L.known link.old) (L.known link.new)) }
-        ensures waits { IfOk result (λ n. LinkTransmits (L.known link.old) (L.known link.new) (WaitsBetween (replicate n 0) 0)) }
-        ensures at_least_one { IfOk result (λ n. 1 ≤ n) }
-        ensures within_limit { IfOk result (λ n. n ≤ most_fragments) }
-        ensures counted { IfOk result (λ n. LinkTransmits (L.known link.old) (L.known link.new) (MadeCalls n)) }
-        ensures part { OnErr result (LinkTransmits (L.known link.old) (L.known link.new)
-            (SendsPartOfFrame self.now.plan self.now.frame)) }
-        ensures cause { HasCause (L.known link.old) (L.known link.new) (IsErr result) }
-        ensures idle { L.idles link.new ≡ L.idles link.old }
-        ensures calls { MakesCalls (λ traffic. traffic.calls) most_fragments (L.known link.old) (L.known link.new) }
+        ensures made { (datagrams : List (List ℕ)) × AreOfFrame self.now.plan self.now.frame datagrams
+            × GroupMakes (sends k datagrams)
+            (G.up group.old) (G.up group.new) (G.known group.old) (G.known group.new) }
+        ensures same_count { length (G.up group.new) ≡ length (G.up group.old) }
         ensures room { length scratch.new ≡ length scratch.old }
     {
         let packet = &self.buffer[..self.len];
         let seq = sequence_number(self.plan, self.frame);
-        send_packet(packet, self.cut, &self.parity, seq, scratch, link)
+        send_packet(packet, self.cut, &self.parity, seq, scratch, k, group);
     }
 
     /// Writes the datagram with this number, from 0, to the front, and gives its length.

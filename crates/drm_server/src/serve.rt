@@ -1,30 +1,31 @@
 //! A schedule to a sink, which is called once for some KiB.
 
-ghost use Rattle.std.specs.Prelude.{◌≡◌, ◌+◌, ◌≤◌, ◌++◌, ℕ, [], length, take, IfOk, OnOk, OnErr, IsErr};
+ghost use Rattle.std.specs.Prelude.{◌≡◌, ◌+◌, ◌<◌, ◌≤◌, ◌++◌, ℕ, [], length, take, IfOk, OnOk, OnErr, IsErr};
 ghost use Rattle.drm_links.specs.Known.{HasCause};
 ghost use Rattle.drm_links.specs.Sink.{OutputsText, IsPrefix};
 ghost use Rattle.dcp_pft.specs.Limits.{most_packet, most_fragments};
+ghost use Rattle.drm_server.specs.Stretch.{frames_in};
 ghost use Rattle.drm_server.specs.Capture.{IsCapture, IsPrefixOfCapture, IsCount};
 ghost use Rattle.drm_server.specs.Gathering.{HasPlace, BytesWait, GathersDatagram, IsPrefixWithDatagram, GathersFrame, IsPrefixOfFrame, WroteFrame};
 
-use crate::Server;
 use crate::loaded::EncodedFrame;
+use crate::{Server, Stretch};
 use drm_links::{Sink, WriteFault, write_all};
 
-/// Writes the datagrams of the frames from frame `first` on, in order, and gives their number. Where there is no frame `first`
-/// nothing is written.
+/// Writes the datagrams of the frames of this stretch, in order, and gives their number.
 pub fn serve_sink<O: Sink>(
     server: &mut Server<'_>,
-    first: u32,
+    stretch: Stretch,
     out: &mut O,
 ) -> Result<u64, WriteFault>
-    ensures whole { OnOk result (OutputsText (O.known out.old) (O.known out.new) (IsCapture server.old.base first)) }
-    ensures count { IfOk result (IsCount server.old.base first) }
-    ensures front { OnErr result (OutputsText (O.known out.old) (O.known out.new) (IsPrefixOfCapture server.old.base first)) }
+    ensures whole { OnOk result (OutputsText (O.known out.old) (O.known out.new) (IsCapture server.old.base stretch)) }
+    ensures count { IfOk result (IsCount server.old.base stretch) }
+    ensures front { OnErr result (OutputsText (O.known out.old) (O.known out.new) (IsPrefixOfCapture server.old.base stretch)) }
+    ensures begun { OnErr result (0 < frames_in stretch server.old.base) }
     ensures cause { HasCause (O.known out.old) (O.known out.new) (IsErr result) }
     ensures schedule { server.new.base ≡ server.old.base }
 {
-    serve(&mut server.loaded, first, &mut server.waiting, out)
+    serve(&mut server.loaded, stretch, &mut server.waiting, out)
 }
 
 /// Writes all datagrams of the frame that is loaded, and gives their number.
@@ -59,18 +60,19 @@ fn write_loaded<O: Sink>(
     Ok(u64::from(count))
 }
 
-// Writes the datagrams of all frames from frame `first` on, by way of this room.
+// Writes the datagrams of all frames of this stretch, by way of this room.
 fn serve<O: Sink>(
     loaded: &mut EncodedFrame<'_>,
-    first: u32,
+    stretch: Stretch,
     scratch: &mut [u8],
     out: &mut O,
 ) -> Result<u64, WriteFault>
     requires carry { loaded.old.plan.carry ≡ loaded.old.base.carry }
     requires room { most_packet loaded.old.base.carry ≤ length scratch.old }
-    ensures whole { OnOk result (OutputsText (O.known out.old) (O.known out.new) (IsCapture loaded.old.base first)) }
-    ensures count { IfOk result (IsCount loaded.old.base first) }
-    ensures front { OnErr result (OutputsText (O.known out.old) (O.known out.new) (IsPrefixOfCapture loaded.old.base first)) }
+    ensures whole { OnOk result (OutputsText (O.known out.old) (O.known out.new) (IsCapture loaded.old.base stretch)) }
+    ensures count { IfOk result (IsCount loaded.old.base stretch) }
+    ensures front { OnErr result (OutputsText (O.known out.old) (O.known out.new) (IsPrefixOfCapture loaded.old.base stretch)) }
+    ensures begun { OnErr result (0 < frames_in stretch loaded.old.base) }
     ensures cause { HasCause (O.known out.old) (O.known out.new) (IsErr result) }
     ensures schedule { loaded.new.base ≡ loaded.old.base }
     ensures carry { loaded.new.plan.carry ≡ loaded.new.base.carry }
@@ -78,8 +80,8 @@ fn serve<O: Sink>(
 {
     let mut waiting = 0;
     let mut written = 0;
-    for n in 0..loaded.frames().saturating_sub(first) {
-        loaded.load(first + n);
+    for n in 0..loaded.frames_in(stretch) {
+        loaded.load(stretch.frame(n));
         waiting = gather_frame(loaded, scratch, waiting, out)?;
         written += u64::from(loaded.fragments());
     }

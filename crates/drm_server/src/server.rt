@@ -1,15 +1,17 @@
 //! The server of a schedule.
 
-ghost use Rattle.std.specs.Prelude.{◌≡◌, ◌<◌, ◌≤◌, length, IfOk, OnOk, OnErr, IsErr};
+ghost use Rattle.std.specs.Prelude.{ℕ, ◌≡◌, ◌+◌, ◌<◌, ◌≤◌, length, IfOk, OnOk, OnErr, IsErr};
 ghost use Rattle.std.specs.Borrow.{sem};
 ghost use Rattle.dcp_pft.specs.Limits.{longest_packet, most_packet, most_fragments};
 ghost use Rattle.drm_timeline.specs.Numbers.{frame_count, packet_size};
 ghost use Rattle.live_streams.specs.Live.{piece_at, live_schedule};
 ghost use Rattle.drm_server.specs.ServerState.{only_at};
+ghost use Rattle.drm_server.specs.Stretch.{first_in, frames_in};
 ghost use Rattle.drm_server.specs.Frames.{IsPacketAt};
 ghost use Rattle.drm_server.specs.Datagrams.{HasDatagrams, HasDatagram, IsDatagramAt};
 ghost use Rattle.drm_server.specs.Lending.{ServerStays};
 
+use crate::Stretch;
 use crate::loaded::EncodedFrame;
 use dcp_pft::{LONGEST_PACKET, most_packet};
 use drm_bits::{NoMemory, zeros};
@@ -74,6 +76,15 @@ impl<'a> Server<'a> {
         ensures within_limit { result ≤ 3000000 }
     {
         self.loaded.frames()
+    }
+
+    /// How many of them are in this stretch.
+    pub fn frames_in(&self, stretch: Stretch) -> u32
+        ensures frames { result ≡ frames_in stretch self.now.base }
+        ensures within { (n : ℕ) → n < result → first_in stretch + n < frame_count self.now.base }
+        ensures within_limit { (n : ℕ) → n < result → first_in stretch + n < 3000000 }
+    {
+        self.loaded.frames_in(stretch)
     }
 
     /// The frame that is loaded.

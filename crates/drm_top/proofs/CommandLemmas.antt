@@ -3,7 +3,7 @@ use Rattle.std.proofs.Common.{◌≡◌, ℕ, ◌⊎◌, inl, inr, Bool, List, t
 use Rattle.drm_links.specs.Known.{Known, RisesWhere, IfBothKnown, IfBoth}
 use Rattle.drm_links.proofs.KnownLemmas.{counts_as}
 use Rattle.drm_links.specs.Dock.{DockContents}
-use Rattle.link_group.specs.Reaching.{NothingSent}
+use Rattle.drm_links.specs.Gathering.{NothingSent}
 use Rattle.cmd_faults.specs.declared.fault.Fault.{Fault}
 use Rattle.cmd_faults.specs.declared.fault.Fault.TheVariants as faults
 use Rattle.cmd_faults.specs.Lines.{fault_line}

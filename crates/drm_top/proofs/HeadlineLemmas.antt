@@ -4,7 +4,7 @@ use Rattle.drm_links.specs.Known.{Known}
 use Rattle.drm_links.specs.Shelf.{Files}
 use Rattle.drm_links.specs.Sink.{Output}
 use Rattle.drm_links.specs.Dock.{DockContents, DockKnownThrough}
-use Rattle.link_group.proofs.OpeningLemmas.{docked_weaker}
+use Rattle.drm_links.proofs.OpeningLemmas.{docked_weaker}
 use Rattle.drm_links.specs.declared.dock.Address.{Address}
 use Rattle.drm_schedule.specs.declared.plan.Plan.{Plan}
 use Rattle.drm_schedule.specs.Valid.{IsSchedule}

@@ -2,7 +2,7 @@
 use Rattle.std.proofs.Common.{◌≡◌, ◌≤◌, ℕ, List, [], ◌∷◌, Option, None, Some, IfSome, sym, subst, arith}
 use Rattle.drm_links.specs.declared.dock.Address.{Address}
 use Rattle.drm_words.specs.declared.request.Request.{Request}
-use Rattle.drm_words.specs.declared.request.Request.TheVariants.{Check, Capacity, Serve, Receive, Count, Air, Exercise, Convert, Gate, Pack, Unpack, Texts}
+use Rattle.drm_words.specs.declared.request.Request.TheVariants.{Check, Capacity, Agree, Serve, Receive, Count, Air, Exercise, Convert, Gate, Pack, Unpack, Texts}
 use Rattle.drm_words.specs.Table.{CommandOptions, IsNumberOr, IsNumberOrNone, IsStretch, IsReading, AreAddressesOrNone, AreAddressesOrEmpty, HasTextNames}
 use Rattle.drm_words.specs.Line.{IsLine}
 use Rattle.recv_reading.specs.declared.options.ReceiveOptions.{ReceiveOptions}
@@ -11,7 +11,7 @@ use Rattle.dcp_pft.specs.declared.carry.Carry.TheVariants.{Plain, Pft}
 use Rattle.dcp_pft.specs.Carrying.{CarryFits}
 use Rattle.cli_syntax.specs.Carries.{IsCarry}
 use Rattle.drm_links.specs.Dock.{AreDifferent}
-use Rattle.link_group.specs.Listed.{AreListed}
+use Rattle.drm_links.specs.Listed.{AreListed}
 use Rattle.recv_reading.specs.Options.{AreInRange, IsWithinLimits}
 use Rattle.recv_reading.specs.Values.{receive_options, packet_range}
 use Rattle.drm_top.specs.Words.{IsRequestInRange}
@@ -78,8 +78,9 @@ in_stretch options window reach first frames packets =
 pub in_range : (request : Request) (words : List (List ℕ)) → IsLine words request → HasTextNames request → IsRequestInRange request
 in_range (Check name) words line text = text
 in_range (Capacity name) words line text = text
-in_range (Serve name to pace from live) words line text =
-    (text, (within 0 0 1000000 from _ (omega arith) (omega arith) line.asks.5).1, different _ to line.asks.3)
+in_range (Agree name other) words line text = text
+in_range (Serve name to pace from until live) words line text =
+    (text, different _ to line.asks.3)
 in_range (Receive (Some addresses) window reach first frames idle limit) words line text =
     (reads words (Some addresses) window reach first frames idle limit line, let asks = line.asks in listed _ addresses asks.1)
 in_range (Receive None window reach first frames idle limit) words line text = reads words None window reach first frames idle limit line

@@ -6,11 +6,11 @@ use Rattle.drm_links.specs.declared.dock.Address.{Address}
 use Rattle.cmd_show.specs.Fac.{FacRun}
 use Rattle.cmd_show.specs.Show.{ShowRun}
 use Rattle.cmd_serve.specs.Check.{CheckRun}
-use Rattle.cmd_serve.specs.Serve.{ServeRun}
 use Rattle.cmd_capacity.specs.Run.{CapacityRun}
-use Rattle.cmd_serve.specs.Send.{SendRun}
+use Rattle.drm_server.specs.declared.stretch.Stretch.{Stretch}
+use Rattle.cmd_agree.specs.Run.{AgreeRun}
 use Rattle.cmd_serve.specs.Live.{LiveServeRun, LiveSendRun}
-use Rattle.cmd_load.specs.Schedule.{schedule_named}
+use Rattle.live_server.specs.Loading.{IsFed}
 use Rattle.drm_schedule.specs.declared.live.Live.{Live}
 use Rattle.drm_schedule.specs.Live.{is_any}
 use Rattle.cmd_receive.specs.Receive.{ReceiveRun}
@@ -29,7 +29,7 @@ use Rattle.cmd_faults.specs.declared.fault.Fault.TheVariants.{NoMemory}
 use Rattle.drm_top.specs.Outside.{Outside, IsStill}
 use Rattle.recv_reading.specs.Values.{receive_options, packet_range}
 use Rattle.drm_words.specs.declared.request.Request.{Request}
-use Rattle.drm_words.specs.declared.request.Request.TheVariants.{Fac, Check, Capacity, Serve, Receive, Count, Air, Show, Exercise, Convert, Gate, Pack, Unpack, Texts}
+use Rattle.drm_words.specs.declared.request.Request.TheVariants.{Fac, Check, Capacity, Agree, Serve, Receive, Count, Air, Show, Exercise, Convert, Gate, Pack, Unpack, Texts}
 
 -- a run that tells of no frames
 abbrev pub EndsWhole : Result Bool Fault → (Result (Unit {0}) Fault → Type 0) → Type 0
@@ -39,19 +39,17 @@ EndsWhole ending P = (done : Result (Unit {0}) Fault) × (ending ≡ whole_of do
 abbrev pub IsQuiet : {E : Type 0} → Bool → E → E → Type 0
 IsQuiet err_ok err err' = (err_ok ≡ true) × (err' ≡ err)
 
--- A run of `serve` to out: where no stream is live input is left alone, and else the live ones take their bytes from it.
-abbrev pub ServesOut : {S I O E D : Type 0} → Bool → List ℕ → ℕ → Live → Result Bool Fault → Outside S I O E D → Type 0
-ServesOut false name from live ending o =
-    EndsWhole ending (λ done. ServeRun name from done o.shelf.known o.shelf.before o.shelf.after o.out.known o.out.before o.out.after) × IsStill o.input
-ServesOut true name from live ending o =
-    LiveServeRun name from live ending o.shelf.known o.shelf.before o.shelf.after o.input.known o.input.before o.input.after o.out.known o.out.before o.out.after
+-- A run of `serve` to out: where no stream is live input is left alone.
+abbrev pub ServesOut : {S I O E D : Type 0} → List ℕ → Stretch → Live → Result Bool Fault → Outside S I O E D → Type 0
+ServesOut name stretch live ending o =
+    LiveServeRun name stretch live ending o.shelf.known o.shelf.before o.shelf.after o.input.known o.input.before o.input.after o.out.known o.out.before o.out.after
+    × IsFed live o.input.before o.input.after ending
 
 -- and over links
-abbrev pub ServesOver : {S I O E D : Type 0} → Bool → List ℕ → List Address → ℕ → ℕ → Live → Result Bool Fault → Outside S I O E D → Type 0
-ServesOver false name addresses pace from live ending o =
-    EndsWhole ending (λ done. SendRun (schedule_named name) addresses pace from done o.shelf.known o.shelf.before o.shelf.after o.dock.known o.dock.before o.dock.after) × IsStill o.input
-ServesOver true name addresses pace from live ending o =
-    LiveSendRun name addresses pace from live ending o.shelf.known o.shelf.before o.shelf.after o.input.known o.input.before o.input.after o.dock.known o.dock.before o.dock.after
+abbrev pub ServesOver : {S I O E D : Type 0} → List ℕ → List Address → ℕ → Stretch → Live → Result Bool Fault → Outside S I O E D → Type 0
+ServesOver name addresses pace stretch live ending o =
+    LiveSendRun name addresses pace stretch live ending o.shelf.known o.shelf.before o.shelf.after o.input.known o.input.before o.input.after o.dock.known o.dock.before o.dock.after
+    × IsFed live o.input.before o.input.after ending
 
 -- A run of the command that this asks for, with this ending: what it doesn't use stays as it is. Where `err_ok` doesn't hold, err failed.
 abbrev pub CommandRun : {S I O E D : Type 0} → Request → Result Bool Fault → Bool → Outside S I O E D → Type 0
@@ -61,10 +59,12 @@ CommandRun (Check name) ending err_ok o =
     EndsWhole ending (λ done. CheckRun name done o.shelf.known o.shelf.before o.shelf.after o.out.known o.out.before o.out.after) × IsStill o.input × IsStill o.dock × IsQuiet err_ok o.err.before o.err.after
 CommandRun (Capacity name) ending err_ok o =
     CapacityRun name ending o.shelf.known o.shelf.before o.shelf.after o.out.known o.out.before o.out.after × IsStill o.input × IsStill o.dock × IsQuiet err_ok o.err.before o.err.after
-CommandRun (Serve name [] pace from live) ending err_ok o =
-    ServesOut (is_any live) name from live ending o × IsStill o.dock × IsQuiet err_ok o.err.before o.err.after
-CommandRun (Serve name (at ∷ others) pace from live) ending err_ok o =
-    ServesOver (is_any live) name (at ∷ others) pace from live ending o × IsStill o.out × IsQuiet err_ok o.err.before o.err.after
+CommandRun (Agree name other) ending err_ok o =
+    EndsWhole ending (λ done. AgreeRun name other done o.shelf.known o.shelf.before o.shelf.after o.out.known o.out.before o.out.after) × IsStill o.input × IsStill o.dock × IsQuiet err_ok o.err.before o.err.after
+CommandRun (Serve name [] pace from until live) ending err_ok o =
+    ServesOut name (record { from = from; until = until }) live ending o × IsStill o.dock × IsQuiet err_ok o.err.before o.err.after
+CommandRun (Serve name (at ∷ others) pace from until live) ending err_ok o =
+    ServesOver name (at ∷ others) pace (record { from = from; until = until }) live ending o × IsStill o.out × IsQuiet err_ok o.err.before o.err.after
 CommandRun (Receive (Some addresses) window reach first frames idle limit) ending err_ok o =
     ReceiveRun (receive_options window reach first frames idle limit) addresses ending o.dock.known o.dock.before o.dock.after o.out.known o.out.before o.out.after × IsStill o.shelf × IsStill o.input × IsQuiet err_ok o.err.before o.err.after
 CommandRun (Receive None window reach first frames idle limit) ending err_ok o =
@@ -108,7 +108,7 @@ RunEnds ending err_ok code known err err' = (code ≡ report_status ending) × R
 
 -- a command that opens a link
 abbrev pub OpensALink : Request → Type 0
-OpensALink (Serve name (at ∷ others) pace from live) = Unit {0}
+OpensALink (Serve name (at ∷ others) pace from until live) = Unit {0}
 OpensALink (Receive (Some addresses) window reach first frames idle limit) = Unit {0}
 OpensALink (Count (Some at) window reach first frames idle limit) = Unit {0}
 OpensALink (Gate from to carry window reach first frames idle limit) = Unit {0}
@@ -119,6 +119,7 @@ OpensALink _ = ⊥
 abbrev pub WritesReport : Request → Type 0
 WritesReport Fac = ⊥
 WritesReport (Check name) = ⊥
-WritesReport (Serve name to pace from live) = IsTrue (is_any live)
+WritesReport (Agree name other) = ⊥
+WritesReport (Serve name to pace from until live) = IsTrue (is_any live)
 WritesReport (Pack pid length) = ⊥
 WritesReport _ = Unit {0}

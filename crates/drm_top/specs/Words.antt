@@ -3,9 +3,9 @@ use Rattle.std.specs.Prelude.{ℕ, ◌≤◌, ◌<◌, List, Option, None, Some,
 use Rattle.dcp_pft.specs.Carrying.{CarryFits}
 use Rattle.drm_words.specs.Line.{IsLine}
 use Rattle.drm_words.specs.declared.request.Request.{Request}
-use Rattle.drm_words.specs.declared.request.Request.TheVariants.{Check, Capacity, Serve, Receive, Count, Air, Exercise, Convert, Gate, Pack, Unpack, Texts}
+use Rattle.drm_words.specs.declared.request.Request.TheVariants.{Check, Capacity, Agree, Serve, Receive, Count, Air, Exercise, Convert, Gate, Pack, Unpack, Texts}
 use Rattle.drm_links.specs.Dock.{AreDifferent}
-use Rattle.link_group.specs.Listed.{AreListed}
+use Rattle.drm_links.specs.Listed.{AreListed}
 use Rattle.recv_reading.specs.Options.{AreInRange, IsWithinLimits}
 use Rattle.recv_reading.specs.Values.{receive_options, packet_range}
 
@@ -21,7 +21,8 @@ AsksForNothing words = (request : Request) → AsksFor request words → ⊥
 abbrev pub IsRequestInRange : Request → Type 0
 IsRequestInRange (Check name) = IsUtf8 name
 IsRequestInRange (Capacity name) = IsUtf8 name
-IsRequestInRange (Serve name to pace from live) = IsUtf8 name × (from ≤ 1000000) × AreDifferent to
+IsRequestInRange (Agree name other) = IsUtf8 name × IsUtf8 other
+IsRequestInRange (Serve name to pace from until live) = IsUtf8 name × AreDifferent to
 IsRequestInRange (Receive (Some addresses) window reach first frames idle limit) = AreInRange (receive_options window reach first frames idle limit) × AreListed addresses
 IsRequestInRange (Receive None window reach first frames idle limit) = AreInRange (receive_options window reach first frames idle limit)
 IsRequestInRange (Count address window reach first frames idle limit) = AreInRange (receive_options window reach first frames idle limit)

@@ -5,7 +5,7 @@ ghost use Rattle.drm_links.specs.Known.{HasCause, IfBothKnown};
 ghost use Rattle.cmd_faults.specs.Causes.{OneFailed, OpeningFailed};
 ghost use Rattle.cmd_faults.specs.Lines.{fault_line};
 ghost use Rattle.cmd_faults.specs.Fault.{WritesLine, whole_of, clean_status};
-ghost use Rattle.link_group.specs.Reaching.{NothingSent};
+ghost use Rattle.drm_links.specs.Gathering.{NothingSent};
 ghost use Rattle.drm_top.specs.Command.{CommandRun, RunsCommand, RunEnds, IsQuiet, IsOutsideUntouched, OpensALink, WritesReport};
 ghost use Rattle.drm_top.specs.Headline.{HeadlineOfRun};
 ghost use Rattle.drm_top.specs.Outside.{outside};
@@ -13,6 +13,7 @@ ghost use Rattle.drm_top.specs.Words.{AsksFor, AsksForNothing, IsRequestInRange}
 ghost use Rattle.drm_words.specs.declared.request.Request.{Request};
 
 use crate::words::{options_of, range_of, text};
+use cmd_agree::agree;
 use cmd_air::air;
 use cmd_capacity::capacity;
 use cmd_convert::convert;
@@ -22,10 +23,11 @@ use cmd_faults::Fault;
 use cmd_gate::gate;
 use cmd_pack::pack;
 use cmd_receive::{receive, receive_from_capture};
-use cmd_serve::{check, send, send_live, serve, serve_live};
+use cmd_serve::{check, send, serve};
 use cmd_show::{fac, show};
 use cmd_unpack::{texts, unpack};
 use drm_links::{Dock, Link, Shelf, Sink, Source, Status};
+use drm_server::Stretch;
 use drm_words::{Request, WordsFault, read_words};
 use std::alloc::Global;
 use std::thread::Threads;
@@ -34,10 +36,10 @@ use std::thread::Threads;
 ///
 /// `fac` reads the nine bytes of a FAC from `input` and writes its line to `out`. `check` reads a schedule and its files
 /// from `shelf` and writes its canonical text to `out`; `capacity` reads them too and writes what each configuration uses of its
-/// channel; `serve` reads them too and writes the datagrams of the schedule to
-/// `out` as a capture, or sends them over links that it opens in `dock`; its live streams take their bytes from `input`. `receive` opens links in `dock`, or reads a capture
-/// from `input`, and writes their reports to `out`: that of one link or of a capture as it is read, those of several links,
-/// which are read side by side, when all have ended. `count` receives as `receive` does from one link or from a capture, and writes
+/// channel; `agree` reads two schedules and writes how many super frames have the same datagrams in both. `serve` writes the datagrams
+/// of a schedule, or of some of its super frames, to `out` as a capture, or sends them over links that it opens in `dock`; its live
+/// streams take their bytes from `input`. `receive` opens links in `dock`, or reads a capture from `input`, and writes their reports
+/// to `out`: that of one link or of a capture as it is read, those of several links, which are read side by side, when all have ended. `count` receives as `receive` does from one link or from a capture, and writes
 /// one line of what came. `air` does the same in memory with a schedule and a script from
 /// `shelf`, `exercise` with those that it makes itself; their reports come at the end. `gate` opens links in `dock`, and
 /// sends over all but the first what comes over that one. Of a capture in `input` `show` writes what is in it, `convert` another
@@ -192,24 +194,26 @@ where
         Request::Fac => whole(fac(input, out)),
         Request::Check { name } => whole(check(alloc, text(name), shelf, out)),
         Request::Capacity { name } => capacity(alloc, text(name), shelf, out),
+        Request::Agree { name, other } => {
+            whole(agree(alloc, text(name), text(other), shelf, out))
+        }
         Request::Serve {
             name,
             to,
             pace,
             from,
+            until,
             live,
         } => {
             let name = text(name);
-            if live.any() {
-                if to.is_empty() {
-                    serve_live(alloc, name, *from, live, shelf, input, out)
-                } else {
-                    send_live(alloc, name, to, *pace, *from, live, shelf, input, dock)
-                }
-            } else if to.is_empty() {
-                whole(serve(alloc, name, *from, shelf, out))
+            let stretch = Stretch {
+                from: *from,
+                until: *until,
+            };
+            if to.is_empty() {
+                serve(alloc, name, stretch, live, shelf, input, out)
             } else {
-                whole(send(alloc, name, to, *pace, *from, shelf, dock))
+                send(alloc, name, to, *pace, stretch, live, shelf, input, dock)
             }
         }
         Request::Receive {

@@ -11,7 +11,7 @@ use Rattle.drm_words.specs.declared.options.ReadingOptions.{ReadingOptions}
 use Rattle.cli_syntax.specs.Reading.{within}
 use Rattle.cli_syntax.specs.Addressing.{address_of, addresses_of}
 use Rattle.drm_words.specs.Table.{CommandOptions, value_of, IsOneOf, AreOf, IsNumberOr, IsNumberOrNone, AreAddressesOrEmpty, AreStreamsOrEmpty, AreAddressesOrNone, IsAddressOrNone, IsStretch, IsReading}
-use Rattle.drm_words.specs.Asking.{is_one_of, are_of, number_or, number_or_none, addresses_or_empty, live_or_empty, addresses_or_none, address_or_none, with_options, window_of, reach_of, first_of, frames_of, packets_of, reading_of, idle_of, limit_of, pace_of, from_of, to_of, live_option}
+use Rattle.drm_words.specs.Asking.{is_one_of, are_of, number_or, number_or_none, addresses_or_empty, live_or_empty, addresses_or_none, address_or_none, with_options, window_of, reach_of, first_of, frames_of, packets_of, reading_of, idle_of, limit_of, pace_of, from_of, until_of, to_of, live_option}
 use Rattle.cli_syntax.proofs.OptionLemmas.{mapped, stepped}
 use Rattle.cli_syntax.proofs.NumberLemmas.{within_fits, within_is}
 use Rattle.cli_syntax.proofs.AddressLemmas.{address_fits, address_is, addresses_fit, addresses_are}
@@ -224,6 +224,14 @@ module _ (options : CommandOptions) where
   pub from_is : (n : ℕ) → IsNumberOr 0 0 1000000 (value_of (codes "from") options) n → from_of options ≡ Some n
   unfolding from_of
   from_is n h = number_or_is 0 0 1000000 (value_of (codes "from") options) n h
+
+  pub until_fits : (n : Option ℕ) → until_of options ≡ Some n → IsNumberOrNone 0 1000000 (value_of (codes "until") options) n
+  unfolding until_of
+  until_fits n e = number_or_none_fits 0 1000000 (value_of (codes "until") options) n e
+
+  pub until_is : (n : Option ℕ) → IsNumberOrNone 0 1000000 (value_of (codes "until") options) n → until_of options ≡ Some n
+  unfolding until_of
+  until_is n h = number_or_none_is 0 1000000 (value_of (codes "until") options) n h
 
   pub to_fits : (at : List Address) → to_of options ≡ Some at → AreAddressesOrEmpty (value_of (codes "to") options) at
   unfolding to_of

@@ -10,18 +10,18 @@ use Rattle.drm_links.specs.declared.dock.Address.{Address}
 use Rattle.drm_schedule.specs.declared.live.Live.{Live}
 use Rattle.dcp_pft.specs.declared.carry.Carry.{Carry}
 use Rattle.drm_words.specs.declared.request.Request.{Request}
-use Rattle.drm_words.specs.declared.request.Request.TheVariants.{Fac, Check, Capacity, Serve, Receive, Count, Air, Show, Convert, Exercise, Gate, Pack, Unpack, Texts}
+use Rattle.drm_words.specs.declared.request.Request.TheVariants.{Fac, Check, Capacity, Agree, Serve, Receive, Count, Air, Show, Convert, Exercise, Gate, Pack, Unpack, Texts}
 use Rattle.cli_syntax.specs.Reading.{within}
 use Rattle.cli_syntax.specs.Addressing.{address_of, addresses_of, carry_of}
 use Rattle.drm_words.specs.declared.options.PacketOptions.{PacketOptions}
 use Rattle.drm_words.specs.declared.options.ReadingOptions.{ReadingOptions}
 use Rattle.drm_words.specs.Table.{CommandOptions, AreOf, IsRequest, serve_names, packet_names, reading_names}
-use Rattle.drm_words.specs.Asking.{addresses_or_none, address_or_none, window_of, packets_of, reading_of, pace_of, from_of, to_of, live_option, is_bare, bare_of, check_of, capacity_of, serve_asked, serve_of, receive_with, receive_of, count_with, count_of, air_with, air_of, convert_with, convert_of, exercise_with, exercise_of, gate_with, gate_of, pack_with, pack_of, unpack_with, unpack_of, texts_with, texts_of, request_of, asked_packets, asked_reading}
+use Rattle.drm_words.specs.Asking.{addresses_or_none, address_or_none, window_of, packets_of, reading_of, pace_of, from_of, until_of, to_of, live_option, is_bare, bare_of, check_of, capacity_of, agree_of, serve_asked, serve_of, receive_with, receive_of, count_with, count_of, air_with, air_of, convert_with, convert_of, exercise_with, exercise_of, gate_with, gate_of, pack_with, pack_of, unpack_with, unpack_of, texts_with, texts_of, request_of, asked_packets, asked_reading}
 use Rattle.cli_syntax.proofs.OptionLemmas.{stepped}
 use Rattle.cli_syntax.proofs.NumberLemmas.{within_fits, within_is}
 use Rattle.cli_syntax.proofs.CarryLemmas.{carry_fits, carry_is}
 use Rattle.cli_syntax.proofs.AddressLemmas.{address_fits, address_is, addresses_fit, addresses_are}
-use Rattle.drm_words.proofs.OptionsLemmas.{addresses_or_none_fit, addresses_or_none_are, address_or_none_fits, address_or_none_is, with_fits, with_is, none_of, window_fits, window_is, stretch_fits, stretch_is, reading_fits, reading_is, pace_fits, pace_is, from_fits, from_is, to_fits, to_is, live_option_fits, live_option_is}
+use Rattle.drm_words.proofs.OptionsLemmas.{addresses_or_none_fit, addresses_or_none_are, address_or_none_fits, address_or_none_is, with_fits, with_is, none_of, window_fits, window_is, stretch_fits, stretch_is, reading_fits, reading_is, pace_fits, pace_is, from_fits, from_is, until_fits, until_is, to_fits, to_is, live_option_fits, live_option_is}
 
 bare_fits : (asked : Request) (texts : List (List ℕ)) (options : CommandOptions) (r : Request) → bare_of asked texts options ≡ Some r → (texts ≡ []) × (options ≡ []) × (asked ≡ r)
 bare_fits asked texts options r e =
@@ -57,6 +57,15 @@ capacity_fits (name ∷ []) options r e =
     subst (λ (x : Request). IsRequest x (codes "capacity") (name ∷ []) options) (same_Some (Capacity name) r w.1) (refl, refl, w.0)
 capacity_fits (name ∷ other ∷ more) options r e = absurd cc
 
+agree_fits : (texts : List (List ℕ)) (options : CommandOptions) (r : Request) → agree_of texts options ≡ Some r → IsRequest r (codes "agree") texts options
+unfolding agree_of
+agree_fits [] options r e = absurd cc
+agree_fits (name ∷ []) options r e = absurd cc
+agree_fits (name ∷ other ∷ []) options r e =
+    let w = with_fits [] options (Some (Agree name other)) r e in
+    subst (λ (x : Request). IsRequest x (codes "agree") (name ∷ other ∷ []) options) (same_Some (Agree name other) r w.1) (refl, refl, w.0)
+agree_fits (name ∷ other ∷ third ∷ more) options r e = absurd cc
+
 serve_fits : (texts : List (List ℕ)) (options : CommandOptions) (r : Request) → serve_of texts options ≡ Some r → IsRequest r (codes "serve") texts options
 unfolding serve_of
 serve_fits [] options r e = absurd cc
@@ -66,8 +75,17 @@ serve_fits (name ∷ []) options r e =
     let live = stepped (live_option options) _ r to.rest in
     let pace = stepped (pace_of options) _ r live.rest in
     let from = stepped (from_of options) _ r pace.rest in
-    subst (λ (x : Request). IsRequest x (codes "serve") (name ∷ []) options) (same_Some (Serve name to.value pace.value from.value live.value) r from.rest)
-    (refl, refl, w.0, to_fits options to.value to.is, pace_fits options pace.value pace.is, from_fits options from.value from.is, live_option_fits options live.value live.is)
+    let until = stepped (until_of options) _ r from.rest in
+    subst (λ (x : Request). IsRequest x (codes "serve") (name ∷ []) options) (same_Some (Serve name to.value pace.value from.value until.value live.value) r until.rest) (
+      refl,
+      refl,
+      w.0,
+      to_fits options to.value to.is,
+      pace_fits options pace.value pace.is,
+      from_fits options from.value from.is,
+      until_fits options until.value until.is,
+      live_option_fits options live.value live.is,
+    )
 serve_fits (name ∷ other ∷ more) options r e = absurd cc
 
 receive_fits : (texts : List (List ℕ)) (options : CommandOptions) (r : Request) → receive_of texts options ≡ Some r → IsRequest r (codes "receive") texts options
@@ -217,6 +235,7 @@ request_fits command texts options r e =
     chosen command (codes "fac") _ _ _ r P refl (λ same f. at (codes "fac") same (fac_fits texts options r f)) (λ e.
     chosen command (codes "check") _ _ _ r P refl (λ same f. at (codes "check") same (check_fits texts options r f)) (λ e.
     chosen command (codes "capacity") _ _ _ r P refl (λ same f. at (codes "capacity") same (capacity_fits texts options r f)) (λ e.
+    chosen command (codes "agree") _ _ _ r P refl (λ same f. at (codes "agree") same (agree_fits texts options r f)) (λ e.
     chosen command (codes "serve") _ _ _ r P refl (λ same f. at (codes "serve") same (serve_fits texts options r f)) (λ e.
     chosen command (codes "receive") _ _ _ r P refl (λ same f. at (codes "receive") same (receive_fits texts options r f)) (λ e.
     chosen command (codes "count") _ _ _ r P refl (λ same f. at (codes "count") same (count_fits texts options r f)) (λ e.
@@ -228,7 +247,7 @@ request_fits command texts options r e =
     chosen command (codes "pack") _ _ _ r P refl (λ same f. at (codes "pack") same (pack_fits texts options r f)) (λ e.
     chosen command (codes "unpack") _ _ _ r P refl (λ same f. at (codes "unpack") same (unpack_fits texts options r f)) (λ e.
     chosen command (codes "texts") _ _ _ r P refl (λ same f. at (codes "texts") same (texts_fits texts options r f)) (λ e. absurd cc)
-    e) e) e) e) e) e) e) e) e) e) e) e) e) e
+    e) e) e) e) e) e) e) e) e) e) e) e) e) e) e
 
 bare_is : (r : Request) (texts : List (List ℕ)) (options : CommandOptions) → texts ≡ [] → options ≡ [] → bare_of r texts options ≡ Some r
 bare_is r texts options e f = rw (e, f) refl
@@ -241,11 +260,16 @@ capacity_is : (name : List ℕ) (texts : List (List ℕ)) (options : CommandOpti
 unfolding capacity_of
 capacity_is name texts options h = rw h.1 (with_is [] options (Some (Capacity name)) h.2)
 
-serve_is : (name : List ℕ) (to : List Address) (pace from : ℕ) (live : Live) (texts : List (List ℕ)) (options : CommandOptions) → IsRequest (Serve name to pace from live) (codes "serve") texts options
-    → serve_of texts options ≡ Some (Serve name to pace from live)
+agree_is : (name other : List ℕ) (texts : List (List ℕ)) (options : CommandOptions) → IsRequest (Agree name other) (codes "agree") texts options → agree_of texts options ≡ Some (Agree name other)
+unfolding agree_of
+agree_is name other texts options h = rw h.1 (with_is [] options (Some (Agree name other)) h.2)
+
+serve_is : (name : List ℕ) (to : List Address) (pace from : ℕ) (until : Option ℕ) (live : Live) (texts : List (List ℕ)) (options : CommandOptions)
+    → IsRequest (Serve name to pace from until live) (codes "serve") texts options → serve_of texts options ≡ Some (Serve name to pace from until live)
 unfolding serve_of
-serve_is name to pace from live texts options h =
-    rw h.1 (with_is serve_names options (serve_asked name options) h.2 ∙ rw (to_is options to h.3, live_option_is options live h.6, pace_is options pace h.4, from_is options from h.5) refl)
+serve_is name to pace from until live texts options h =
+    rw h.1 (with_is serve_names options (serve_asked name options) h.2
+    ∙ rw (to_is options to h.3, live_option_is options live h.7, pace_is options pace h.4, from_is options from h.5, until_is options until h.6) refl)
 
 receive_is : (addresses : Option (List Address)) (window reach : ℕ) (first frames : Option ℕ) (idle limit : ℕ) (texts : List (List ℕ)) (options : CommandOptions)
     → IsRequest (Receive addresses window reach first frames idle limit) (codes "receive") texts options → receive_of texts options ≡ Some (Receive addresses window reach first frames idle limit)
@@ -304,7 +328,9 @@ unfolding request_of
 request_is Fac command texts options h = rw h.0 (bare_is Fac texts options h.1 (none_of options h.2))
 request_is (Check name) command texts options h = rw h.0 (check_is name texts options (refl, h.1, h.2))
 request_is (Capacity name) command texts options h = rw h.0 (capacity_is name texts options (refl, h.1, h.2))
-request_is (Serve name to pace from live) command texts options h = rw h.0 (serve_is name to pace from live texts options (refl, h.1, h.2, h.3, h.4, h.5, h.6))
+request_is (Agree name other) command texts options h = rw h.0 (agree_is name other texts options (refl, h.1, h.2))
+request_is (Serve name to pace from until live) command texts options h =
+    rw h.0 (serve_is name to pace from until live texts options (refl, h.1, h.2, h.3, h.4, h.5, h.6, h.7))
 request_is (Receive addresses window reach first frames idle limit) command texts options h =
     rw h.0 (receive_is addresses window reach first frames idle limit texts options (refl, h.1, h.2, h.3))
 request_is (Count address window reach first frames idle limit) command texts options h =

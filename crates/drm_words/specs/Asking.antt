@@ -3,7 +3,7 @@ use Rattle.std.specs.Prelude.{ℕ, ◌==◌, ◌&&◌, Bool, true, false, ◌||�
 use Rattle.std.specs.Str.{bytes_eq}
 use Rattle.drm_links.specs.declared.dock.Address.{Address}
 use Rattle.drm_words.specs.declared.request.Request.{Request}
-use Rattle.drm_words.specs.declared.request.Request.TheVariants.{Fac, Check, Capacity, Serve, Receive, Count, Air, Show, Convert, Exercise, Gate, Pack, Unpack, Texts}
+use Rattle.drm_words.specs.declared.request.Request.TheVariants.{Fac, Check, Capacity, Agree, Serve, Receive, Count, Air, Show, Convert, Exercise, Gate, Pack, Unpack, Texts}
 use Rattle.cli_syntax.specs.Reading.{within}
 use Rattle.cli_syntax.specs.Addressing.{◌>>=◌, address_of, addresses_of, carry_of}
 use Rattle.drm_words.specs.declared.options.PacketOptions.{PacketOptions}
@@ -82,6 +82,9 @@ pace_of options = number_or 0 0 10000 (value_of (codes "pace") options)
 unfoldable pub from_of : CommandOptions → Option ℕ
 from_of options = number_or 0 0 1000000 (value_of (codes "from") options)
 
+unfoldable pub until_of : CommandOptions → Option (Option ℕ)
+until_of options = number_or_none 0 1000000 (value_of (codes "until") options)
+
 unfoldable pub to_of : CommandOptions → Option (List Address)
 to_of options = addresses_or_empty (value_of (codes "to") options)
 
@@ -120,11 +123,16 @@ unfoldable pub capacity_of : List (List ℕ) → CommandOptions → Option Reque
 capacity_of (name ∷ []) options = with_options [] options (Some (Capacity name))
 capacity_of _ options = None
 
+unfoldable pub agree_of : List (List ℕ) → CommandOptions → Option Request
+agree_of (name ∷ other ∷ []) options = with_options [] options (Some (Agree name other))
+agree_of _ options = None
+
 abbrev pub serve_with : List ℕ → List Address → Live → CommandOptions → Option Request
 serve_with name to live options = do
   pace ← pace_of options
   from ← from_of options
-  Some (Serve name to pace from live)
+  until ← until_of options
+  Some (Serve name to pace from until live)
 
 abbrev pub serve_asked : List ℕ → CommandOptions → Option Request
 serve_asked name options = do
@@ -226,6 +234,7 @@ request_of command texts options =
     if bytes_eq command (codes "fac") then bare_of Fac texts options
     else if bytes_eq command (codes "check") then check_of texts options
     else if bytes_eq command (codes "capacity") then capacity_of texts options
+    else if bytes_eq command (codes "agree") then agree_of texts options
     else if bytes_eq command (codes "serve") then serve_of texts options
     else if bytes_eq command (codes "receive") then receive_of texts options
     else if bytes_eq command (codes "count") then count_of texts options

@@ -3,7 +3,7 @@ use Rattle.std.specs.Prelude.{ℕ, ◌≡◌, ◌⊎◌, List, [], ◌∷◌, �
 use Rattle.std.specs.Str.{bytes_eq}
 use Rattle.drm_links.specs.declared.dock.Address.{Address}
 use Rattle.drm_words.specs.declared.request.Request.{Request}
-use Rattle.drm_words.specs.declared.request.Request.TheVariants.{Fac, Check, Capacity, Serve, Receive, Count, Air, Show, Convert, Exercise, Gate, Pack, Unpack, Texts}
+use Rattle.drm_words.specs.declared.request.Request.TheVariants.{Fac, Check, Capacity, Agree, Serve, Receive, Count, Air, Show, Convert, Exercise, Gate, Pack, Unpack, Texts}
 use Rattle.cli_syntax.specs.Numbers.{IsNumberWithin}
 use Rattle.cli_syntax.specs.Addresses.{IsAddress, AreAddresses}
 use Rattle.cli_syntax.specs.Carries.{IsCarry}
@@ -61,10 +61,10 @@ IsAddressOrNone [] address = address ≡ None
 IsAddressOrNone (text ∷ []) address = (at : Address) × (address ≡ Some at) × IsAddress text at
 IsAddressOrNone _ address = ⊥
 
--- [--to ADDRS] [--pace MS] [--from N] [--live LIST]: where datagrams go, how fast, of which super frames, and which streams take
--- their bytes from input
+-- [--to ADDRS] [--pace MS] [--from N] [--until M] [--live LIST]: where datagrams go, how fast, of which super frames, and which
+-- streams take their bytes from input
 abbrev pub serve_names : List (List ℕ)
-serve_names = codes "to" ∷ codes "pace" ∷ codes "from" ∷ codes "live" ∷ []
+serve_names = codes "to" ∷ codes "pace" ∷ codes "from" ∷ codes "until" ∷ codes "live" ∷ []
 
 -- [--window W] [--reach A] [--first N] [--frames N]: which packets are read, how far ahead, and how many frames of them
 abbrev pub packet_names : List (List ℕ)
@@ -94,12 +94,15 @@ IsRequest Fac command texts options = (command ≡ codes "fac") × (texts ≡ []
 IsRequest (Check name) command texts options = (command ≡ codes "check") × (texts ≡ name ∷ []) × AreOf [] options
 -- capacity NAME
 IsRequest (Capacity name) command texts options = (command ≡ codes "capacity") × (texts ≡ name ∷ []) × AreOf [] options
--- serve NAME [--to ADDRS] [--pace MS] [--from N] [--live LIST]
-IsRequest (Serve name to pace from live) command texts options =
+-- agree NAME OTHER
+IsRequest (Agree name other) command texts options = (command ≡ codes "agree") × (texts ≡ name ∷ other ∷ []) × AreOf [] options
+-- serve NAME [--to ADDRS] [--pace MS] [--from N] [--until M] [--live LIST]
+IsRequest (Serve name to pace from until live) command texts options =
     (command ≡ codes "serve") × (texts ≡ name ∷ []) × AreOf serve_names options
     × AreAddressesOrEmpty (value_of (codes "to") options) to
     × IsNumberOr 0 0 10000 (value_of (codes "pace") options) pace
     × IsNumberOr 0 0 1000000 (value_of (codes "from") options) from
+    × IsNumberOrNone 0 1000000 (value_of (codes "until") options) until
     × AreStreamsOrEmpty (value_of (codes "live") options) live
 -- receive [ADDRS] [--window W] [--reach A] [--first N] [--frames N] [--idle K] [--limit L]
 IsRequest (Receive addresses window reach first frames idle limit) command texts options =
@@ -145,6 +148,7 @@ IsRequest (Texts stream window reach first frames) command texts options =
 abbrev pub HasTextNames : Request → Type 0
 HasTextNames (Check name) = IsUtf8 name
 HasTextNames (Capacity name) = IsUtf8 name
-HasTextNames (Serve name to pace from live) = IsUtf8 name
+HasTextNames (Agree name other) = IsUtf8 name × IsUtf8 other
+HasTextNames (Serve name to pace from until live) = IsUtf8 name
 HasTextNames (Air name script window) = IsUtf8 name × IsUtf8 script
 HasTextNames _ = Unit {0}

@@ -9,7 +9,7 @@ ghost use Rattle.drm_words.specs.Table.{HasTextNames};
 use crate::packets::{messages, pack, unpack};
 use crate::receiving::{convert, count, gate, receive};
 use crate::request::Request;
-use crate::sending::{air, capacity, check, exercise, serve};
+use crate::sending::{agree, air, capacity, check, exercise, serve};
 use cli_syntax::{Named, WordsFault};
 use std::alloc::Global;
 
@@ -48,6 +48,7 @@ pub(crate) fn request(
         "fac" => bare(Request::Fac, texts, options),
         "check" => check(alloc, texts, options),
         "capacity" => capacity(alloc, texts, options),
+        "agree" => agree(alloc, texts, options),
         "serve" => serve(alloc, texts, options),
         "receive" => receive(alloc, texts, options),
         "count" => count(texts, options),

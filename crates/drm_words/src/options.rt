@@ -4,7 +4,7 @@ ghost use Rattle.std.specs.Prelude.{◌≡◌, ◌≤◌, IfSome, map, option_ma
 ghost use Rattle.cli_syntax.specs.Arguing.{option_said};
 ghost use Rattle.cli_syntax.specs.Gives.{ParserGives};
 ghost use Rattle.drm_words.specs.Table.{value_of, packet_names, reading_names};
-ghost use Rattle.drm_words.specs.Asking.{is_one_of, are_of, number_or, number_or_none, window_of, reach_of, first_of, frames_of, packets_of, reading_of, idle_of, limit_of, pace_of, from_of, to_of, live_option};
+ghost use Rattle.drm_words.specs.Asking.{is_one_of, are_of, number_or, number_or_none, window_of, reach_of, first_of, frames_of, packets_of, reading_of, idle_of, limit_of, pace_of, from_of, until_of, to_of, live_option};
 
 use cli_syntax::{Named, WordsFault, read_addresses, read_live, within};
 use drm_links::Addresses;
@@ -205,6 +205,18 @@ pub(crate) fn from(options: &[Named<'_>]) -> Option<u32>
 {
     let number = number_or(0, 0, 1_000_000, value_of(options, "from"))?;
     Some(number as u32)
+}
+
+/// The super frame from which on no datagrams are sent or written.
+#[tactic(auto, unfolding(crate::specs::Asking::until_of))]
+pub(crate) fn until(options: &[Named<'_>]) -> Option<Option<u32>>
+    ensures { result ≡ until_of (map option_said options.now) }
+{
+    let Some(text) = value_of(options, "until") else {
+        return Some(None);
+    };
+    let number = within(text, 0, 1_000_000)?;
+    Some(Some(number as u32))
 }
 
 /// Where datagrams are sent.

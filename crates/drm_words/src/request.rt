@@ -18,6 +18,11 @@ pub enum Request {
     Capacity {
         name: Octets,
     },
+    /// Print how far two schedules have the same datagrams.
+    Agree {
+        name: Octets,
+        other: Octets,
+    },
     /// Send a schedule's datagrams to addresses, or write them out as a capture where there is none.
     Serve {
         name: Octets,
@@ -26,6 +31,8 @@ pub enum Request {
         pace: u32,
         /// The first super frame that is sent or written.
         from: u32,
+        /// The super frame from which on none is sent or written.
+        until: Option<u32>,
         /// The streams that take their bytes from input.
         live: Live,
     },

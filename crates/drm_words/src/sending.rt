@@ -2,12 +2,12 @@
 
 ghost use Rattle.std.specs.Prelude.{◌≡◌, IfOk, IfSome, IsUtf8, map};
 ghost use Rattle.cli_syntax.specs.Arguing.{option_said};
-ghost use Rattle.drm_words.specs.Asking.{check_of, capacity_of, serve_with, serve_of, air_with, air_of, exercise_with, exercise_of};
+ghost use Rattle.drm_words.specs.Asking.{check_of, capacity_of, agree_of, serve_with, serve_of, air_with, air_of, exercise_with, exercise_of};
 ghost use Rattle.cli_syntax.specs.Gives.{ParserGives};
 ghost use Rattle.drm_words.specs.Table.{HasTextNames};
 
 use crate::asked::{asked, octets};
-use crate::options::{are_of, from, live, pace, to, window};
+use crate::options::{are_of, from, live, pace, to, until, window};
 use crate::request::Request;
 use cli_syntax::{Named, WordsFault, within};
 use drm_bits::Octets;
@@ -55,6 +55,27 @@ pub(crate) fn capacity(
     Ok(Request::Capacity { name })
 }
 
+// agree NAME OTHER
+#[tactic(auto, unfolding(crate::specs::Asking::agree_of))]
+pub(crate) fn agree(
+    alloc: Global,
+    texts: &[&str],
+    options: &[Named<'_>],
+) -> Result<Request, WordsFault>
+    ensures gives { ParserGives result (agree_of (map (λ text. text.now) texts.now) (map option_said options.now)) }
+    ensures text { IfOk result HasTextNames }
+{
+    let [name, other] = texts else {
+        return Err(WordsFault::Words);
+    };
+    if !are_of(&[], options) {
+        return Err(WordsFault::Words);
+    }
+    let name = octets(alloc, name)?;
+    let other = octets(alloc, other)?;
+    Ok(Request::Agree { name, other })
+}
+
 fn serve_with(name: Octets, to: Addresses, live: Live, options: &[Named<'_>]) -> Option<Request>
     requires { IsUtf8 name }
     ensures value { result ≡ serve_with name to live (map option_said options.now) }
@@ -62,16 +83,18 @@ fn serve_with(name: Octets, to: Addresses, live: Live, options: &[Named<'_>]) ->
 {
     let pace = pace(options)?;
     let from = from(options)?;
+    let until = until(options)?;
     Some(Request::Serve {
         name,
         to,
         pace,
         from,
+        until,
         live,
     })
 }
 
-// serve NAME [--to ADDRS] [--pace MS] [--from N] [--live LIST]
+// serve NAME [--to ADDRS] [--pace MS] [--from N] [--until M] [--live LIST]
 #[tactic(auto, unfolding(crate::specs::Asking::serve_of))]
 pub(crate) fn serve(
     alloc: Global,
@@ -84,7 +107,7 @@ pub(crate) fn serve(
     let [name] = texts else {
         return Err(WordsFault::Words);
     };
-    if !are_of(&["to", "pace", "from", "live"], options) {
+    if !are_of(&["to", "pace", "from", "until", "live"], options) {
         return Err(WordsFault::Words);
     }
     let name = octets(alloc, name)?;

@@ -17,6 +17,8 @@ use Rattle.recv_reading.specs.State.{is_full}
 use Rattle.recv_reading.specs.First.{first_of}
 use Rattle.cmd_convert.specs.Converting.{ItemOutput, ConvertsAll, text_of, lines_of}
 use Rattle.law_delivery.specs.OtherCarry.{under}
+use Rattle.drm_server.specs.Stretch.{whole_schedule, frames_in}
+use Rattle.drm_server.proofs.StretchLemmas.{all_frames}
 use Rattle.law_convert.specs.Laws.{IsFirstOf, AllInTime, MayBeFrameLimit, IsItsCapture, Converting, ConvertingEarly, KnowsFirst, ConversionsAreCaptures, IsOfFirstFrames, BrokenConversions}
 use Rattle.law_convert.proofs.Firsts.{knows_first, first_of_all}
 use Rattle.law_convert.proofs.Packets.{AreFrom, all_written}
@@ -26,7 +28,7 @@ captured : (plan : Plan) (carry : Carry) (n : ℕ) (items : List CollectorItem) 
     → IsItsCapture plan carry parts
 captured plan carry n items parts all first converts =
     let w = all_written plan carry n first 0 [] items parts all.are refl converts in
-    let many : 0 + length items ≡ frame_count plan - 0 = omega (arith, all.many) in
+    let many : 0 + length items ≡ frames_in whole_schedule (under carry plan) = (let every = all_frames (under carry plan) in let each = all.many in omega (arith, each, every)) in
     ((w.datagrams, subst (λ k. AreOfFrames (under carry plan) 0 k w.datagrams) many w.are, w.text), w.lines)
 
 -- a run over the delivery gives all packets

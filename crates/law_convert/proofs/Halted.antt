@@ -16,6 +16,8 @@ use Rattle.drm_schedule.specs.Valid.{IsSchedule}
 use Rattle.drm_timeline.specs.Numbers.{frame_count, packet_size}
 use Rattle.drm_server.specs.Frames.{IsPacketAt}
 use Rattle.drm_server.specs.Datagrams.{HasDatagrams, AreOfFrames}
+use Rattle.drm_server.specs.Stretch.{whole_schedule}
+use Rattle.drm_server.proofs.StretchLemmas.{all_frames}
 use Rattle.drm_server.specs.Capture.{IsPrefixOfCapture}
 use Rattle.drm_server.proofs.CaptureLemmas.{one_or_more}
 use Rattle.drm_server.proofs.OnePacket.{one_packet}
@@ -132,9 +134,9 @@ module _ (collects : Collects) (giving_ends : GivingEnds) (one_reading : OneRead
       let frames : AreOfFrames (under carry plan) 0 (suc (length items)) w.datagrams = subst (λ k. AreOfFrames (under carry plan) 0 k w.datagrams) count w.are in
       let (before, of_frame, are, (n, has, first), parted) = frames in
       let some : 1 ≤ n = some_of_frame plan carry (0 + length items) n place.packet is fits place.within place.is has in
-      let front : IsPrefixOfCapture (under carry plan) 0 (concat (before ++ of_frame)) = one_or_more (under carry plan) 0 (length items) n place.within some before of_frame are first in
+      let front : IsPrefixOfCapture (under carry plan) whole_schedule (concat (before ++ of_frame)) = one_or_more (under carry plan) whole_schedule (length items) n (let less = place.within in let all = all_frames (under carry plan) in omega (arith, less, all)) some before of_frame are first in
       let within = place.within in (
-        ((suc (length items), w.datagrams, omega (arith, within), frames, w.text), subst (IsPrefixOfCapture (under carry plan) 0) (sym (w.text ∙ ap concat parted)) front),
+        ((suc (length items), w.datagrams, omega (arith, within), frames, w.text), subst (IsPrefixOfCapture (under carry plan) whole_schedule) (sym (w.text ∙ ap concat parted)) front),
         w.lines,
       )
 

@@ -15,6 +15,8 @@ use Rattle.capture_reader.specs.Reading.{ReadingBreaks}
 use Rattle.capture_reader.specs.Laws.{ReadOneWay}
 use Rattle.law_capture.specs.Laws.{PacketsInFront}
 use Rattle.drm_schedule.specs.declared.plan.Plan.{Plan}
+use Rattle.drm_server.specs.Stretch.{whole_schedule}
+use Rattle.drm_server.proofs.StretchLemmas.{all_frames}
 use Rattle.drm_server.specs.Capture.{IsCapture, IsPrefixOfCapture}
 use Rattle.drm_server.proofs.CaptureLemmas.{end_written}
 use Rattle.law_delivery.specs.Sent.{IsDeliveryOf}
@@ -99,9 +101,9 @@ enough_read in_front one_way range packets read before after input rest is_befor
     ([], all_read in_front one_way input.left packets is read at, inl refl)
 
 -- a front of what is written of some first frames is a front of the capture
-front_written : (plan : Plan) (text : List ℕ) (out out' : Known Output) → IsOfSomeFrames plan text → OutputsText out out' (IsPrefix text) → OutputsText out out' (IsPrefixOfCapture plan 0)
+front_written : (plan : Plan) (text : List ℕ) (out out' : Known Output) → IsOfSomeFrames plan text → OutputsText out out' (IsPrefix text) → OutputsText out out' (IsPrefixOfCapture plan whole_schedule)
 front_written plan text out out' ((n, datagrams, within, are, is), front) wrote =
-    end_written plan 0 n datagrams (concat datagrams) out out out' (omega (arith, within)) are (subst (IsPrefixOfCapture plan 0) is front)
+    end_written plan whole_schedule n datagrams (concat datagrams) out out out' (let all = all_frames plan in omega (arith, within, all)) are (subst (IsPrefixOfCapture plan whole_schedule) is front)
     (OutputsText-nothing out (λ t. [] ++ concat datagrams ≡ t ++ concat datagrams) refl)
     (subst (λ l. OutputsText out out' (IsPrefix l)) is wrote)
 
@@ -114,7 +116,7 @@ module _ (in_front : PacketsInFront) (one_way : ReadOneWay) (conversions : Conve
       let whole : AllInTime plan range.window range.reach range.first has.arrivals (read ++ later) = subst (λ l. AllInTime plan range.window range.reach range.first has.arrivals l) same has.in_time in
       let (captured, none) = conversions plan carry range has.arrivals read later parts whole may all conversion in (
         clean_is ∙ clean_of parts none,
-        OutputsText-weaker (λ t. t ≡ text_of parts) (IsCapture (under carry plan) 0) out out' text (λ t is. subst (IsCapture (under carry plan) 0) (sym is) captured),
+        OutputsText-weaker (λ t. t ≡ text_of parts) (IsCapture (under carry plan) whole_schedule) out out' text (λ t is. subst (IsCapture (under carry plan) whole_schedule) (sym is) captured),
         OutputsText-weaker (IsPrefix (lines_of parts)) (λ t. t ≡ []) err err' names.front (λ t front. empty_front t (lines_of parts) none front),
       )
   captures_are_converted plan carry range (Err faults.Read) through before after out out' err err' input rest fits small is_before is_after has may (read, whole, stops, lacks, shorter, parts, is, text, names) =

@@ -14,6 +14,7 @@ use Rattle.drm_schedule.specs.declared.plan.Plan.{Plan}
 use Rattle.drm_schedule.specs.Valid.{IsSchedule}
 use Rattle.drm_timeline.specs.Numbers.{frame_count, packet_size}
 use Rattle.drm_server.specs.Datagrams.{AreOfFrames}
+use Rattle.drm_server.specs.Stretch.{whole_schedule}
 use Rattle.drm_server.specs.Capture.{IsCapture, IsPrefixOfCapture}
 use Rattle.law_delivery.specs.OtherCarry.{under}
 use Rattle.law_delivery.specs.Sent.{Arrival, pairs_in, IsDeliveryOf, IsInTime}
@@ -44,7 +45,7 @@ IsFirstOf plan n = n % 2 ^ 16 ≡ plan.seq % 2 ^ 16
 
 -- They are written as the schedule's capture under this carry, and no line names any of them.
 abbrev pub IsItsCapture : Plan → Carry → List ItemOutput → Type 0
-IsItsCapture plan carry parts = IsCapture (under carry plan) 0 (text_of parts) × (lines_of parts ≡ [])
+IsItsCapture plan carry parts = IsCapture (under carry plan) whole_schedule (text_of parts) × (lines_of parts ≡ [])
 
 -- What a collector gives of such a delivery becomes the schedule's capture under the new carry.
 abbrev pub Converting : Type 0
@@ -117,7 +118,7 @@ BrokenConversions =
 
 -- the text is of the datagrams of one first frame or more, and so a front of the schedule's capture
 abbrev pub IsOfSomeFrames : Plan → List ℕ → Type 0
-IsOfSomeFrames plan text = IsOfFirstFrames plan text × IsPrefixOfCapture plan 0 text
+IsOfSomeFrames plan text = IsOfFirstFrames plan text × IsPrefixOfCapture plan whole_schedule text
 
 -- Where it comes to an item, this one and those before it become the datagrams of some first frames under the new carry.
 abbrev pub HaltedConversions : Type 0
@@ -139,11 +140,11 @@ pub record HasSchedule (plan : Plan) (range : PacketRange) (bytes : List ℕ) : 
 -- write a front of the capture; where memory is wanting, nothing. No other fault comes, and nothing was named.
 abbrev pub ConversionEndsWell : Plan → Carry → Result Bool Fault → Known Output → Known Output → Known Output → Known Output → Type 0
 ConversionEndsWell plan carry (Ok clean) out out' err err' =
-    (clean ≡ true) × OutputsText out out' (IsCapture (under carry plan) 0) × OutputsText err err' (λ text. text ≡ [])
+    (clean ≡ true) × OutputsText out out' (IsCapture (under carry plan) whole_schedule) × OutputsText err err' (λ text. text ≡ [])
 ConversionEndsWell plan carry (Err faults.Read) out out' err err' =
     OutputsText out out' (IsOfFirstFrames (under carry plan)) × OutputsText err err' (λ text. text ≡ [])
 ConversionEndsWell plan carry (Err faults.Write) out out' err err' =
-    OutputsText out out' (IsPrefixOfCapture (under carry plan) 0) × OutputsText err err' (λ text. text ≡ [])
+    OutputsText out out' (IsPrefixOfCapture (under carry plan) whole_schedule) × OutputsText err err' (λ text. text ≡ [])
 ConversionEndsWell plan carry (Err faults.NoMemory) out out' err err' = (out' ≡ out) × (err' ≡ err)
 ConversionEndsWell plan carry (Err fault) out out' err err' = ⊥
 

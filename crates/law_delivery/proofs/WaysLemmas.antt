@@ -1,12 +1,14 @@
--- Two ways, and a later start.
+-- Two ways, and a part of a schedule.
 use Rattle.std.proofs.Common.{ℕ, zero, suc, ◌≡◌, ◌+◌, ◌-◌, ◌<◌, inl, inr, ⊎_elim, List, [], ◌∷◌, All, refl, subst, arith}
 use Rattle.std.specs.List.{AllZip, Contains, slice_index_or}
 use Rattle.std.proofs.lemmas.List.Elements.{Contains-append_cases}
 use Rattle.drm_schedule.specs.declared.plan.Plan.{Plan}
-use Rattle.drm_timeline.specs.Numbers.{frame_count}
+use Rattle.drm_server.specs.declared.stretch.Stretch.{Stretch}
+use Rattle.drm_server.specs.Stretch.{first_in, frames_in}
+use Rattle.drm_server.proofs.StretchLemmas.{within_schedule}
 use Rattle.drm_server.specs.Datagrams.{IsDatagramAt, AreFirst, AreOfFrames}
 use Rattle.law_delivery.specs.Sent.{OfSchedule, IsArrival}
-use Rattle.law_delivery.specs.Ways.{IsMixture, TwoWays, IsFrom, LaterStart}
+use Rattle.law_delivery.specs.Ways.{IsMixture, TwoWays, IsWithin, AnyStretch}
 
 -- ---- two ways
 
@@ -36,7 +38,7 @@ module _ {A B : Type 0} (R : A → B → Type 0) where
 pub two_ways : TwoWays
 two_ways plan arrivals others one other both each all mixture = mixed (IsArrival plan) arrivals others one other both each all mixture
 
--- ---- a later start
+-- ---- a part of a schedule
 
 only : {X : Type 0} (x y : X) (k : ℕ) → k < 1 → slice_index_or (x ∷ []) k y ≡ y → x ≡ y
 only x y zero within is = is
@@ -71,12 +73,13 @@ one_more : {X : Type 0} (P : X → Type 0) (x : X) (xs : List X) → P x → All
 one_more P x xs here others zero d within = here
 one_more P x xs here others (suc k) d within = others k d (omega (arith, within))
 
-pub later_start : LaterStart
-later_start plan first sent [] are all = ([], tt, λ k d within. absurd (omega (arith, within)))
-later_start plan first sent (datagram ∷ received) are all =
-    let (m, k, within, is) = of_frames plan first (frame_count plan - first) sent datagram are (all 0 datagram (omega arith)) in
-    let (arrivals, arrive, from) = later_start plan first sent received are (λ j d less. all (suc j) d (omega (arith, less))) in (
+pub any_stretch : AnyStretch
+any_stretch plan stretch sent [] are all = ([], tt, λ k d within. absurd (omega (arith, within)))
+any_stretch plan stretch sent (datagram ∷ received) are all =
+    let first : ℕ = first_in stretch in
+    let (m, k, within, is) = of_frames plan first (frames_in stretch plan) sent datagram are (all 0 datagram (omega arith)) in
+    let (arrivals, arrive, from) = any_stretch plan stretch sent received are (λ j d less. all (suc j) d (omega (arith, less))) in (
       OfSchedule (first + m, k) ∷ arrivals,
-      (record { within = omega (arith, within); is = is }, arrive),
-      one_more (IsFrom first) (OfSchedule (first + m, k)) arrivals (omega arith) from,
+      (record { within = within_schedule stretch plan m within; is = is }, arrive),
+      one_more (IsWithin stretch plan) (OfSchedule (first + m, k)) arrivals (omega arith, omega (arith, within)) from,
     )

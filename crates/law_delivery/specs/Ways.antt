@@ -1,7 +1,9 @@
--- What comes by two ways, or of a server that began at a later frame, is one delivery.
-use Rattle.std.specs.Prelude.{ℕ, ◌≡◌, ◌≤◌, ◌⊎◌, List, [], ◌∷◌, All, Contains}
+-- What comes by two ways, or of a server that sends a part of a schedule, is a delivery of it.
+use Rattle.std.specs.Prelude.{ℕ, ◌≡◌, ◌+◌, ◌<◌, ◌≤◌, ◌⊎◌, List, [], ◌∷◌, All, Contains}
 use Rattle.std.specs.List.{AllZip}
 use Rattle.drm_schedule.specs.declared.plan.Plan.{Plan}
+use Rattle.drm_server.specs.declared.stretch.Stretch.{Stretch}
+use Rattle.drm_server.specs.Stretch.{first_in, frames_in}
 use Rattle.drm_server.specs.Datagrams.{AreDatagrams}
 use Rattle.law_delivery.specs.Sent.{Arrival, OfSchedule, Foreign, IsArrival}
 
@@ -18,14 +20,14 @@ TwoWays =
     → AllZip (IsArrival plan) arrivals one → AllZip (IsArrival plan) others other → IsMixture one other both
     → (mixed : List Arrival) × AllZip (IsArrival plan) mixed both × IsMixture arrivals others mixed
 
--- the datagram of a frame from frame `first` on
-abbrev pub IsFrom : ℕ → Arrival → Type 0
-IsFrom first (OfSchedule pair) = first ≤ pair.0
-IsFrom first (Foreign cause) = ⊥
+-- the datagram of one of the frames that are sent of a schedule
+abbrev pub IsWithin : Stretch → Plan → Arrival → Type 0
+IsWithin stretch plan (OfSchedule pair) = (first_in stretch ≤ pair.0) × (pair.0 < first_in stretch + frames_in stretch plan)
+IsWithin stretch plan (Foreign cause) = ⊥
 
--- Whatever comes of what is sent of a schedule from a frame on, some of it never, some twice, in any order, is a delivery of
--- the schedule: of its frames from that one on, under their own numbers.
-abbrev pub LaterStart : Type 0
-LaterStart =
-    (plan : Plan) (first : ℕ) (sent received : List (List ℕ)) → AreDatagrams plan first sent → All (Contains sent) received
-    → (arrivals : List Arrival) × AllZip (IsArrival plan) arrivals received × All (IsFrom first) arrivals
+-- Whatever comes of what is sent of a schedule, of whichever of its frames, some of it never, some twice, in any order, is a delivery of the
+-- schedule: of these frames, under their own numbers.
+abbrev pub AnyStretch : Type 0
+AnyStretch =
+    (plan : Plan) (stretch : Stretch) (sent received : List (List ℕ)) → AreDatagrams plan stretch sent → All (Contains sent) received
+    → (arrivals : List Arrival) × AllZip (IsArrival plan) arrivals received × All (IsWithin stretch plan) arrivals

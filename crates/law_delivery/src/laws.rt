@@ -1,7 +1,7 @@
 //! Laws from what is sent to what is given, each on a function that does nothing.
 
 ghost use Rattle.law_delivery.specs.Laws.{Delivering, DeliveringEarly, ForeignRefused, GivenInTime, SwitchesAtStarts, AllSwitches, AllFrames, AllAtOnce};
-ghost use Rattle.law_delivery.specs.Ways.{TwoWays, LaterStart};
+ghost use Rattle.law_delivery.specs.Ways.{TwoWays, AnyStretch};
 
 use law_collect::{collecting, giving_ends, one_reading, refusing, steps_join};
 use mod_feed::the_feed_tells_the_switches;
@@ -76,7 +76,7 @@ pub fn two_ways_are_one_delivery()
     ensures { TwoWays }
 {}
 
-/// Whatever comes of what is sent from a frame on is a delivery of the schedule, under the numbers of its frames.
-pub fn a_later_start_is_delivered()
-    ensures { LaterStart }
+/// Whatever comes of what is sent of any of a schedule's super frames is a delivery of the schedule, under the numbers of its frames.
+pub fn a_stretch_is_delivered()
+    ensures { AnyStretch }
 {}

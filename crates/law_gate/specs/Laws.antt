@@ -24,7 +24,7 @@ use Rattle.law_frame_lines.specs.Line.{IsFrameLine}
 use Rattle.recv_reading.specs.declared.options.ReceiveOptions.{ReceiveOptions}
 use Rattle.law_delivery.specs.OtherCarry.{under}
 use Rattle.drm_gate.specs.Passing.{Outcome, sent_of}
-use Rattle.drm_gate.specs.Run.{IsOnward}
+use Rattle.drm_gate.specs.Relaying.{IsOnward}
 
 -- ---- lists of packets
 

@@ -8,7 +8,7 @@
 //! The gateway is that of `drm_gate`; the laws rest on `law_collect`, `law_delivery` and
 //! `law_frame_lines`. No crate stands on this one.
 //!
-//! What a gateway does in a run, whatever came, is the contract of `gate_one` in `drm_gate`; how
+//! What a gateway does in a run, whatever came, is the contract of `pass_over_group` in `drm_gate`; how
 //! the command ends is in `cmd_gate`.
 //!
 //! Begin with `PassesSchedules` and `ServedBehindOne` in `specs/Laws.antt`.

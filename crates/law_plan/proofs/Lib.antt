@@ -10,7 +10,6 @@ pub mod AgainLemmas
 pub mod ConfigLemmas
 pub mod ProjectionLemmas
 pub mod CanonicalLaw
-pub mod Utf8Lines
 pub mod PlanLaw
 pub mod GivenLaw
 pub mod AttachLaw

@@ -1,6 +1,6 @@
 -- A canonical line is cut into its keyword and its words, and is one line.
 use Rattle.std.proofs.Common.{◌≡◌, ℕ, ◌<◌, ◌^◌, Bool, true, false, List, [], ◌∷◌, ◌++◌, refl, ap, sym, ◌∙◌, arith}
-use Rattle.std.specs.Prelude.{decimal, codes}
+use Rattle.std.specs.Prelude.{decimal, codes, IsUtf8}
 use Rattle.std.specs.List.{AllByRecursion}
 use Rattle.drm_sdc.specs.declared.body.AppMode.{AppMode}
 use Rattle.drm_sdc.specs.declared.body.AppMode.TheVariants.{Sync, Packet}
@@ -17,6 +17,7 @@ use Rattle.dcp_pft.specs.Carrying.{CarryFits}
 use Rattle.drm_schedule.specs.Ranges.{ContentInLines, AppInLines, BodyInLines, IsLabel}
 use Rattle.text_lines.specs.Lines.{words_of, lines_of}
 use Rattle.std.proofs.lemmas.List.{append-nil}
+use Rattle.std.proofs.lemmas.Str.{IsUtf8-append}
 use Rattle.law_plan.specs.Lines.{IsReadAgain}
 use Rattle.text_lines.proofs.Lacking.{lacks_both}
 use Rattle.text_lines.proofs.WordLaws.{word_and_rest}
@@ -29,41 +30,43 @@ use Rattle.plan_grammar.specs.Keywords.{keyword_text}
 use Rattle.plan_grammar.specs.Said.{keyword_said, carry_words, depth_word, kind_word, content_words, app_words, config_words, bytes_word, parts_said, canonical, line_text, words_said, LineInLines}
 use Rattle.law_plan.proofs.EntitiesAgain.{fit_all}
 use Rattle.law_plan.proofs.SaidAgain.{raw_small, said_again}
-use Rattle.law_plan.proofs.Tokens.{IsToken, cut_again, joined_line, lacks_from, keyword_token, number_token, bit_token, hex_token, hex6_token, hex4_token, optional_token, bytes_token, name_token, channels_token}
+use Rattle.law_plan.proofs.Tokens.{IsToken, seen, behind, cut_again, joined_line, joined_utf8, lacks_from, keyword_token, number_token, bit_token, hex_token, hex6_token, hex4_token, optional_token, bytes_token, name_token, channels_token}
 
--- The words of a canonical line are its keyword and what is said, and no line feed is in it.
+-- The words of a canonical line are its keyword and what is said; it is UTF-8, and no line feed is in it.
 pub record IsCut (l : Line) : Type 0 where
   pub words : words_of (canonical l) ≡ keyword_text (keyword_said l) ∷ words_said l
   pub one_line : IsLine (canonical l)
+  pub utf8 : IsUtf8 (canonical l)
 
 -- where each part is a word
 from_parts : (l : Line) → words_said l ≡ parts_said l → AllByRecursion IsToken (parts_said l) → IsCut l
 from_parts l same are = record {
   words = cut_again (keyword_text (keyword_said l) ∷ parts_said l) (keyword_token (keyword_said l), are) ∙ ap (λ (ws : List (List ℕ)). keyword_text (keyword_said l) ∷ ws) (sym same);
   one_line = joined_line (keyword_text (keyword_said l) ∷ parts_said l) (keyword_token (keyword_said l), are);
+  utf8 = joined_utf8 (keyword_text (keyword_said l) ∷ parts_said l) (keyword_token (keyword_said l), are);
 }
 
 carry_tokens : (carry : Carry) → CarryFits carry → AllByRecursion IsToken (carry_words carry)
-carry_tokens Plain fits = (record { word = record { some = refl; whole = refl }; line = refl }, tt)
-carry_tokens (Pft m mtu) fits = (record { word = record { some = refl; whole = refl }; line = refl }, (number_token m (omega (arith, fits.0)), (number_token mtu (omega (arith, fits.2)), tt)))
+carry_tokens Plain fits = (seen _ refl refl refl refl, tt)
+carry_tokens (Pft m mtu) fits = (seen _ refl refl refl refl, (number_token m (omega (arith, fits.0)), (number_token mtu (omega (arith, fits.2)), tt)))
 
 mode_token : (mode : Mode) → IsToken (mode_letter mode)
-mode_token A = record { word = record { some = refl; whole = refl }; line = refl }
-mode_token B = record { word = record { some = refl; whole = refl }; line = refl }
-mode_token C = record { word = record { some = refl; whole = refl }; line = refl }
-mode_token D = record { word = record { some = refl; whole = refl }; line = refl }
+mode_token A = seen _ refl refl refl refl
+mode_token B = seen _ refl refl refl refl
+mode_token C = seen _ refl refl refl refl
+mode_token D = seen _ refl refl refl refl
 
 depth_token : (short : Bool) → IsToken (depth_word short)
-depth_token true = record { word = record { some = refl; whole = refl }; line = refl }
-depth_token false = record { word = record { some = refl; whole = refl }; line = refl }
+depth_token true = seen _ refl refl refl refl
+depth_token false = seen _ refl refl refl refl
 
 kind_token : (is_data : Bool) → IsToken (kind_word is_data)
-kind_token true = record { word = record { some = refl; whole = refl }; line = refl }
-kind_token false = record { word = record { some = refl; whole = refl }; line = refl }
+kind_token true = seen _ refl refl refl refl
+kind_token false = seen _ refl refl refl refl
 
 content_tokens : (content : Content) → ContentInLines content → AllByRecursion IsToken (content_words content)
-content_tokens (Fill byte) fits = (record { word = record { some = refl; whole = refl }; line = refl }, (hex_token byte [], tt))
-content_tokens (File name bytes) fits = (record { word = record { some = refl; whole = refl }; line = refl }, (name_token name fits, tt))
+content_tokens (Fill byte) fits = (seen _ refl refl refl refl, (hex_token byte [], tt))
+content_tokens (File name bytes) fits = (seen _ refl refl refl refl, (name_token name fits, tt))
 
 config_tokens : (config : List ℕ) → AllByRecursion IsToken (config_words config)
 config_tokens [] = tt
@@ -71,9 +74,9 @@ config_tokens (b ∷ bs) = (hex_token b bs, tt)
 
 app_tokens : (packet : AppMode) (enhancement : Bool) (domain : ℕ) (load : List ℕ) → domain < 2 ^ 3 → AppInLines packet load → AllByRecursion IsToken (app_words packet enhancement domain ++ bytes_word load ∷ [])
 app_tokens (Sync spare) enhancement domain load fits_domain fits =
-    (record { word = record { some = refl; whole = refl }; line = refl }, (bit_token enhancement, (number_token domain (omega arith), (bytes_token load, tt))))
+    (seen _ refl refl refl refl, (bit_token enhancement, (number_token domain (omega arith), (bytes_token load, tt))))
 app_tokens (Packet unit pid len) enhancement domain load fits_domain fits =
-    (record { word = record { some = refl; whole = refl }; line = refl }, (bit_token unit, (number_token pid (omega (arith, fits.0)), (bit_token enhancement, (number_token domain (omega arith), (number_token len (omega (arith, fits.1)), (bytes_token load, tt)))))))
+    (seen _ refl refl refl refl, (bit_token unit, (number_token pid (omega (arith, fits.0)), (bit_token enhancement, (number_token domain (omega arith), (number_token len (omega (arith, fits.1)), (bytes_token load, tt)))))))
 
 label_cut : (version : Bool) (short spare : ℕ) (text : List ℕ) → short < 2 ^ 2 → IsLabel text → IsCut (lines.Entity (record { version = version; body = bodies.Label short spare text }))
 label_cut version short spare text fits is =
@@ -84,6 +87,7 @@ label_cut version short spare text fits is =
           word_and_rest (codes "label") (decimal short ++ 32 ∷ text) key.word
           ∙ ap (λ (ws : List (List ℕ)). codes "label" ∷ ws) (word_and_rest (decimal short) text number.word);
       one_line = lacks_both 10 (codes "label") (32 ∷ (decimal short ++ 32 ∷ text)) key.line (lacks_both 10 (decimal short) (32 ∷ text) number.line (lacks_from 10 text is.one_line));
+      utf8 = IsUtf8-append (codes "label") (32 ∷ (decimal short ++ 32 ∷ text)) key.utf8 (behind 32 (decimal short ++ 32 ∷ text) refl (IsUtf8-append (decimal short) (32 ∷ text) number.utf8 (behind 32 text refl is.utf8)));
     }
 
 body_cut : (version : Bool) (body : Body) → BodyInLines body → IsCut (lines.Entity (record { version = version; body = body }))
@@ -126,8 +130,8 @@ body_cut version (bodies.Raw kind nibble bytes) fits =
 
 -- each line that says what a line can say
 pub line_again : (l : Line) → LineInLines l → IsCut l
-line_again (lines.Version One) fits = from_parts (lines.Version One) refl (record { word = record { some = refl; whole = refl }; line = refl }, tt)
-line_again (lines.Version Two) fits = from_parts (lines.Version Two) refl (record { word = record { some = refl; whole = refl }; line = refl }, tt)
+line_again (lines.Version One) fits = from_parts (lines.Version One) refl (seen _ refl refl refl refl, tt)
+line_again (lines.Version Two) fits = from_parts (lines.Version Two) refl (seen _ refl refl refl refl, tt)
 line_again (lines.Block from) fits = from_parts (lines.Block from) refl (number_token from (omega (arith, fits)), tt)
 line_again (lines.Carry carry) fits = from_parts (lines.Carry carry) refl (carry_tokens carry fits)
 line_again (lines.First seq dlfc) fits = from_parts (lines.First seq dlfc) refl (number_token seq (omega (arith, fits.0)), (number_token dlfc (omega (arith, fits.1)), tt))

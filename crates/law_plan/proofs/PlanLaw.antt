@@ -36,7 +36,6 @@ use Rattle.law_plan.proofs.AgainLemmas.{two, LineAgain, lines_said}
 use Rattle.law_plan.proofs.CanonicalLaw.{plan_read}
 use Rattle.drm_plan.proofs.TextLemmas.{text_gives}
 use Rattle.plan_writer.proofs.TextLemmas.{text_append, no_text}
-use Rattle.law_plan.proofs.Utf8Lines.{line_utf8}
 use Rattle.drm_plan.proofs.FileLemmas.{with_streams}
 
 -- A line that has no bytes of a file, is written as one line of UTF-8, and reads as itself.
@@ -48,7 +47,7 @@ record Clean (l : Line) : Type 0 where
 clean : (l : Line) → LineInLines l → detached l ≡ l → Clean l
 clean l fits same =
     let cut = line_again l fits in
-    record { again = record { cut = cut.words; reads = said_again l fits ∙ ap (λ (x : Line). Ok x) same }; line = cut.one_line; utf8 = line_utf8 l fits }
+    record { again = record { cut = cut.words; reads = said_again l fits ∙ ap (λ (x : Line). Ok x) same }; line = cut.one_line; utf8 = cut.utf8 }
 
 both : (a b : List Line) → AllByRecursion Clean a → AllByRecursion Clean b → AllByRecursion Clean (a ++ b)
 both [] b first behind = behind

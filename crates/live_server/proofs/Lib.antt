@@ -1,3 +1,5 @@
 pub mod LoadingLemmas
 pub mod GoingLemmas
 pub mod WritingLemmas
+pub mod NothingLemmas
+pub mod TurnLemmas

@@ -6,7 +6,8 @@ use Rattle.drm_links.specs.Known.{Known}
 use Rattle.drm_links.specs.Sink.{Output, OutputsText}
 use Rattle.drm_links.proofs.KnownLemmas.{OutputsText-nothing, OutputsText-weaker}
 use Rattle.drm_schedule.specs.declared.plan.Plan.{Plan}
-use Rattle.drm_timeline.specs.Numbers.{frame_count}
+use Rattle.drm_server.specs.declared.stretch.Stretch.{Stretch}
+use Rattle.drm_server.specs.Stretch.{first_in, frames_in}
 use Rattle.drm_server.specs.Capture.{IsCapture, IsPrefixOfCapture}
 use Rattle.drm_server.specs.Datagrams.{AreOfFrames}
 use Rattle.drm_server.specs.Gathering.{GathersDatagrams, WroteFrame, IsPrefixOfFrame}
@@ -24,16 +25,17 @@ module _ (plan : Plan) (first : ℕ) where
       let whole : GathersDatagrams [] (concat frame.0) [] b c = OutputsText-weaker (λ text. text ≡ concat frame.0) (λ text. concat frame.0 ≡ text ++ []) b c frame.3 (λ text is. sym is ∙ sym (append-nil text)) in
       (before.0 ++ frame.0, next_frame plan first n before.0 frame.0 before.1 frame.1, gathers_frame before.0 frame.0 [] [] a b c before.2 whole)
 
-  -- a front of the next one
-  pub front_written : (n : ℕ) (a b c : Known Output) → first + n < frame_count plan → WroteEach first n a b plan → OutputsText b c (IsPrefixOfFrame plan (first + n) []) → OutputsText a c (IsPrefixOfCapture plan first)
-  front_written n a b c within before front = part_written plan first n before.0 [] a b c within before.1 before.2 front
-
   pub frames_written : (n : ℕ) (a b : Known Output) → WroteEach first n a b plan → OutputsText a b (AreWritten plan first n)
   frames_written n a b before =
       OutputsText-weaker (λ text. concat before.0 ≡ text ++ []) (AreWritten plan first n) a b before.2 (λ text is. (before.0, before.1, sym (append-nil text) ∙ sym is))
 
+module _ (plan : Plan) (stretch : Stretch) where
+  -- a front of the next one
+  pub front_written : (n : ℕ) (a b c : Known Output) → n < frames_in stretch plan → WroteEach (first_in stretch) n a b plan → OutputsText b c (IsPrefixOfFrame plan (first_in stretch + n) []) → OutputsText a c (IsPrefixOfCapture plan stretch)
+  front_written n a b c within before front = part_written plan stretch n before.0 [] a b c within before.1 before.2 front
+
   -- all of them
-  pub capture_written : (n : ℕ) (a b : Known Output) → n ≡ frame_count plan - first → WroteEach first n a b plan → OutputsText a b (IsCapture plan first)
+  pub capture_written : (n : ℕ) (a b : Known Output) → n ≡ frames_in stretch plan → WroteEach (first_in stretch) n a b plan → OutputsText a b (IsCapture plan stretch)
   capture_written n a b all before =
-      OutputsText-weaker (AreWritten plan first n) (IsCapture plan first) a b (frames_written n a b before)
-      (λ text w. (w.0, subst (λ k. AreOfFrames plan first k w.0) all w.1, w.2))
+      OutputsText-weaker (AreWritten plan (first_in stretch) n) (IsCapture plan stretch) a b (frames_written plan (first_in stretch) n a b before)
+      (λ text w. (w.0, subst (λ k. AreOfFrames plan (first_in stretch) k w.0) all w.1, w.2))

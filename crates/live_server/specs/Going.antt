@@ -4,24 +4,17 @@ use Rattle.std.specs.List.{concat}
 use Rattle.drm_links.specs.Known.{Known}
 use Rattle.drm_links.specs.Source.{Input}
 use Rattle.drm_links.specs.Sink.{Output}
-use Rattle.drm_links.specs.Link.{Traffic}
-use Rattle.link_group.specs.declared.member.Member.{Member}
 use Rattle.drm_schedule.specs.declared.live.Live.{Live}
 use Rattle.drm_schedule.specs.declared.plan.Plan.{Plan}
 use Rattle.drm_server.specs.Datagrams.{AreOfFrames}
 use Rattle.drm_server.specs.Gathering.{GathersDatagrams}
 use Rattle.live_server.specs.Feeding.{AreTaken, HasRead, OfEach}
-use Rattle.live_server.specs.Links.{ServedEach}
 
 -- n frames from `first` on were made, for which these bytes were read
 pub record HasMade (live : Live) (plan : Plan) (first n : ℕ) (ended : Bool) (bytes : List ℕ) (input input' : Known Input) (P : Plan → Type 0) : Type 0 where
   pub read : HasRead ended bytes input input'
   pub taken : AreTaken ended live plan first (first + n) bytes
   pub made : OfEach ended live plan first bytes P
-
--- they went over each link
-abbrev pub SentEach : {L : Type 0} → ℕ → ℕ → ℕ → (L → Known Traffic) → List (Member L) → List (Member L) → Plan → Type 0
-SentEach first pace n known members members' plan = ServedEach plan first pace n known members members'
 
 -- they were written
 abbrev pub WroteEach : ℕ → ℕ → Known Output → Known Output → Plan → Type 0

@@ -3,3 +3,5 @@ pub mod Loading
 pub mod Links
 pub mod Capture
 pub mod Going
+pub mod Laws
+pub mod Turns

@@ -1,6 +1,6 @@
 //! A reading, call by call.
 
-ghost use Rattle.std.specs.Prelude.{ℕ, ◌≡◌, ◌<◌, ◌≤◌, ◌^◌, List, [], ◌∷◌, ◌++◌, true, None, Err, IfSome, IfErr, OnOk};
+ghost use Rattle.std.specs.Prelude.{ℕ, ◌≡◌, ◌<◌, ◌≤◌, ◌^◌, List, [], ◌∷◌, ◌++◌, true, false, None, Err, IfSome, IfErr, OnOk};
 ghost use Rattle.drm_links.specs.Link.{Answer, Datagram, Idle, End};
 ghost use Rattle.drm_links.specs.Known.{RisesWhere, HasCause};
 ghost use Rattle.capture_reader.specs.declared.packets.CaptureStop.{CaptureStop};
@@ -149,6 +149,25 @@ impl Reading {
         ensures first { KeepsFirst collector.old collector.new }
     {
         self.finish(collector, EndWord::Input);
+    }
+
+    /// Whether as many datagrams were taken as are allowed. Then the reading ends here, and what is ready can still be given.
+    pub fn stops_at_limit(&mut self, collector: &mut Collector) -> bool
+        requires waits { ReadingWaits self.old collector.old }
+        requires reached { HasReached self.old collector.old }
+        ensures reached { (options : ReceiveOptions) (answers : List Answer) (taken : List Taken)
+            (during more : List CollectorItem) → ReadingReached options answers taken during more self.old collector.old
+            → result ≡ true → ReadingReached options answers taken (during ++ more) [] self.new collector.new }
+        ensures less { result ≡ true → ahead self.new collector.new < ahead self.old collector.old }
+        ensures first { KeepsFirst collector.old collector.new }
+        ensures goes_on { result ≡ false → (self.new ≡ self.old) × (collector.new ≡ collector.old)
+            × (self.old.taken < self.old.bounds.limit) }
+    {
+        if self.taken != self.bounds.limit {
+            return false;
+        }
+        self.finish(collector, EndWord::Limit);
+        true
     }
 
     /// Asks for one answer more, unless as many datagrams were taken as are allowed. What was answered to a datagram is the

@@ -27,7 +27,6 @@ use Rattle.drm_sdc.proofs.EntityLaws.{length-entity, no_tail, small_rest, size_w
 use Rattle.drm_sdc.proofs.BlockLaws.{framed_length, one_info}
 use Rattle.report_text.specs.HexBits.{hex_of_bits}
 use Rattle.report_text.specs.FrameLine.{front_bits}
-use Rattle.report_text.proofs.HexLemmas.{next_digit}
 use Rattle.report_dump.specs.declared.block.EntityHead.{EntityHead}
 use Rattle.report_dump.specs.Block.{IsSpanOfBlock, HoldsBlock, IsEntityHead, IsZero, head_text}
 use Rattle.report_dump.specs.PacketContent.{bits_at}
@@ -164,6 +163,14 @@ first_bits : (n : ℕ) (field : List ℕ) (behind : List Bool) → bits_of field
 first_bits n field behind =
     ap (λ l. bits_of l ++ behind) (sym (take-append-drop n field))
     ∙ (ap (λ l. l ++ behind) (bits_of-append (take n field) (drop n field)) ∙ append_assoc (bits_of (take n field)) (bits_of (drop n field)) behind)
+
+-- the digit of the first four bits, and those of the rest
+next_digit : (bits : List Bool) → 4 ≤ length bits → hex_of_bits bits ≡ slice_index lower_digits (value (take 4 bits)) ∷ hex_of_bits (drop 4 bits)
+next_digit (a ∷ b ∷ c ∷ d ∷ bits) enough = refl
+next_digit (a ∷ b ∷ c ∷ []) enough = absurd (omega (arith, enough))
+next_digit (a ∷ b ∷ []) enough = absurd (omega (arith, enough))
+next_digit (a ∷ []) enough = absurd (omega (arith, enough))
+next_digit [] enough = absurd (omega (arith, enough))
 
 -- what the head of an entity says, by its own bits
 pub record Agrees (e : Entity) (h : EntityHead) (own : List Bool) : Type 0 where

@@ -1,58 +1,74 @@
 -- Digits for bits.
-use Rattle.std.proofs.Common.{◌≡◌, ℕ, ◌+◌, ◌-◌, ◌*◌, ◌<◌, ◌≤◌, Bool, List, [], ◌∷◌, ◌++◌, length, take, drop, refl, sym, ◌∙◌, ap, arith, append-nil}
+use Rattle.std.proofs.Common.{◌≡◌, ℕ, zero, suc, ◌+◌, ◌-◌, ◌*◌, ◌/◌, ◌<◌, ◌≤◌, Bool, List, [], ◌∷◌, ◌++◌, length, take, drop, refl, sym, ◌∙◌, ap, arith, append-nil}
 use Rattle.std.specs.Prelude.{slice_index}
-use Rattle.std.proofs.lemmas.List.{take-take, drop-take, length-take-le}
+use Rattle.std.proofs.lemmas.List.{length-drop, length-take-le, take-append-drop}
+use Rattle.std.proofs.Math.Seq.{take-add}
 use Rattle.hex.specs.Hex.{lower_digits}
 use Rattle.drm_bits.specs.Bits.{value}
-use Rattle.drm_links.specs.Known.{Known}
-use Rattle.drm_links.specs.Sink.{Output, OutputsText}
-use Rattle.drm_links.proofs.KnownLemmas.{OutputsText-weaker}
 use Rattle.report_text.specs.HexBits.{hex_of_bits}
 
--- the digit of the first four bits, and those of the rest
-pub next_digit : (bits : List Bool) → 4 ≤ length bits → hex_of_bits bits ≡ slice_index lower_digits (value (take 4 bits)) ∷ hex_of_bits (drop 4 bits)
-next_digit (a ∷ b ∷ c ∷ d ∷ bits) enough = refl
-next_digit (a ∷ b ∷ c ∷ []) enough = absurd (omega (arith, enough))
-next_digit (a ∷ b ∷ []) enough = absurd (omega (arith, enough))
-next_digit (a ∷ []) enough = absurd (omega (arith, enough))
-next_digit [] enough = absurd (omega (arith, enough))
-
--- fewer bits have none
-pub no_digit : (bits : List Bool) → length bits < 4 → hex_of_bits bits ≡ []
+-- fewer than four bits have none
+no_digit : (bits : List Bool) → length bits < 4 → hex_of_bits bits ≡ []
 no_digit [] few = refl
 no_digit (a ∷ []) few = refl
 no_digit (a ∷ b ∷ []) few = refl
 no_digit (a ∷ b ∷ c ∷ []) few = refl
 no_digit (a ∷ b ∷ c ∷ d ∷ bits) few = absurd (omega (arith, few))
 
--- the digit that was written, and those of the rest
-pub digit_then : (bits new : List Bool) (n digit : ℕ) → 4 ≤ length bits → n ≡ value (take 4 bits) → digit ≡ slice_index lower_digits n → new ≡ drop 4 bits
-    → hex_of_bits bits ≡ (digit ∷ []) ++ hex_of_bits new
-digit_then bits new n digit enough number is rest = rw (is, number, rest) (next_digit bits enough)
+-- four have one
+one_digit : (bits : List Bool) → 4 ≤ length bits → hex_of_bits (take 4 bits) ≡ slice_index lower_digits (value (take 4 bits)) ∷ []
+one_digit (a ∷ b ∷ c ∷ d ∷ bits) enough = refl
+one_digit (a ∷ b ∷ c ∷ []) enough = absurd (omega (arith, enough))
+one_digit (a ∷ b ∷ []) enough = absurd (omega (arith, enough))
+one_digit (a ∷ []) enough = absurd (omega (arith, enough))
+one_digit [] enough = absurd (omega (arith, enough))
 
--- no digit is left
-pub all_digits : (all bits : List Bool) (a b : Known Output) → length bits < 4 → OutputsText a b (λ text. text ++ hex_of_bits bits ≡ hex_of_bits all) → OutputsText a b (λ text. text ≡ hex_of_bits all)
-all_digits all bits a b few done =
-    OutputsText-weaker (λ text. text ++ hex_of_bits bits ≡ hex_of_bits all) (λ text. text ≡ hex_of_bits all) a b done
-    (λ text is. sym (append-nil text) ∙ (ap (λ l. text ++ l) (sym (no_digit bits few)) ∙ is))
+-- behind whole digits those of the rest follow
+digits_then : (front rest : List Bool) (n : ℕ) → length front ≡ 4 * n → hex_of_bits (front ++ rest) ≡ hex_of_bits front ++ hex_of_bits rest
+digits_then [] rest n long = refl
+digits_then (a ∷ []) rest n long = absurd (omega (arith, long))
+digits_then (a ∷ b ∷ []) rest n long = absurd (omega (arith, long))
+digits_then (a ∷ b ∷ c ∷ []) rest n long = absurd (omega (arith, long))
+digits_then (a ∷ b ∷ c ∷ d ∷ front) rest zero long = absurd (omega (arith, long))
+digits_then (a ∷ b ∷ c ∷ d ∷ front) rest (suc n) long =
+    ap (λ l. slice_index lower_digits (value (a ∷ b ∷ c ∷ d ∷ [])) ∷ l) (digits_then front rest n (omega (arith, long)))
 
--- the next one of so many digits, and the others
-pub one_of : (bits new : List Bool) (count i n digit : ℕ) → i < count → 4 * (count - i) ≤ length bits → n ≡ value (take 4 bits) → digit ≡ slice_index lower_digits n → new ≡ drop 4 bits
-    → hex_of_bits (take (4 * (count - i)) bits) ≡ (digit ∷ []) ++ hex_of_bits (take (4 * (count - (i + 1))) new)
-one_of bits new count i n digit below enough number is rest =
-    let all : List Bool = take (4 * (count - i)) bits in
-    let m : ℕ = 4 * (count - (i + 1)) in
-    let long : 4 ≤ length all = omega (arith, below, length-take-le (4 * (count - i)) bits enough) in
-    let first : take 4 all ≡ take 4 bits = take-take 4 (4 * (count - i)) bits (omega (arith, below)) in
-    let size : 4 * (count - i) ≡ 4 + m = omega (arith, below) in
-    let others : drop 4 all ≡ take m new = ap (λ k. drop 4 (take k bits)) size ∙ (drop-take 4 m bits ∙ ap (take m) (sym rest)) in
-    next_digit all long
-    ∙ (ap (λ l. slice_index lower_digits (value l) ∷ hex_of_bits (drop 4 all)) first
-    ∙ (ap (λ l. slice_index lower_digits (value (take 4 bits)) ∷ hex_of_bits l) others
-    ∙ ap (λ d. d ∷ hex_of_bits (take m new)) (ap (λ k. slice_index lower_digits k) (sym number) ∙ sym is)))
+-- the first digits, and the next ones
+pub more_digits : (n m : ℕ) (bits : List Bool) → 4 * n ≤ length bits
+    → hex_of_bits (take (4 * (n + m)) bits) ≡ hex_of_bits (take (4 * n) bits) ++ hex_of_bits (take (4 * m) (drop (4 * n) bits))
+more_digits n m bits enough =
+    let size : 4 * (n + m) ≡ 4 * n + 4 * m = omega arith in
+    ap (λ k. hex_of_bits (take k bits)) size
+    ∙ (ap hex_of_bits (take-add (4 * n) (4 * m) bits)
+    ∙ digits_then (take (4 * n) bits) (take (4 * m) (drop (4 * n) bits)) n (length-take-le (4 * n) bits enough))
 
--- none of them is left
-pub no_digits : (all : List ℕ) (bits : List Bool) (n : ℕ) (a b : Known Output) → n ≡ 0 → OutputsText a b (λ text. text ++ hex_of_bits (take n bits) ≡ all) → OutputsText a b (λ text. text ≡ all)
-no_digits all bits n a b none done =
-    OutputsText-weaker (λ text. text ++ hex_of_bits (take n bits) ≡ all) (λ text. text ≡ all) a b done
-    (λ text is. sym (append-nil text) ∙ (ap (λ k. text ++ hex_of_bits (take k bits)) (sym none) ∙ is))
+-- and the next one
+pub digit_more : (n number digit : ℕ) (bits : List Bool) → 4 * (n + 1) ≤ length bits → number ≡ value (take 4 (drop (4 * n) bits)) → digit ≡ slice_index lower_digits number
+    → hex_of_bits (take (4 * (n + 1)) bits) ≡ hex_of_bits (take (4 * n) bits) ++ digit ∷ []
+digit_more n number digit bits enough is shown =
+    let before = hex_of_bits (take (4 * n) bits) in
+    more_digits n 1 bits (omega (arith, enough))
+    ∙ ap (λ l. before ++ l)
+    (one_digit (drop (4 * n) bits) (omega (arith, enough, length-drop (4 * n) bits))
+    ∙ ap (λ d. d ∷ []) (ap (slice_index lower_digits) (sym is) ∙ sym shown))
+
+-- of all bits
+pub all_digits : (bits : List Bool) (n : ℕ) → n ≡ length bits / 4 → hex_of_bits (take (4 * n) bits) ≡ hex_of_bits bits
+all_digits bits n is =
+    let enough : 4 * n ≤ length bits = omega (arith, is) in
+    let few : length (drop (4 * n) bits) < 4 = omega (arith, is, length-drop (4 * n) bits) in
+    let front = hex_of_bits (take (4 * n) bits) in
+    sym (append-nil front) ∙ (ap (λ l. front ++ l) (sym (no_digit (drop (4 * n) bits) few))
+    ∙ (sym (digits_then (take (4 * n) bits) (drop (4 * n) bits) n (length-take-le (4 * n) bits enough))
+    ∙ ap hex_of_bits (take-append-drop (4 * n) bits)))
+
+-- the first of so many digits, and those that are left
+pub digits_left : (left some : ℕ) (bits rest : List Bool) (digits : List ℕ) → some ≤ left → 4 * left ≤ length bits
+    → digits ≡ hex_of_bits (take (4 * some) bits) → rest ≡ drop (4 * some) bits
+    → hex_of_bits (take (4 * left) bits) ≡ digits ++ hex_of_bits (take (4 * (left - some)) rest)
+digits_left left some bits rest digits few enough shown is =
+    let all : left ≡ some + (left - some) = omega arith in
+    let m : ℕ = 4 * (left - some) in
+    ap (λ k. hex_of_bits (take (4 * k) bits)) all
+    ∙ (more_digits some (left - some) bits (omega (arith, few, enough))
+    ∙ (ap (λ l. l ++ hex_of_bits (take m (drop (4 * some) bits))) (sym shown) ∙ ap (λ b. digits ++ hex_of_bits (take m b)) (sym is)))

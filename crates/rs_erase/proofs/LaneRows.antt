@@ -1,7 +1,7 @@
 -- A row's three vectors as one list.
-use Rattle.std.proofs.Common.{◌≡◌, ℕ, ◌+◌, ◌≤◌, zero, suc, List, [], ◌∷◌, ◌++◌, length, take, drop, map, refl, sym, ap, ap₂, ◌∙◌, subst, arith, bit_xor, Fits, w8}
+use Rattle.std.proofs.Common.{◌≡◌, ℕ, ◌+◌, zero, suc, List, [], ◌∷◌, ◌++◌, length, take, drop, map, refl, sym, ap, ap₂, ◌∙◌, subst, arith, bit_xor, Fits, w8}
 use Rattle.std.proofs.Math.Seq.{drop-drop, take-add}
-use Rattle.std.proofs.lemmas.List.{append_assoc, drop-take, length-append, take-take, take_all}
+use Rattle.std.proofs.lemmas.List.{append_assoc, length-append, take_all}
 use Rattle.std.proofs.lemmas.Simd.{length-put_chunk, take_more_put_chunk}
 use lib.Lanes.{Each1, chunk, put_chunk, zip2}
 use Rattle.gf_field.specs.Field.{times}
@@ -58,11 +58,6 @@ three_read i xs a b c ea eb ec =
     ap₂ (λ (p q : List ℕ). p ++ q) ea
     (ap₂ (λ (p q : List ℕ). p ++ q) eb (ec ∙ ap (λ (k : ℕ). chunk k 16 xs) (let e : i + 32 ≡ i + 16 + 16 = omega arith in e)) ∙ chunk_and (i + 16) 16 16 xs)
     ∙ chunk_and i 16 32 xs
-
--- the elements before a place are the same
-pub chunk_before : (i n m : ℕ) (xs ys : List ℕ) → i + n ≤ m → take m xs ≡ take m ys → chunk i n xs ≡ chunk i n ys
-chunk_before i n m xs ys le e =
-    sym (drop-take i n xs) ∙ ap (drop i) (sym (take-take (i + n) m xs le) ∙ ap (take (i + n)) e ∙ take-take (i + n) m ys le) ∙ drop-take i n ys
 
 pub three_written : (z a b c : List ℕ) → length z ≡ 48 → length a ≡ 16 → length b ≡ 16 → length c ≡ 16
     → put_chunk 32 (put_chunk 16 (put_chunk 0 z a) b) c ≡ a ++ (b ++ c)

@@ -20,4 +20,6 @@ pub mod Decided
 pub mod FoundRows
 pub mod SymbolSums
 pub mod SpacedSums
+pub mod FirstValues
 pub mod SpacedWords
+pub mod ZechSums

@@ -1,20 +1,15 @@
 -- All places but one removed from the syndromes, which leaves its value times a scale.
-use Rattle.std.proofs.Common.{◌≡◌, ◌≢◌, ℕ, ◌+◌, ◌-◌, ◌<◌, ◌≤◌, ◌==◌, if◌then◌else◌, Bool, true, false, zero, suc, List, [], ◌∷◌, length, get_or, drop, replicate, inl, inr, refl, sym, ap, ap₂, ◌∙◌, arith, bit_xor}
+use Rattle.std.proofs.Common.{◌≡◌, ◌≢◌, ℕ, ◌-◌, ◌<◌, ◌≤◌, zero, suc, List, [], ◌∷◌, length, get_or, replicate, refl, sym, ap, ap₂, ◌∙◌, arith, bit_xor}
 use Rattle.std.specs.Int.Bits.{xor_assoc, xor_self, xor_zero_r}
-use Rattle.std.proofs.lemmas.Bool.{cases_eq, eq-eqb, ne_eqb}
-use Rattle.std.proofs.lemmas.List.{drop_all}
 use Rattle.std.proofs.lemmas.Nat.{xor_comm, xor_of_8}
-use Rattle.gf_field.specs.Field.{power, times}
+use Rattle.gf_field.specs.Field.{times}
 use Rattle.gf_field.proofs.Inverse.{zero_of_times}
 use Rattle.gf_field.proofs.Polynomial.{same_from_xor, xor_four}
-use Rattle.gf_field.proofs.Powers.{power-lt, power_add}
-use Rattle.gf_field.specs.Laws.{AreLogarithms, ArePowers}
-use Rattle.gf_field.specs.declared.logarithms.TheConstants.{LOGS, POWERS}
-use Rattle.gf_field.proofs.Times.{one_times, times-lt, times_assoc, times_comm, times_one, times_xor, times_zero, zero_times}
+use Rattle.gf_field.proofs.Times.{times-lt, times_assoc, times_comm, times_one, times_xor, times_zero, zero_times}
 use Rattle.rs_erase.specs.Equations.{AreLocators, IsNoneOf, ValuesSolve, SumsFrom, nth_power, power_sum, remaining_syndromes, remaining_values}
 use Rattle.rs_erase.specs.FromZero.{syndromes_without}
 use Rattle.rs_erase.specs.Polynomial.{add, scale}
-use Rattle.rs_erase.specs.Prepared.{geometric, others_product, scale_of, sums_product, without}
+use Rattle.rs_erase.specs.Prepared.{geometric, scale_of, sums_product, without}
 use Rattle.rs_erase.proofs.Elements.{cons_elements, elements_head, elements_tail}
 use Rattle.rs_erase.proofs.EquationLoops.{length_remaining_syndromes}
 use Rattle.rs_erase.proofs.OnePlaceLess.{rest_solves, swap}
@@ -195,14 +190,6 @@ no_sum y (x ∷ xs) zero lt e =
     ap (λ (z : ℕ). times (bit_xor y z) (sums_product y xs)) e ∙ ap (λ (z : ℕ). times z (sums_product y xs)) (xor_self y) ∙ zero_times (sums_product y xs)
 no_sum y (x ∷ xs) (suc k) lt e = ap (times (bit_xor y x)) (no_sum y xs k (omega arith) e) ∙ times_zero (bit_xor y x)
 
-pub no_sum_among : (y : ℕ) (xs : List ℕ) (j k : ℕ) → j ≢ k → k < length xs → get_or xs k 0 ≡ y → sums_product y (without j xs) ≡ 0
-no_sum_among y [] j k ne lt e = absurd (omega arith)
-no_sum_among y (x ∷ xs) zero zero ne lt e = absurd (ne refl)
-no_sum_among y (x ∷ xs) zero (suc k) ne lt e = no_sum y xs k (omega arith) e
-no_sum_among y (x ∷ xs) (suc j) zero ne lt e = no_sum y (x ∷ without j xs) 0 (omega arith) e
-no_sum_among y (x ∷ xs) (suc j) (suc k) ne lt e =
-    ap (times (bit_xor y x)) (no_sum_among y xs j k (λ q. ne (ap (λ (n : ℕ). suc n) q)) (omega arith) e) ∙ times_zero (bit_xor y x)
-
 pub sums_with : (y : ℕ) (xs : List ℕ) (j : ℕ) → j < length xs → sums_product y xs ≡ times (bit_xor y (get_or xs j 0)) (sums_product y (without j xs))
 sums_with y [] j lt = absurd (omega arith)
 sums_with y (x ∷ xs) zero lt = refl
@@ -246,76 +233,3 @@ scale_positive xs j lo lt pos =
     product-lt : (y : ℕ) (zs : List ℕ) → sums_product y zs < 256
     product-lt y [] = omega arith
     product-lt y (z ∷ zs) = times-lt (bit_xor y z) (sums_product y zs)
-
--- the product of those that y isn't among
-pub others_of_none : (y : ℕ) (xs : List ℕ) → IsNoneOf y xs → others_product y xs ≡ sums_product y xs
-others_of_none y [] h = refl
-others_of_none y (x ∷ xs) h =
-    ap (λ (b : Bool). if b then others_product y xs else times (bit_xor y x) (others_product y xs)) (ne_eqb y x (λ e. h.0 (sym e)))
-    ∙ ap (times (bit_xor y x)) (others_of_none y xs h.1)
-
--- and where it is the j-th of them
-pub others_of_one : (xs : List ℕ) (j : ℕ) → AreLocators xs → j < length xs → others_product (get_or xs j 0) xs ≡ sums_product (get_or xs j 0) (without j xs)
-others_of_one [] j lo lt = absurd (omega arith)
-others_of_one (x ∷ xs) zero lo lt =
-    ap (λ (b : Bool). if b then others_product x xs else times (bit_xor x x) (others_product x xs)) (eq-eqb x x refl)
-    ∙ others_of_none x xs lo.2
-others_of_one (x ∷ xs) (suc j) lo lt =
-    let y = get_or xs j 0 in
-    ap (λ (b : Bool). if b then others_product y xs else times (bit_xor y x) (others_product y xs)) (ne_eqb y x (none_at x xs lo.2 j (omega arith)))
-    ∙ ap (times (bit_xor y x)) (others_of_one xs j lo.3 (omega arith))
-
--- ---- by logarithms
-
-power_of_logarithm : AreLogarithms LOGS POWERS → ArePowers POWERS → (v : ℕ) → 0 < v → v < 256 → power (get_or LOGS v 0) ≡ v
-power_of_logarithm logs powers v pos lt =
-    sym (powers (get_or LOGS v 0) (logs.below v pos lt)) ∙ logs.power v pos lt
-
-one_factor : AreLogarithms LOGS POWERS → ArePowers POWERS → (y x sum : ℕ) (xs : List ℕ) → y < 256 → x < 256
-    → times (power (sum + get_or LOGS (bit_xor y x) 0)) (others_product y xs) ≡ times (power sum) (others_product y (x ∷ xs))
-one_factor logs powers y x sum xs ly lx =
-    let d = bit_xor y x in
-    let r = others_product y xs in
-    elim (cases_eq y x) [
-      | inl e ↦
-          let none : d ≡ 0 = ap (bit_xor y) (sym e) ∙ xor_self y in
-          let nothing : sum + get_or LOGS d 0 ≡ sum = let l : get_or LOGS d 0 ≡ 0 = ap (λ (n : ℕ). get_or LOGS n 0) none ∙ logs.none in omega arith in
-          ap (λ (n : ℕ). times (power n) r) nothing
-          ∙ ap (λ (b : Bool). times (power sum) (if b then r else times d r)) (sym (eq-eqb y x e))
-      | inr ne ↦
-          let apart : d ≡ 0 → ⊥ = λ e. ne (same_from_xor y x e) in
-          let is : power (get_or LOGS d 0) ≡ d = power_of_logarithm logs powers d (omega (arith, apart)) (xor_of_8 y x ly lx) in
-          ap (λ (n : ℕ). times n r) (power_add sum (get_or LOGS d 0) ∙ ap (times (power sum)) is)
-          ∙ times_assoc (power sum) d r
-          ∙ ap (λ (b : Bool). times (power sum) (if b then r else times d r)) (sym (ne_eqb y x ne))
-    ]
-
-at_drop : (k : ℕ) (xs : List ℕ) → k < length xs → drop k xs ≡ get_or xs k 0 ∷ drop (k + 1) xs
-at_drop k [] lt = absurd (omega arith)
-at_drop zero (x ∷ xs) lt = refl
-at_drop (suc k) (x ∷ xs) lt =
-    at_drop k xs (omega arith) ∙ ap (λ (n : ℕ). get_or xs k 0 ∷ drop n (x ∷ xs)) (let e : suc (k + 1) ≡ suc k + 1 = omega arith in e)
-
--- one locator more, of which l is the logarithm of the sum
-pub next_factor : AreLogarithms LOGS POWERS → ArePowers POWERS → (y l sum i whole : ℕ) (xs : List ℕ) → i < length xs → y < 256 → get_or xs i 0 < 256 → l ≡ get_or LOGS (bit_xor y (get_or xs i 0)) 0
-    → times (power sum) (others_product y (drop i xs)) ≡ whole → times (power (sum + l)) (others_product y (drop (i + 1) xs)) ≡ whole
-next_factor logs powers y l sum i whole xs lt ly lx is h =
-    ap (λ (n : ℕ). times (power (sum + n)) (others_product y (drop (i + 1) xs))) is
-    ∙ one_factor logs powers y (get_or xs i 0) sum (drop (i + 1) xs) ly lx
-    ∙ ap (λ (zs : List ℕ). times (power sum) (others_product y zs)) (sym (at_drop i xs lt)) ∙ h
-
-pub all_factors : (y sum n whole : ℕ) (xs : List ℕ) → length xs ≤ n → times (power sum) (others_product y (drop n xs)) ≡ whole → power sum ≡ whole
-all_factors y sum n whole xs le h =
-    sym (ap (λ (zs : List ℕ). times (power sum) (others_product y zs)) (drop_all n xs le) ∙ times_one (power sum) (power-lt sum)) ∙ h
-
-pub others-lt : (y : ℕ) (xs : List ℕ) → others_product y xs < 256
-others-lt y [] = omega arith
-others-lt y (x ∷ xs) = by (y == x) (others_product y xs) (others-lt y xs)
-  where
-    by : (b : Bool) (r : ℕ) → r < 256 → (if b then r else times (bit_xor y x) r) < 256
-    by true r lt = lt
-    by false r lt = times-lt (bit_xor y x) r
-
-pub no_factor : (y : ℕ) (xs : List ℕ) → times (power 0) (others_product y (drop 0 xs)) ≡ others_product y xs
-unfolding power
-no_factor y xs = one_times (others_product y xs) (others-lt y xs)

@@ -1,6 +1,5 @@
 -- What the lanes of spaced places come to.
-use Rattle.std.proofs.Common.{◌≡◌, ◌≢◌, ℕ, zero, suc, ◌+◌, ◌-◌, ◌*◌, ◌<◌, ◌≤◌, true, false, List, [], ◌∷◌, Option, Some, None, is_some, true≢false, length, get_or, get_or-set_other, slice_set, take, drop, map, replicate, refl, sym, ap, ap₂, ◌∙◌, subst, arith, bit_xor}
-use Rattle.std.specs.Option.{IfSome}
+use Rattle.std.proofs.Common.{◌≡◌, ◌≢◌, ℕ, zero, suc, ◌+◌, ◌-◌, ◌*◌, ◌<◌, ◌≤◌, List, [], ◌∷◌, length, get_or, get_or-set_other, slice_set, take, drop, map, replicate, refl, sym, ap, ap₂, ◌∙◌, subst, arith, bit_xor}
 use Rattle.std.proofs.lemmas.List.{get_or-drop, get_or-map, get_or-take, length-drop, length-map, length-take-le}
 use lib.Lanes.{chunk}
 use Rattle.std.proofs.lemmas.Nat.{xor_comm}
@@ -16,7 +15,7 @@ use Rattle.rs_erase.specs.Prepared.{AreWeights, sums_product, syndromes_of_symbo
 use Rattle.rs_erase.specs.Spaced.{AreFactors, AreInMessage, AreLanes, IsSpaced, IsSpacing, spaced_sum}
 use Rattle.rs_erase.proofs.FoundRows.{added_at, first_of_symbol, left_of_sum, left_of_symbol}
 use Rattle.rs_erase.proofs.OnePlaceLess.{swap}
-use Rattle.rs_erase.proofs.OtherPlaces.{geometric_at, length_geometric, length_others, no_sum, sums_with, zero_at, zeros_without}
+use Rattle.rs_erase.proofs.OtherPlaces.{geometric_at, length_geometric, length_others, sums_with, zero_at, zeros_without}
 use Rattle.rs_erase.proofs.RootSums.{HasSummed, none_summed, one_summed}
 use Rattle.rs_erase.proofs.SymbolSums.{table_row}
 
@@ -132,7 +131,7 @@ row_length table row f r room is =
 
 -- ---- places
 
-rises_by : (es : List ℕ) → ArePlaces es → (j n : ℕ) → j + n < length es → get_or es j 0 ≤ get_or es (j + n) 0
+pub rises_by : (es : List ℕ) → ArePlaces es → (j n : ℕ) → j + n < length es → get_or es j 0 ≤ get_or es (j + n) 0
 rises_by es h j zero lt = let e : j + 0 ≡ j = omega arith in subst (λ (k : ℕ). get_or es j 0 ≤ get_or es k 0) (sym e) (omega arith)
 rises_by es h j (suc n) lt =
     let next : j + n + 1 ≡ j + suc n = omega arith in
@@ -149,15 +148,6 @@ in_message_to es j h lt before here = record {
       let up = subst (λ (n : ℕ). get_or es j 0 ≤ get_or es n 0) e (rises_by es h j (k - j) (omega arith)) in
       omega arith;
 }
-
-pub sum_if_some : (y : ℕ) (xs : List ℕ) (found : Option ℕ) → is_some found ≡ true → IfSome found (λ j. j < length xs) → IfSome found (λ j. get_or xs j 0 ≡ y)
-    → 0 ≡ sums_product y xs
-sum_if_some y xs None some within is = absurd (true≢false (sym some))
-sum_if_some y xs (Some j) some within is = sym (no_sum y xs j within is)
-
-pub none_if_not : (found : Option ℕ) → is_some found ≡ false → found ≡ None
-none_if_not None e = refl
-none_if_not (Some j) e = absurd (true≢false e)
 
 -- ---- the message
 

@@ -6,4 +6,5 @@ pub mod FromZero
 pub mod Register
 pub mod Rows
 pub mod Prepared
+pub mod Zech
 pub mod Spaced

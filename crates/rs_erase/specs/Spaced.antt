@@ -4,12 +4,20 @@ use Rattle.gf_field.specs.Field.{power, times}
 use Rattle.rs_erase.specs.Code.{AgreesOutside, ArePlaces, IsCodeWord}
 use Rattle.rs_erase.specs.Equations.{locators_of}
 use Rattle.rs_erase.specs.Prepared.{AreWeights, sums_product}
+use Rattle.rs_erase.specs.Zech.{AreRunningSums}
+use Rattle.rs_erase.specs.declared.zech_logarithms.TheConstants.{ZECH_LOGARITHMS}
 
 -- the i-th element of the r-th row of 16 is 1 divided by the sum of 1 and 2 to the r - distance * i
 abbrev pub IsSpacing : ℕ → List ℕ → Type 0
 IsSpacing distance table =
     (r i : ℕ) → r < 255 → i < 16 → distance * i < r
     → times (slice_index table (16 * r + i)) (bit_xor (power (r - distance * i)) 1) ≡ 1
+
+-- what is prepared for a distance
+pub record IsPreparedSpacing (distance : ℕ) (table running : List ℕ) : Type 0 where
+  pub small : distance < 256
+  pub spacing : IsSpacing distance table
+  pub sums : AreRunningSums ZECH_LOGARITHMS distance running
 
 -- the sum of the first n symbols, each times the i-th element of its row: the first one's is the r-th, and so on
 unfoldable pub spaced_sum : List ℕ → List ℕ → ℕ → ℕ → ℕ → ℕ

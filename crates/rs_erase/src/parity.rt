@@ -71,10 +71,24 @@ fn take_in(register: Row, symbols: u8x16) -> Row
         second: register.third,
         third: u8x16::splat(0),
     };
-    for k in 0..16usize {
-        next = with_multiple(next, k, leaving[k]);
+    for four in 0..4usize {
+        next = with_four_multiples(next, four, &leaving);
     }
     next
+}
+
+/// Adds what remains of four of the coefficients that left the register. They stand one by one, so that each finds its rows at a
+/// known place.
+fn with_four_multiples(register: Row, four: usize, leaving: &[u8; 16]) -> Row
+    requires { four < 4 }
+    ensures { (moved : List ℕ) → HasTaken leaving.now moved (listed register) (4 * four)
+        → HasTaken leaving.now moved (listed result) (4 * four + 4) }
+{
+    let k = 4 * four;
+    let one = with_multiple(register, k, leaving[k]);
+    let two = with_multiple(one, k + 1, leaving[k + 1]);
+    let three = with_multiple(two, k + 2, leaving[k + 2]);
+    with_multiple(three, k + 3, leaving[k + 3])
 }
 
 /// Adds what remains of the k-th coefficient that left the register, as the multiple by its low four bits and by its high ones.

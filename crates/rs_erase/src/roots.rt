@@ -10,8 +10,9 @@ ghost use Rattle.rs_erase.specs.Rows.{listed};
 
 use crate::parity::remainder_of;
 use crate::root_powers::ROOT_POWERS;
-use crate::row::Row;
-use gf_field::Gf;
+use crate::row::{Row, lanes_from};
+use gf_field::{Gf, scaled};
+use std::simd::prelude::*;
 
 /// The values of the word at the roots 2, 2 to the 2 and on to 2 to the 48 of the generator, in this order.
 /// Example: `syndromes(&[0xff; 255])` is `[Gf(0); 48]`.
@@ -50,6 +51,17 @@ pub fn values_of(symbols: &[u8; 48]) -> Row
     let mut values = Row::zeros();
     for p in 0..48usize {
         values = values.plus_multiple(symbols[p], powers_of_roots(p));
+    }
+    values
+}
+
+/// The values at the first sixteen roots.
+pub fn first_values_of(symbols: &[u8; 48]) -> u8x16
+    ensures { (j : ℕ) → j < 16 → slice_index result j ≡ word_value (power (j + 1)) symbols.now }
+{
+    let mut values = u8x16::splat(0);
+    for p in 0..48usize {
+        values = values ^ scaled(lanes_from(&ROOT_POWERS, 16 * (3 * p)), symbols[p]);
     }
     values
 }

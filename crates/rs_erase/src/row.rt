@@ -64,17 +64,6 @@ impl Row {
         })
     }
 
-    /// This multiple of the elements.
-    pub fn times(self, factor: u8) -> Row
-        ensures { listed result ≡ scale factor (listed self) }
-    {
-        Row {
-            first: scaled(self.first, factor),
-            second: scaled(self.second, factor),
-            third: scaled(self.third, factor),
-        }
-    }
-
     /// The elements from the second on, and a zero.
     pub fn from_second(self) -> Row
         ensures { listed result ≡ drop 1 (listed self) ++ 0 ∷ [] }
@@ -93,15 +82,6 @@ impl Row {
     {
         let lanes = self.first.to_array();
         lanes[0]
-    }
-
-    /// Writes the elements from this place on.
-    pub fn write(self, bytes: &mut [u8], place: usize)
-        requires { place + 48 ≤ length bytes.old }
-        ensures there { chunk place 48 bytes.new ≡ listed self }
-        ensures before { take place bytes.new ≡ take place bytes.old }
-    {
-        bytes[place..place + 48].copy_from_slice(&self.to_bytes());
     }
 
     /// The elements, one after another.

@@ -3,24 +3,22 @@
 ghost use Rattle.std.specs.Prelude.{◌≡◌, ◌<◌, ◌≤◌, ◌↔◌, ◌+◌, ◌-◌, ◌*◌, ◌^◌, ℕ, List, length, slice_index, IfSome, IsErrOf, IsOk, IsTrue, OnOk, OnErr};
 ghost use Rattle.gf_field.specs.Field.{power, times};
 ghost use Rattle.rs_erase.specs.Code.{ArePlaces, HasCodeWord};
-ghost use Rattle.rs_erase.specs.Equations.{word_value, word_with, AreLocators};
-ghost use Rattle.rs_erase.specs.Prepared.{sums_product};
-ghost use Rattle.rs_erase.specs.Spaced.{spaced_sum, AreFactors, AreInMessage, HasMessage};
+ghost use Rattle.rs_erase.specs.Equations.{word_value, word_with};
+ghost use Rattle.rs_erase.specs.Spaced.{spaced_sum, AreInMessage, HasMessage};
 
 use crate::equations::are_zero;
 use crate::fault::SolveFault;
-use crate::places::write_locators;
-use crate::prepared::{place_among, product_with_others, write_weights};
-use crate::roots::{values_of, word_remainder};
+use crate::roots::{first_values_of, values_of, word_remainder};
 use crate::row::{lanes_from, write_lanes};
 use crate::runs::{RUNS, runs_of};
 use crate::spacing::Spacing;
+use crate::zech_sums::{factors_by, sums_at, write_weights_by};
 use gf_field::{Gf, scaled};
 use std::marker::Model;
 use std::simd::prelude::*;
 
-/// At most 48 erased places, of which those of the message stand in runs at one distance, prepared for many words. It holds
-/// much less than a `Pattern`, but fills the message alone.
+/// At most 48 erased places, of which those of the message stand in runs at one distance, prepared for many words. By
+/// it the message alone is filled.
 #[derive(Drop)]
 pub struct SpacedPattern {
     distance: u8,
@@ -51,11 +49,15 @@ impl Model for SpacedPattern {
 
 impl SpacedPattern {
     /// Prepares for these erased places, where those of the message make at most six runs of sixteen at this distance.
-    pub fn prepare(erased: &[u8], distance: u8) -> Option<SpacedPattern>
+    pub fn prepare(erased: &[u8], spacing: &Spacing) -> Option<SpacedPattern>
         requires places { ArePlaces erased.now }
         requires enough { length erased.now ≤ 48 }
-        ensures { IfSome result (λ pattern. pattern ≡ record { places = erased.now; distance = distance }) }
+        ensures { IfSome result (λ pattern. pattern ≡ record { places = erased.now; distance = spacing.now }) }
     {
+        let distance = spacing.distance();
+        if distance == 0 {
+            return None;
+        }
         let count = erased.len();
         let message = in_message(erased);
         let mut lanes = [0; 48];
@@ -65,11 +67,10 @@ impl SpacedPattern {
         }
         let mut places = [0; 48];
         places[..count].copy_from_slice(erased);
-        let mut locators = [Gf(0); 48];
-        write_locators(&mut locators[..count], erased);
+        let sums = sums_at(erased, usize::from(distance), &spacing.running);
         let mut weights = [Gf(0); 48];
-        write_weights(&mut weights[..count], &locators[..count]);
-        let factors = factors_of(&locators[..count]);
+        write_weights_by(&mut weights[..count], erased, &sums);
+        let factors = factors_by(erased, &sums);
         Some(SpacedPattern {
             distance,
             count,
@@ -95,32 +96,6 @@ fn in_message(places: &[u8]) -> usize
         }
     }
     places.len()
-}
-
-/// For each symbol of a parity the product of the sums of its locator and these.
-fn factors_of(locators: &[Gf]) -> [u8; 48]
-    requires locators { AreLocators locators.now }
-    requires enough { length locators.now ≤ 48 }
-    ensures { AreFactors locators.now result }
-{
-    let mut factors = [0; 48];
-    for p in 0..48usize {
-        factors[p] = product_of_sums(Gf::power(47 - p as u32), locators).0;
-    }
-    factors
-}
-
-/// The product of the sums of this one and each of the locators.
-fn product_of_sums(locator: Gf, locators: &[Gf]) -> Gf
-    requires element { locator < 2 ^ 8 }
-    requires locators { AreLocators locators.now }
-    requires enough { length locators.now ≤ 48 }
-    ensures { result ≡ sums_product locator locators.now }
-{
-    if place_among(locators, locator).is_some() {
-        return Gf(0);
-    }
-    product_with_others(locator, locators)
 }
 
 /// Fills those of the erased places that are in the message, if there is a code word that agrees with the word at all
@@ -165,7 +140,26 @@ fn leaves_nothing(symbols: &[u8; 48], count: usize) -> bool
     requires { count ≤ 48 }
     ensures { IsTrue result ↔ ((i : ℕ) → i < 48 - count → word_value (power (i + 1)) symbols.now ≡ 0) }
 {
-    count == 48 || are_zero(&values_of(symbols).to_bytes()[..48 - count])
+    if count < 32 {
+        return begin_with_zeros(symbols, 48 - count);
+    }
+    count == 48 || begin_with_few_zeros(symbols, 48 - count)
+}
+
+/// Whether so many of the values of these symbols at the roots are 0.
+fn begin_with_zeros(symbols: &[u8; 48], count: usize) -> bool
+    requires { count ≤ 48 }
+    ensures { IsTrue result ↔ ((i : ℕ) → i < count → word_value (power (i + 1)) symbols.now ≡ 0) }
+{
+    are_zero(&values_of(symbols).to_bytes()[..count])
+}
+
+/// The same of at most sixteen.
+fn begin_with_few_zeros(symbols: &[u8; 48], count: usize) -> bool
+    requires { count ≤ 16 }
+    ensures { IsTrue result ↔ ((i : ℕ) → i < count → word_value (power (i + 1)) symbols.now ≡ 0) }
+{
+    are_zero(&first_values_of(symbols).to_array()[..count])
 }
 
 /// What the lanes of each run come to, sixteen after sixteen.

@@ -6,6 +6,7 @@
 ghost use Rattle.std.specs.Prelude.{◌≡◌, ◌<◌, ◌+◌, ◌*◌, ◌-◌, ℕ, bit_xor, slice_index};
 ghost use Rattle.gf_field.specs.Field.{power, times};
 
+use crate::zech_sums::running_sums;
 use gf_field::Gf;
 use std::marker::Model;
 
@@ -14,17 +15,18 @@ use std::marker::Model;
 pub struct Spacing {
     distance: u8,
     pub(crate) table: [u8; 4096],
+    pub(crate) running: [u32; 768],
 }
 
 impl Model for Spacing {
     ghost use Rattle.std.specs.Prelude.{ℕ};
-    ghost use Rattle.rs_erase.specs.Spaced.{IsSpacing};
+    ghost use Rattle.rs_erase.specs.Spaced.{IsPreparedSpacing};
 
     ghost Value = { ℕ };
 
     ghost view = { λ s. s.distance };
 
-    ghost invariant = { λ s. IsSpacing s.distance s.table };
+    ghost invariant = { λ s. IsPreparedSpacing s.distance s.table s.running };
 }
 
 impl Spacing {
@@ -37,7 +39,11 @@ impl Spacing {
         for row in 0..255usize {
             write_row(&mut table, row, usize::from(distance), &quotients);
         }
-        Spacing { distance, table }
+        Spacing {
+            distance,
+            table,
+            running: running_sums(usize::from(distance)),
+        }
     }
 
     /// The distance.

@@ -1,3 +1,4 @@
 pub mod Positions
 pub mod Marks
 pub mod Patterns
+pub mod Listed

@@ -15,6 +15,7 @@
 
 mod erased;
 mod patterns;
+mod spacings;
 
 pub use erased::next_index;
 pub use patterns::Patterns;

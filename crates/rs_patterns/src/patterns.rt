@@ -1,6 +1,6 @@
 //! Patterns of erased places that are kept, prepared for chunks before.
 
-ghost use Rattle.std.specs.Prelude.{◌≡◌, ◌+◌, ◌<◌, ◌≤◌, ◌↔◌, true, length, take, IfOk, IfSome, IsOk, OnOk};
+ghost use Rattle.std.specs.Prelude.{◌≡◌, ◌+◌, ◌%◌, ◌<◌, ◌≤◌, ◌↔◌, true, length, take, IfOk, IfSome, IsOk, OnOk};
 ghost use Rattle.rs_erase.specs.Code.{HasCodeWord};
 ghost use Rattle.rs_erase.specs.Spaced.{HasMessage};
 ghost use Rattle.rs_patterns.specs.Positions.{erased_positions};
@@ -8,6 +8,7 @@ ghost use Rattle.rs_patterns.specs.Patterns.{AreKept, IsErased, IsFor, IsWellFor
 ghost use Rattle.rs_patterns.specs.Marks.{is_marked};
 
 use crate::erased::write_erased;
+use crate::spacings::Spacings;
 use drm_bits::NoMemory;
 use rs_erase::{SolveFault, SpacedPattern, Spacing, solve, solve_spaced};
 use std::alloc::Global;
@@ -30,7 +31,7 @@ pub(crate) struct Kept {
     pub(crate) k: usize,
     pub(crate) first: usize,
     pub(crate) marks: [bool; MOST_MARKS],
-    // To prepare it costs as much as to solve a few words without it, so that waits until such a chunk comes again.
+    // None where the erased bytes stand in too many runs.
     pub(crate) pattern: Option<SpacedPattern>,
 }
 
@@ -43,7 +44,7 @@ pub struct Patterns {
     // For each set of two places whether the second was used last.
     second: [bool; SETS],
     // Of places that belong to one fragment.
-    spacing: Spacing,
+    spacings: Spacings,
     kept: Vec<Kept>,
 }
 
@@ -65,7 +66,7 @@ impl Patterns {
         let kept = no_patterns(alloc)?;
         Ok(Patterns {
             second: [false; SETS],
-            spacing: Spacing::prepare(1),
+            spacings: Spacings::make(),
             kept,
         })
     }
@@ -86,32 +87,14 @@ impl Patterns {
         if count > MOST_MARKS {
             return solve_once(marks, count, k, start, word);
         }
-        space_by(&mut self.spacing, count);
+        self.spacings.turn_to(count);
         let first = start % count;
         let set = first % SETS;
         let second = is_second(&self.kept, self.second[set], set, marks, count, k, first);
         self.second[set] = second;
         let place = if second { set + SETS } else { set };
-        solve_at(
-            &mut self.kept,
-            place,
-            &self.spacing,
-            marks,
-            count,
-            k,
-            start,
-            word,
-        )
-    }
-}
-
-// Sees to it that this is for bytes of one fragment of so many.
-fn space_by(spacing: &mut Spacing, count: usize)
-    requires { count ≤ 64 }
-    ensures { spacing.new ≡ count }
-{
-    if usize::from(spacing.distance()) != count {
-        *spacing = Spacing::prepare(count as u8);
+        let spacing = self.spacings.last();
+        solve_at(&mut self.kept, place, spacing, marks, count, k, start, word)
     }
 }
 
@@ -174,7 +157,7 @@ fn have_same(marks: &[bool], others: &[bool], count: usize) -> bool
     marks[..count] == others[..count]
 }
 
-// Solves by the pattern at a place, where it is for the chunk; else that is noted there.
+// Solves by the pattern at a place, which is made the chunk's.
 fn solve_at(
     kept: &mut [Kept],
     place: usize,
@@ -197,7 +180,7 @@ fn solve_at(
     solve_kept(&mut kept[place], spacing, marks, count, k, start, word)
 }
 
-// Solves by this pattern, where it is for the chunk; else that is noted.
+// Solves by this pattern, which is made the chunk's.
 fn solve_kept(
     kept: &mut Kept,
     spacing: &Spacing,
@@ -215,21 +198,41 @@ fn solve_kept(
     ensures solved { IsOk result ↔ HasCodeWord (erased_positions count (is_marked marks.now) start k (k + 48)) word.old }
     ensures message { OnOk result (HasMessage (erased_positions count (is_marked marks.now) start k (k + 48)) word.old word.new) }
 {
-    if !is_for(kept, marks, count, k, start % count) {
-        note(kept, marks, count, k, start % count);
-    } else if let Some(pattern) = &kept.pattern {
+    make_ready(kept, spacing, marks, count, k, start);
+    if let Some(pattern) = &kept.pattern {
         return solve_spaced(pattern, spacing, word);
-    } else {
-        kept.pattern = prepare(marks, count, k, start);
     }
     solve_once(marks, count, k, start, word)
+}
+
+// Sees to it that it is for these chunks, with their pattern, where they have one.
+fn make_ready(
+    kept: &mut Kept,
+    spacing: &Spacing,
+    marks: &[bool],
+    count: usize,
+    k: usize,
+    start: usize,
+)
+    requires right { IsWellFormed kept.old }
+    requires spaced { spacing.now ≡ count }
+    requires within_limit { count ≤ 64 }
+    requires erased { IsErased count k start marks.now }
+    ensures right { IsWellFormed kept.new }
+    ensures is_for { IsFor kept.new count k (start % count) marks.now }
+{
+    if !is_for(kept, marks, count, k, start % count) {
+        note(kept, marks, count, k, start % count);
+        kept.pattern = prepare(spacing, marks, count, k, start);
+    }
 }
 
 // From now on it is for these chunks, without a pattern.
 fn note(kept: &mut Kept, marks: &[bool], count: usize, k: usize, first: usize)
     requires within_limit { count ≤ 64 }
     requires room { count ≤ length marks.now }
-    ensures { IsWellFormed kept.new }
+    ensures right { IsWellFormed kept.new }
+    ensures is_for { IsFor kept.new count k first marks.now }
 {
     kept.count = count;
     kept.k = k;
@@ -242,12 +245,20 @@ fn note(kept: &mut Kept, marks: &[bool], count: usize, k: usize, first: usize)
 fn copy_first(marks: &mut [bool], others: &[bool], count: usize)
     requires room { count ≤ length marks.old }
     requires other_room { count ≤ length others.now }
+    ensures { take count marks.new ≡ take count others.now }
 {
     marks[..count].copy_from_slice(&others[..count]);
 }
 
 // The pattern of the chunk that starts at a place, if its erased bytes belong to few fragments.
-fn prepare(marks: &[bool], count: usize, k: usize, start: usize) -> Option<SpacedPattern>
+fn prepare(
+    spacing: &Spacing,
+    marks: &[bool],
+    count: usize,
+    k: usize,
+    start: usize,
+) -> Option<SpacedPattern>
+    requires spaced { spacing.now ≡ count }
     requires erased { IsErased count k start marks.now }
     requires within_limit { count ≤ 64 }
     ensures { IfSome result (λ pattern. pattern
@@ -255,7 +266,7 @@ fn prepare(marks: &[bool], count: usize, k: usize, start: usize) -> Option<Space
 {
     let mut positions = [0; 255];
     let erased = write_erased(marks, count, k, start, &mut positions);
-    SpacedPattern::prepare(&positions[..erased], count as u8)
+    SpacedPattern::prepare(&positions[..erased], spacing)
 }
 
 // Solves without a pattern.

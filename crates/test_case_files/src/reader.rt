@@ -25,7 +25,7 @@ enum PieceTarget {
 
 /// The list to which datagrams are appended.
 #[derive(Drop)]
-enum Group {
+enum CaseGroup {
     Absent,
     List(String),
     Link(LinkCase),
@@ -40,7 +40,7 @@ pub struct Reader {
     lists: BTreeMap<String, Vec<Vec<u8>>>,
     part: PieceTarget,
     bytes: Vec<u8>,
-    group: Group,
+    group: CaseGroup,
     datagrams: Vec<Vec<u8>>,
     case: Option<Case>,
     last: Option<CaseKeyword>,
@@ -54,7 +54,7 @@ impl Reader {
             lists: BTreeMap::new(alloc),
             part: PieceTarget::Absent,
             bytes: Vec::new(alloc),
-            group: Group::Absent,
+            group: CaseGroup::Absent,
             datagrams: Vec::new(alloc),
             case: None,
             last: None,
@@ -131,7 +131,7 @@ impl Reader {
     }
 
     fn datagram(&mut self, digits: &str) -> Result<()> {
-        if matches!(&self.group, Group::Absent) {
+        if matches!(&self.group, CaseGroup::Absent) {
             bail!("a datagram of no list");
         }
         self.part = PieceTarget::Datagram;
@@ -143,7 +143,7 @@ impl Reader {
         let Some(list) = self.lists.get(name) else {
             bail!("no list has the name {name:?}");
         };
-        if matches!(&self.group, Group::Absent) {
+        if matches!(&self.group, CaseGroup::Absent) {
             bail!("datagrams of no list");
         }
         let (first, last) = bounds(places, list.len())?;
@@ -157,7 +157,7 @@ impl Reader {
 
     fn answer(&mut self, keyword: &str, rest: &str) -> Result<()> {
         let brought = self.datagrams.len() as u64;
-        let Group::Link(link) = &mut self.group else {
+        let CaseGroup::Link(link) = &mut self.group else {
             bail!("{keyword} stands below no link");
         };
         match keyword {
@@ -179,19 +179,19 @@ impl Reader {
 
     fn end_group(&mut self) -> Result<()> {
         let datagrams = mem::replace(&mut self.datagrams, Vec::new(self.alloc));
-        match mem::replace(&mut self.group, Group::Absent) {
-            Group::Absent => {}
-            Group::List(name) => {
+        match mem::replace(&mut self.group, CaseGroup::Absent) {
+            CaseGroup::Absent => {}
+            CaseGroup::List(name) => {
                 self.lists.insert(name, datagrams)?;
             }
-            Group::Link(link) => match &mut self.case {
+            CaseGroup::Link(link) => match &mut self.case {
                 Some(case) if case.links.iter().any(|other| other.at == link.at) => {
                     bail!("two links stand at one address")
                 }
                 Some(case) => case.links.push(LinkCase { datagrams, ..link })?,
                 None => bail!("no case has begun"),
             },
-            Group::Sent(at) => match &mut self.case {
+            CaseGroup::Sent(at) => match &mut self.case {
                 Some(case) => case.sent.push(SentCase { at, datagrams })?,
                 None => bail!("no case has begun"),
             },
@@ -209,7 +209,7 @@ impl Reader {
             }
             "let" | "list" if self.case.is_some() => bail!("{keyword} stands behind a case"),
             "let" => self.part = PieceTarget::Let(String::from_str(self.alloc, rest)?),
-            "list" => self.group = Group::List(String::from_str(self.alloc, rest)?),
+            "list" => self.group = CaseGroup::List(String::from_str(self.alloc, rest)?),
             _ => match CaseKeyword::parse(keyword) {
                 Some(keyword) if keyword.may_follow(self.last) => {
                     self.last = Some(keyword);
@@ -234,9 +234,9 @@ impl Reader {
             CaseKeyword::Out | CaseKeyword::OutPrefix => self.part = PieceTarget::Out,
             CaseKeyword::Err => self.part = PieceTarget::Err,
             CaseKeyword::Link => {
-                self.group = Group::Link(LinkCase::new(self.alloc, address(rest)?));
+                self.group = CaseGroup::Link(LinkCase::new(self.alloc, address(rest)?));
             }
-            CaseKeyword::Sent => self.group = Group::Sent(address(rest)?),
+            CaseKeyword::Sent => self.group = CaseGroup::Sent(address(rest)?),
             _ => {}
         }
         match &mut self.case {

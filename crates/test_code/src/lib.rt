@@ -1,7 +1,7 @@
 //! Tests of Reed-Solomon and of the fragments of DCP (TS 102 821): products and inverses of the
 //! field (`gf_field`), parity and erased places of code words (`rs_erase`), how packets are cut,
 //! and fragments written and read with each of their faults (`dcp_pft`). Expected values come from
-//! libfec, and from programs in Python after the standard. `random_words.rt` compares the crates
+//! libfec, and from `tools/standards.py` after the standard. `random_words.rt` compares the crates
 //! with plain bodies by the definitions, over many words.
 //!
 //! It stands on the public calls of these three crates. A crate that others stand on has no tests

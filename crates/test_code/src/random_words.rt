@@ -4,9 +4,7 @@ use crate::places::are_places;
 use crate::plain;
 use crate::wrong::has_none;
 use gf_field::{Gf, LOGS, POWERS, mul_lanes, scaled};
-use rs_erase::{
-    Pattern, SolveFault, SpacedPattern, Spacing, encode, solve, solve_by, solve_spaced, syndromes,
-};
+use rs_erase::{SolveFault, SpacedPattern, Spacing, encode, solve, solve_spaced, syndromes};
 use std::simd::prelude::*;
 
 /// How many words a test compares.
@@ -204,18 +202,6 @@ fn is_solved(word: &[u8; 255], places: &[u8]) -> bool {
     }
 }
 
-/// Whether a pattern of these places makes the same of this word.
-fn is_solved_alike(word: &[u8; 255], places: &[u8]) -> bool {
-    if !are_places(places) || places.len() > 48 {
-        return false;
-    }
-    let pattern = Pattern::prepare(places);
-    let mut filled = *word;
-    let mut alike = *word;
-    let result = solve(&mut filled, places);
-    pattern.is_for(places) && solve_by(&pattern, &mut alike) == result && alike == filled
-}
-
 /// Puts other bytes into these places of the word.
 fn erase(random: &mut Random, word: &mut [u8; 255], places: &[u8]) {
     for place in places {
@@ -232,7 +218,7 @@ fn fills_erased_places(random: &mut Random, i: usize) -> bool {
     if i % 2 == 0 {
         word[100] ^= 1;
     }
-    is_solved(&word, places) && is_solved_alike(&word, places)
+    is_solved(&word, places)
 }
 
 fn wrong_erased_places() -> Option<usize> {
@@ -269,7 +255,7 @@ fn is_message_alike(word: &[u8; 255], places: &[u8]) -> bool {
         return false;
     }
     let spacing = Spacing::prepare(16);
-    let Some(pattern) = SpacedPattern::prepare(places, 16) else {
+    let Some(pattern) = SpacedPattern::prepare(places, &spacing) else {
         return false;
     };
     let mut filled = *word;

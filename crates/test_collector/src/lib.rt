@@ -3,7 +3,7 @@
 //! named as lost. A run is a row of a table: what is taken, what is answered, what is given.
 //!
 //! It stands on these two crates, and writes its datagrams with `dcp_af` and `dcp_pft`; packets
-//! with frames in them were made by a program in Python after TS 102 820 and TS 102 821.
+//! with frames in them are those of `tools/standards.py`, after TS 102 820 and TS 102 821.
 //!
 //! Fragments by themselves are tested in `test_code`, frames by themselves in `test_formats`; whole
 //! receivers by the cases of `test_cases`, and in `test_top`.

@@ -149,9 +149,17 @@ fn is_joined(alloc: Global, unit: &[u8]) -> Result<bool, NoMemory>
     Ok(joined)
 }
 
+// Fills these with bytes that count up, and begin again at a number that is no length of a packet.
+fn count_up(bytes: &mut [u8]) {
+    for (i, byte) in bytes.iter_mut().enumerate() {
+        *byte = (i % 251) as u8;
+    }
+}
+
 #[test]
 fn joins_the_longest_unit(rt: HostRuntime) -> Result<(), NoMemory> {
-    let unit = zeros(rt.alloc(), 65_535)?;
+    let mut unit = zeros(rt.alloc(), 65_535)?;
+    count_up(&mut unit);
     assert!(rt; is_joined(rt.alloc(), &unit)?);
     Ok(())
 }

@@ -1,6 +1,7 @@
 //! Tests of packets of data (`drm_data`) and of text messages (`drm_text`): packets read, with each
 //! fault, and written; units made into packets, and packets with gaps joined; messages cut into
-//! pieces of four bytes, and pieces joined. The check values come from Python.
+//! pieces of four bytes, and pieces joined. Expected bytes are those of
+//! `tools/standards.py`.
 //!
 //! It stands on the public calls of these two crates alone.
 //!

@@ -168,6 +168,17 @@ const LISTS_SAID: &[EntityNumbers] = &[
     (true, &[0, 1, 2, 2, 0x123, 0x456, 0, 0xfff], b""),
 ];
 
+// A description of four streams.
+const FOUR_STREAMS: [u8; 14] = [
+    0x18, 0x09, 0x00, 0x10, 0x02, 0x00, 0x30, 0x04, 0x10, 0x52, 0x06, 0x30, 0x74, 0x08,
+];
+
+const FOUR_STREAMS_SAID: &[EntityNumbers] = &[(
+    false,
+    &[0, 2, 1, 4, 1, 2, 3, 4, 0x105, 0x206, 0x307, 0x408],
+    b"",
+)];
+
 // An audio service, a language, and an application as a stream.
 const SERVICES: [u8; 17] = [
     0x09, 0x9d, 0xad, 0x6b, 0xde, 0xad, 0x0a, 0xc9, 0x12, 0x34, 0x56, 0xbe, 0xef, 0x04, 0x57, 0x5a,
@@ -193,6 +204,11 @@ fn reads_numbers_of_several_bodies(rt: HostRuntime) {
 #[test]
 fn reads_lists_and_octets(rt: HostRuntime) {
     assert!(rt; has(rt.alloc(), &LISTS, LISTS_SAID));
+}
+
+#[test]
+fn reads_a_description_of_four_streams(rt: HostRuntime) {
+    assert!(rt; has(rt.alloc(), &FOUR_STREAMS, FOUR_STREAMS_SAID));
 }
 
 #[test]

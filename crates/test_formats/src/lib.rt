@@ -2,7 +2,7 @@
 //! multiplex description of ES 201 980 (`drm_fac`, `drm_sdc`, `drm_mux`), TAG items and AF packets
 //! of TS 102 821 (`dcp_tag`, `dcp_af`), and frames of TS 102 820 (`mdi_items`). Each is read and
 //! written, with each of its faults, and at its greatest size. Expected bytes were packed by
-//! programs in Python after the standards.
+//! `tools/standards.py` after the standards, and `tools/expected.py` compares them.
 //!
 //! It stands on the public calls of these crates.
 //!

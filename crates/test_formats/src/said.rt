@@ -54,6 +54,10 @@ fn channel_numbers(body: &Body) -> [u32; 12] {
             u32::from(desc.parts[0].b),
             u32::from(desc.parts[1].a),
             u32::from(desc.parts[1].b),
+            u32::from(desc.parts[2].a),
+            u32::from(desc.parts[2].b),
+            u32::from(desc.parts[3].a),
+            u32::from(desc.parts[3].b),
         ]),
         Body::Freq {
             sync,

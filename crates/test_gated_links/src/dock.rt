@@ -7,7 +7,7 @@ ghost use Rattle.drm_links.specs.Dock.{IsFresh, IsFailed};
 use crate::link::GatedLink;
 use crate::packets::PACKETS;
 use drm_bits::NoMemory;
-use drm_links::{Address, Dock, Link, Opened};
+use drm_links::{Address, Addresses, Dock, GatheredGroup, Link, MemGroup, Opened};
 use std::alloc::Global;
 use std::sync::atomic::AtomicU64;
 
@@ -73,6 +73,8 @@ impl<'a> GatedDock<'a> {
 impl<'a> Dock for GatedDock<'a> {
     type L = GatedLink<'a>;
 
+    type G = MemGroup;
+
     ghost known = { λ dock. record { faults = dock.faults; contents = None } };
 
     fn bind(&mut self, at: Address) -> Opened<GatedLink<'a>> {
@@ -85,5 +87,20 @@ impl<'a> Dock for GatedDock<'a> {
 
     fn close(&mut self, _at: Address, link: GatedLink<'a>) {
         drop(link);
+    }
+
+    // It has no groups.
+    fn gather(
+        &mut self,
+        _alloc: Global,
+        _from: Option<Address>,
+        _to: &Addresses,
+    ) -> GatheredGroup<MemGroup> {
+        self.faults = self.faults.saturating_add(1);
+        GatheredGroup::Failed
+    }
+
+    fn disband(&mut self, _from: Option<Address>, _to: &Addresses, group: MemGroup) {
+        drop(group);
     }
 }

@@ -5,6 +5,7 @@ use drm_adapt::{Edge, FileShelf};
 use drm_links::Shelf;
 use std::alloc::Global;
 use std::io::Eprint;
+use std::path::PathBuf;
 use std::rt::{Env, Files};
 use std::{env, fs};
 
@@ -39,14 +40,35 @@ fn loads<R: Files + Eprint>(rt: &R, alloc: Global, file: &str, folder: &str) -> 
         && gives_no_other(alloc, &mut shelf, file, folder)
 }
 
+// Names of a folder of its own: runs of the test that go on at once take one each.
+const FOLDERS: &[&str] = &[
+    "drm_adapt_test_0",
+    "drm_adapt_test_1",
+    "drm_adapt_test_2",
+    "drm_adapt_test_3",
+];
+
+fn loads_in<R: Files + Eprint>(rt: &R, alloc: Global, folder: &PathBuf) -> bool {
+    let loaded = match folder.join(alloc, "plan") {
+        Ok(file) => loads(rt, alloc, file.as_str(), folder.as_str()),
+        Err(_) => false,
+    };
+    fs::remove_dir(rt, folder.as_str()).is_ok() && loaded
+}
+
 fn loads_files<R: Files + Eprint + Env + AllocGlobal>(rt: &R, alloc: Global) -> bool {
-    let Ok(folder) = env::temp_dir(rt) else {
+    let Ok(temporary) = env::temp_dir(rt) else {
         return false;
     };
-    match folder.join(alloc, "drm_adapt_file_shelf_test") {
-        Ok(path) => loads(rt, alloc, path.as_str(), folder.as_str()),
-        Err(_) => false,
+    for name in FOLDERS {
+        let Ok(folder) = temporary.join(alloc, *name) else {
+            return false;
+        };
+        if fs::create_dir(rt, folder.as_str()).is_ok() {
+            return loads_in(rt, alloc, &folder);
+        }
     }
+    false
 }
 
 #[test]

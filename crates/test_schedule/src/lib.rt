@@ -4,7 +4,7 @@
 //! command line ask for (`drm_words`).
 //!
 //! It stands on the public calls of these crates; schedules are read from the texts of
-//! `test_support`. Expected values are worked out by hand, or by a program in Python.
+//! `test_support`. Expected values are worked out by hand, or computed by `tools/standards.py`.
 //!
 //! What is wrong with a text is tested by the cases of `check` in `test_cases`; the packets of
 //! frames in `test_top`, and by the cases of `serve`.

@@ -25,6 +25,9 @@ const ASKED: &str = "|fac > fac
 |check|Ås -x > check Ås -x
 |capacity|a > capacity a
 |capacity|--|--from=4 > capacity --from=4
+|agree|a|b > agree a b
+|agree|a|a|-- > agree a a
+|agree|--|a|--until=4 > agree a --until=4
 |serve|a > serve a - 0 0
 |serve|a|--pace|0 > serve a - 0 0
 |serve|--pace|10000|a > serve a - 10000 0
@@ -33,9 +36,12 @@ const ASKED: &str = "|fac > fac
 |serve|--to=0.0.0.0:1|a|--pace=25|--from=7 > serve a 0.0.0.0:1 25 7
 |serve|--pace=25|--to|255.255.255.255:65535|--|- > serve - 255.255.255.255:65535 25 0
 |serve|a|--from|1000000 > serve a - 0 1000000
+|serve|a|--until|0 > serve a - 0 0 until 0
+|serve|--until=1000000|a|--from|2 > serve a - 0 2 until 1000000
 |serve|a|--live|0 > serve a - 0 0 live 0
 |serve|--live=0,1,2,3|a > serve a - 0 0 live 0 1 2 3
 |serve|a|--live|1,3|--to|127.0.0.1:5000|--pace|400|--from|2 > serve a 127.0.0.1:5000 400 2 live 1 3
+|serve|a|--live|1,3|--until|5|--to|127.0.0.1:5000|--pace|400|--from|2 > serve a 127.0.0.1:5000 400 2 until 5 live 1 3
 |receive > receive - 8 - - 50 4294967295
 |receive|-- > receive - 8 - - 50 4294967295
 |receive|127.0.0.1:5000 > receive 127.0.0.1:5000 8 - - 50 4294967295
@@ -159,6 +165,13 @@ fn live_shown(shown: &mut String, live: &Live) -> bool {
     true
 }
 
+fn until_shown(shown: &mut String, until: Option<u32>) -> bool {
+    match until {
+        Some(until) => word(shown, "until") && number(shown, u64::from(until)),
+        None => true,
+    }
+}
+
 // The window, the first number, how many frames, and how far one may be ahead: nothing of the greatest reach.
 fn rules(
     shown: &mut String,
@@ -178,11 +191,15 @@ fn show(shown: &mut String, request: &Request) -> bool {
         Request::Fac => word(shown, "fac"),
         Request::Check { name } => word(shown, "check") && text(shown, name),
         Request::Capacity { name } => word(shown, "capacity") && text(shown, name),
+        Request::Agree { name, other } => {
+            word(shown, "agree") && text(shown, name) && text(shown, other)
+        }
         Request::Serve {
             name,
             to,
             pace,
             from,
+            until,
             live,
         } => {
             word(shown, "serve")
@@ -190,6 +207,7 @@ fn show(shown: &mut String, request: &Request) -> bool {
                 && (to.is_empty() && word(shown, "-") || addresses(shown, to))
                 && number(shown, u64::from(*pace))
                 && number(shown, u64::from(*from))
+                && until_shown(shown, *until)
                 && live_shown(shown, live)
         }
         Request::Air {

@@ -1,6 +1,7 @@
 //! Tests of what no case of the commands can say: receivers that work side by side, schedules over
 //! UDP sockets of the loopback, a receiver whose link or sink fails in the middle, lines that no
-//! command prints yet, and a server that is asked for frames out of turn.
+//! command prints yet, a server that is asked for frames out of turn, and the order of live reads
+//! and sends.
 //!
 //! It stands on `drm_top`, and for single calls on `drm_server`, `report_text` and `mod_feed`; its
 //! links are those of `test_gated_links` and `drm_adapt`, its schedules those of `test_support`.
@@ -12,6 +13,8 @@
 //! lines beside a small schedule.
 #![tactic(auto)]
 
+#[cfg(test)]
+mod gate_tests;
 #[cfg(test)]
 mod memory_tests;
 #[cfg(test)]
@@ -26,5 +29,7 @@ mod side_by_side_tests;
 mod small;
 #[cfg(test)]
 mod socket_tests;
+#[cfg(test)]
+mod turn_tests;
 #[cfg(test)]
 mod wrong;

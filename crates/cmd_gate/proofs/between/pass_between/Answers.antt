@@ -1,22 +1,46 @@
-use Rattle.std.proofs.Common.{inl, inr, refl, ◌∙◌}
-use Rattle.drm_links.proofs.KnownLemmas.{once_then}
-use Rattle.cmd_gate.proofs.PassingLemmas.{passes_on}
+use Rattle.std.proofs.Common.{◌∙◌, inl, inr, [], Bool, List, refl, ap, subst, arith, length, true}
+use Rattle.std.proofs.lemmas.List.{length-replicate}
+use Rattle.drm_links.specs.History.{GroupTells}
+use Rattle.recv_reading.specs.declared.options.ReceiveOptions.{ReceiveOptions}
+use Rattle.drm_gate.specs.Gateway.{rules_of}
+use Rattle.drm_gate.specs.Run.{GateRun}
+use Rattle.drm_gate.proofs.EachLink.{relays_count}
+use Rattle.cmd_gate.proofs.BetweenLemmas.{rules_same, all_new, ran}
 use Rattle.cmd_gate.proofs.between.pass_between.Goals as goal
 
-pub returns-in-Link-clause-passes_on : goal.returns-in-Link-clause-passes_on
-returns-in-Link-clause-passes_on g c =
-    passes_on c.args.rules.now c.args.gate.now.carry c.args.from c.args.to.now g.D.L.Link.known c.in-Link.source c.pass_to-passed.new.source c.pass_to-passed.result
-    (g.D.Dock.known c.args.dock.now) (g.D.Dock.known c.bind.new.self) (g.D.Dock.known c.pass_to-passed.new.dock) (g.D.Dock.known c.close.new.self) c.requires.in_range c.in-Link.ensures.opened c.bind.ensures.counts_call
-    c.pass_to-passed.ensures.passes_on c.close.ensures.gone c.close.ensures.counts_call
+pub pass_over_group-ended-requires-clause-links : goal.pass_over_group-ended-requires-clause-links
+pass_over_group-ended-requires-clause-links g c =
+    let many = ap (λ (l : List Bool). length l) c.in-Group.ensures.fresh.1 ∙ length-replicate (length c.args.to.now) true in
+    let some = c.requires.listed.some in
+    let few = c.requires.listed.few in
+    (omega (arith, many, some), omega (arith, many, few))
 
-pub returns-in-Link-clause-cause : goal.returns-in-Link-clause-cause
-returns-in-Link-clause-cause g c =
-    let opened = c.in-Link.ensures.cause.same (λ failed. failed) in
-    let closed = c.close.ensures.cause in
-    elim c.pass_to-passed.ensures.cause [
-      | inl same ↦ inl (closed ∙ (same ∙ opened))
-      | inr failed ↦ inr (failed.0, closed ∙ once_then opened failed.1)
-    ]
+pub pass_over_group-ended-requires-clause-up : goal.pass_over_group-ended-requires-clause-up
+pass_over_group-ended-requires-clause-up g c =
+    let fresh = c.in-Group.ensures.fresh.1 in
+    all_new (g.D.G.Group.up c.in-Group.group) (length c.args.to.now) fresh (ap (λ (l : List Bool). length l) fresh ∙ length-replicate (length c.args.to.now) true)
+
+pub disband-requires : goal.disband-requires
+disband-requires g c =
+    let r = c.pass_over_group-ended.ensures in
+    let u = g.D.G.Group.up c.in-Group.group in
+    relays_count (rules_of c.args.gate.now.collector c.options.result) c.args.gate.now.carry (length u) r.answers [] [] r.fates u (g.D.G.Group.up c.pass_over_group-ended.new.group) r.events r.relays
+    ∙ (ap (λ (l : List Bool). length l) c.in-Group.ensures.fresh.1 ∙ length-replicate (length c.args.to.now) true)
+
+pub returns-in-Group-clause-passes_on : goal.returns-in-Group-clause-passes_on
+returns-in-Group-clause-passes_on g c =
+    let u = g.D.G.Group.up c.in-Group.group in
+    let v = g.D.G.Group.up c.pass_over_group-ended.new.group in
+    let k = g.D.G.Group.known c.in-Group.group in
+    let k' = g.D.G.Group.known c.pass_over_group-ended.new.group in
+    let same = rules_same c.args.gate.now.collector c.options.result c.args.rules.now c.requires.window c.requires.reach c.requires.first c.options.ensures in
+    let run = subst (λ (r : ReceiveOptions). GateRun r c.args.gate.now.carry u v (λ events. GroupTells events k k') c.pass_over_group-ended.result) same c.pass_over_group-ended.ensures in
+    rw c.passed.ensures
+    (ran c.args.rules.now c.args.gate.now.carry c.args.from c.args.to.now c.pass_over_group-ended.result u v k k' (g.D.Dock.known c.args.dock.now) (g.D.Dock.known c.gather.new.self) (g.D.Dock.known c.disband.new.self)
+    c.in-Group.ensures.fresh.0 c.in-Group.ensures.fresh.1 run c.in-Group.ensures.gathered c.disband.ensures.disbanded)
+
+pub returns-in-Group-clause-cause : goal.returns-in-Group-clause-cause
+returns-in-Group-clause-cause g c = inl (c.disband.ensures.cause ∙ c.in-Group.ensures.cause.same (λ failed. failed))
 
 pub returns-in-Failed-clause-cause : goal.returns-in-Failed-clause-cause
 returns-in-Failed-clause-cause g c = inr (refl, c.in-Failed.ensures.cause.once tt)

@@ -2,9 +2,9 @@ use Rattle.std.proofs.Common.{rules, ◌≡◌, ℕ, ◌<◌, [], ◌∷◌, ◌
 use Rattle.std.specs.Vec.Iter.{into_iter_items}
 use Rattle.std.proofs.lemmas.List.{length-map, get_or-map, append-nil}
 use Rattle.std.proofs.lemmas.Grind.{common_steps}
-use Rattle.link_group.specs.declared.member.Member.{Member}
-use Rattle.link_group.proofs.CloseLemmas.{next_left, closing_first, close_more}
-use Rattle.link_group.proofs.BindLemmas.{as_members, member_at, members_many}
+use Rattle.drm_links.specs.declared.member.Member.{Member}
+use Rattle.drm_links.proofs.CloseLemmas.{next_left, closing_first, close_more}
+use Rattle.drm_links.proofs.BindLemmas.{as_members, member_at, members_many}
 use Rattle.cmd_paths.specs.declared.receiver.PathReceiver.{PathReceiver}
 use Rattle.cmd_paths.specs.Opening.{member_of}
 use Rattle.cmd_paths.proofs.Opening.{itself, closed_over}

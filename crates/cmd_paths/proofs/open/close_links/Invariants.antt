@@ -1,8 +1,8 @@
 use Rattle.std.proofs.Common.{◌≡◌, ◌≤◌, true, ◌++◌, length, map, drop}
 use Rattle.std.specs.Vec.Iter.{into_iter_items}
 use Rattle.drm_links.specs.Known.{KnownThrough}
-use Rattle.link_group.proofs.CloseLemmas.{Closing}
-use Rattle.link_group.proofs.BindLemmas.{as_members}
+use Rattle.drm_links.proofs.CloseLemmas.{Closing}
+use Rattle.drm_links.proofs.BindLemmas.{as_members}
 use Rattle.cmd_paths.proofs.Opening.{itself}
 use Rattle.cmd_paths.proofs.open.close_links.Given as goal
 

@@ -7,8 +7,8 @@ use Rattle.drm_links.specs.declared.dock.Address.{Address}
 use Rattle.drm_links.proofs.KnownLemmas.{counts_one, once_then, Tells-weaker}
 use Rattle.drm_links.proofs.Places.{each_more}
 use Rattle.drm_links.specs.Dock.{DockKnownThrough, HasLink}
-use Rattle.link_group.proofs.OpeningLemmas.{found_now, opened_now, opened_all, docked_any, docked_still}
-use Rattle.link_group.proofs.BindLemmas.{HaveFirst, missed_now, failed_few, all_links}
+use Rattle.drm_links.proofs.OpeningLemmas.{found_now, opened_now, opened_all, docked_any, docked_still}
+use Rattle.drm_links.proofs.BindLemmas.{HaveFirst, missed_now, failed_few, all_links}
 use Rattle.cmd_paths.specs.declared.receiver.PathSeat.{PathSeat}
 use Rattle.cmd_paths.specs.declared.receiver.PathReceiver.{PathReceiver}
 use Rattle.cmd_paths.proofs.Opening.{itself}

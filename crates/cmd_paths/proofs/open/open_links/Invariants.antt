@@ -3,7 +3,7 @@ use Rattle.std.specs.Vec.Iter.{into_iter_items}
 use Rattle.drm_links.specs.Known.{KnownThrough}
 use Rattle.drm_links.specs.declared.dock.Address.{Address}
 use Rattle.drm_links.specs.Dock.{DockKnownThrough, HasLink}
-use Rattle.link_group.proofs.OpeningLemmas.{Opened}
+use Rattle.drm_links.proofs.OpeningLemmas.{Opened}
 use Rattle.cmd_paths.proofs.open.open_links.Given as goal
 
 -- each job so far has the link of its address, and the path of its seat

@@ -2,10 +2,10 @@ use Rattle.std.proofs.Common.{rules, ◌≡◌, ℕ, ◌<◌, [], ◌∷◌, Lis
 use Rattle.std.specs.Vec.Iter.{into_iter_items}
 use Rattle.std.proofs.lemmas.List.{length-drop}
 use Rattle.std.proofs.lemmas.Grind.{common_steps}
-use Rattle.link_group.specs.declared.member.Member.{Member}
-use Rattle.link_group.proofs.CloseLemmas.{next_left, close_more, closed_all}
+use Rattle.drm_links.specs.declared.member.Member.{Member}
+use Rattle.drm_links.proofs.CloseLemmas.{next_left, close_more, closed_all}
 use Rattle.recv_report.specs.declared.receiver.Receiver.{Receiver}
-use Rattle.link_group.proofs.BindLemmas.{as_member, as_members, member_at, members_many}
+use Rattle.drm_links.proofs.BindLemmas.{as_member, as_members, member_at, members_many}
 use Rattle.cmd_receive.proofs.HearingLemmas.{link_in}
 use Rattle.cmd_receive.proofs.receive_command.close_all.Goals as goal
 

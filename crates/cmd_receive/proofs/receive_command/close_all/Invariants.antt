@@ -2,7 +2,8 @@ use Rattle.std.proofs.Common.{◌≡◌, ◌≤◌, List, length, drop}
 use Rattle.std.specs.Vec.Iter.{into_iter_items}
 use Rattle.drm_links.specs.Known.{KnownThrough}
 use Rattle.drm_links.specs.Dock.{Over}
-use Rattle.link_group.specs.Reaching.{HaveGone, after_closes}
+use Rattle.drm_links.specs.Gathering.{after_closes}
+use Rattle.drm_links.specs.Members.{HaveGone}
 use Rattle.cmd_receive.specs.Opening.{members_of}
 use Rattle.cmd_receive.proofs.receive_command.close_all.Given as goal
 

@@ -8,12 +8,12 @@ use Rattle.drm_links.proofs.Places.{each_more}
 use Rattle.recv_report.specs.declared.receiver.Receiver.{Receiver}
 use Rattle.cmd_faults.specs.declared.fault.Fault.{Fault}
 use Rattle.cmd_faults.specs.declared.fault.Fault.TheVariants as faults
-use Rattle.link_group.specs.Binding.{BindsFew, StopsBehind}
+use Rattle.drm_links.specs.Binding.{BindsFew, StopsBehind}
 use Rattle.cmd_receive.specs.Opening.{StopsOpening}
 use Rattle.recv_report.specs.Receivers.{IsReceiver}
-use Rattle.link_group.proofs.OpeningLemmas.{Opened, found_now, opened_now, opened_all, docked_any, docked_still}
+use Rattle.drm_links.proofs.OpeningLemmas.{Opened, found_now, opened_now, opened_all, docked_any, docked_still}
 use Rattle.cmd_receive.proofs.HearingLemmas.{link_in}
-use Rattle.link_group.proofs.BindLemmas.{HaveFirst, missed_now, stopped_few, failed_few, all_links}
+use Rattle.drm_links.proofs.BindLemmas.{HaveFirst, missed_now, stopped_few, failed_few, all_links}
 use Rattle.cmd_receive.proofs.OpeningLemmas.{same_fault_counts}
 use Rattle.cmd_receive.proofs.receive_command.open_all.Goals as goal
 

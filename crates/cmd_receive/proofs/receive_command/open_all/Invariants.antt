@@ -4,7 +4,7 @@ use Rattle.recv_report.specs.declared.receiver.Receiver.{Receiver}
 use Rattle.drm_links.specs.Dock.{DockKnownThrough, HasLink}
 use Rattle.recv_report.specs.Receivers.{IsReceiver}
 use Rattle.drm_links.specs.Known.{KnownThrough}
-use Rattle.link_group.proofs.OpeningLemmas.{Opened}
+use Rattle.drm_links.proofs.OpeningLemmas.{Opened}
 use Rattle.cmd_receive.proofs.receive_command.open_all.Given as goal
 
 -- each receiver so far has the link of its address

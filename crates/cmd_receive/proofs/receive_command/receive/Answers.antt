@@ -10,7 +10,7 @@ use Rattle.drm_links.specs.Known.{KnownThrough}
 use Rattle.drm_links.proofs.KnownLemmas.{counts_as}
 use Rattle.cmd_faults.specs.declared.fault.Fault.TheVariants as faults
 use Rattle.cmd_faults.proofs.CauseLemmas.{inner_fault}
-use Rattle.link_group.proofs.BindLemmas.{docked_then, Closed}
+use Rattle.drm_links.proofs.BindLemmas.{docked_then, Closed}
 use Rattle.cmd_receive.proofs.HearingLemmas.{link_in}
 use Rattle.cmd_receive.proofs.ReceiveLemmas.{Ran, settled_hears, settled_run, opening_failed, written_back}
 use Rattle.cmd_receive.proofs.LiveLemmas.{one_of}

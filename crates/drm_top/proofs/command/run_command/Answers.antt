@@ -1,7 +1,6 @@
 use Rattle.std.proofs.Common.{◌≡◌, ◌∙◌, inl, true, false, [], ◌∷◌, Err, refl, sym, ap, subst}
-use Rattle.drm_schedule.specs.Live.{is_any}
 use Rattle.drm_links.specs.Known.{IfBothKnown}
-use Rattle.link_group.specs.Reaching.{NothingSent}
+use Rattle.drm_links.specs.Gathering.{NothingSent}
 use Rattle.drm_links.proofs.KnownLemmas.{counts_none}
 use Rattle.cmd_faults.specs.Fault.{whole_of}
 use Rattle.cmd_faults.proofs.CauseLemmas.{one_alone, other_alone, none_failed, opening_as}
@@ -9,7 +8,7 @@ use Rattle.cmd_faults.specs.declared.fault.Fault.{Fault}
 use Rattle.cmd_faults.specs.declared.fault.Fault.TheVariants as faults
 use Rattle.drm_top.specs.Outside.{outside}
 use Rattle.drm_top.proofs.CommandLemmas.{fault_of_whole, whole_cause, whole_lacks_none, dock_still, not_else, not_convert, not_a_link, not_gate, no_gate}
-use Rattle.drm_top.proofs.ServeLemmas.{sends, opens_some}
+use Rattle.drm_top.proofs.ServeLemmas.{sends, opens_some, at_least_one, lacks_live}
 use Rattle.cmd_receive.specs.Stopping.{clean_ending}
 use Rattle.cmd_receive.proofs.OpeningLemmas.{opens_unsent}
 use Rattle.cmd_count.specs.Run.{unseen}
@@ -57,81 +56,59 @@ returns-in-Capacity g c = record {
   dock = λ none. refl;
 }
 
--- a capture of a schedule whose live streams take their bytes from input
+pub returns-in-Agree : goal.returns-in-Agree
+returns-in-Agree g c = record {
+  words = λ e. c.agree.ensures.words (fault_of_whole c.whole-in-Agree.result c.agree.result faults.Words c.whole-in-Agree.ensures e);
+  memory = λ e. (refl, c.agree.ensures.memory (fault_of_whole c.whole-in-Agree.result c.agree.result faults.NoMemory c.whole-in-Agree.ensures e));
+  run = rw c.in-Agree.is ((c.agree.result, c.whole-in-Agree.ensures, rw (← c.text-in-Agree.ensures, ← c.text-in-Agree-2.ensures) c.agree.ensures.run), refl, refl, (c.requires.err_ok, refl));
+  read = λ _. other_alone refl (whole_cause c.whole-in-Agree.result c.agree.result faults.Read c.whole-in-Agree.ensures c.agree.ensures.run.read_cause);
+  write = whole_cause c.whole-in-Agree.result c.agree.result faults.Write c.whole-in-Agree.ensures c.agree.ensures.run.write_cause;
+  opening = inl refl;
+  link = λ e. absurd (c.agree.ensures.link (fault_of_whole c.whole-in-Agree.result c.agree.result faults.Link c.whole-in-Agree.ensures e));
+  lacking = λ e. absurd (whole_lacks_none c.whole-in-Agree.result c.agree.result c.whole-in-Agree.ensures e);
+  unsent = λ e. dock_still (g.D.Dock.known c.args.dock.now);
+  dock = λ none. refl;
+}
+
+-- a capture of a schedule
 pub returns-then-is_empty : goal.returns-then-is_empty
 returns-then-is_empty g c =
     let none : c.in-Serve.to ≡ [] = c.is_empty.ensures.0 c.if-is_empty.true in
-    let live : is_any c.in-Serve.live ≡ true = sym c.any.ensures ∙ c.if-any.true in
     record {
-      words = λ e. c.serve_live.ensures.words e;
-      memory = λ e. c.serve_live.ensures.memory e;
-      run = rw (c.in-Serve.is, none, live) (rw (← c.text-name.ensures) c.serve_live.ensures.run, refl, (c.requires.err_ok, refl));
-      read = λ _. c.serve_live.ensures.read;
-      write = c.serve_live.ensures.write;
+      words = λ e. c.serve.ensures.words e;
+      memory = λ e. c.serve.ensures.memory e;
+      run = rw (c.in-Serve.is, none) ((rw (← c.text-name.ensures) c.serve.ensures.run, c.serve.ensures.nothing), refl, (c.requires.err_ok, refl));
+      read = λ _. c.serve.ensures.read;
+      write = c.serve.ensures.write;
       opening = inl refl;
-      link = λ e. absurd (c.serve_live.ensures.link e);
-      lacking = λ e. rw (c.in-Serve.is, live) refl;
+      link = λ e. absurd (c.serve.ensures.link e);
+      lacking = λ e. rw (c.in-Serve.is, lacks_live c.in-Serve.live c.args.input.now c.serve.new.input c.serve.result c.serve.ensures.nothing e) refl;
       unsent = λ e. dock_still (g.D.Dock.known c.args.dock.now);
       dock = λ none. refl;
     }
 
 -- and over links
+pub send-requires-clause-at_least_one : goal.send-requires-clause-at_least_one
+send-requires-clause-at_least_one g c =
+    at_least_one c.in-Serve.to (λ none. let yes = c.is_empty.ensures.1 none in let no = c.if-is_empty.false in absurd cc)
+
 pub returns-else-is_empty : goal.returns-else-is_empty
 returns-else-is_empty g c =
     let some : c.in-Serve.to ≡ [] → ⊥ = λ none. let yes = c.is_empty.ensures.1 none in let no = c.if-is_empty.false in absurd cc in
-    let live : is_any c.in-Serve.live ≡ true = sym c.any.ensures ∙ c.if-any.true in
     record {
-      words = λ e. c.send_live.ensures.words e;
-      memory = λ e. (c.send_live.ensures.memory e, refl);
-      run = rw c.in-Serve.is (sends c.in-Serve.name c.in-Serve.to c.in-Serve.pace c.in-Serve.from c.in-Serve.live c.send_live.result c.args.err_ok.now (outside
-          g.S.Shelf.known c.args.shelf.now c.send_live.new.shelf g.I.Source.known c.args.input.now c.send_live.new.input g.O.Sink.known c.args.out.now c.args.out.now
-          g.E.Sink.known c.args.err.now c.args.err.now g.D.Dock.known c.args.dock.now c.send_live.new.dock) some
-          (rw live (rw (← c.text-name.ensures) c.send_live.ensures.run), refl, (c.requires.err_ok, refl)));
-      read = c.send_live.ensures.read;
-      write = counts_none c.send_live.ensures.write refl;
-      opening = c.send_live.ensures.opening;
-      link = λ e. rw c.in-Serve.is (opens_some c.in-Serve.name c.in-Serve.to c.in-Serve.pace c.in-Serve.from c.in-Serve.live some);
-      lacking = λ e. rw (c.in-Serve.is, live) refl;
-      unsent = λ e. c.send_live.ensures.unsent e;
-      dock = λ none. absurd (none (rw c.in-Serve.is (opens_some c.in-Serve.name c.in-Serve.to c.in-Serve.pace c.in-Serve.from c.in-Serve.live some)));
-    }
-
--- a capture of the schedule itself
-pub returns-then-is_empty-2 : goal.returns-then-is_empty-2
-returns-then-is_empty-2 g c =
-    let none : c.in-Serve.to ≡ [] = c.is_empty-else-any.ensures.0 c.if-is_empty-2.true in
-    let plain : is_any c.in-Serve.live ≡ false = sym c.any.ensures ∙ c.if-any.false in
-    record {
-      words = λ e. c.serve.ensures.words (fault_of_whole c.whole-then-is_empty-2.result c.serve.result faults.Words c.whole-then-is_empty-2.ensures e);
-      memory = λ e. (refl, c.serve.ensures.memory (fault_of_whole c.whole-then-is_empty-2.result c.serve.result faults.NoMemory c.whole-then-is_empty-2.ensures e));
-      run = rw (c.in-Serve.is, none, plain) (((c.serve.result, c.whole-then-is_empty-2.ensures, rw (← c.text-name.ensures) c.serve.ensures.run), refl), refl, (c.requires.err_ok, refl));
-      read = λ _. other_alone refl (whole_cause c.whole-then-is_empty-2.result c.serve.result faults.Read c.whole-then-is_empty-2.ensures c.serve.ensures.run.read_cause);
-      write = whole_cause c.whole-then-is_empty-2.result c.serve.result faults.Write c.whole-then-is_empty-2.ensures c.serve.ensures.run.write_cause;
-      opening = inl refl;
-      link = λ e. absurd (c.serve.ensures.link (fault_of_whole c.whole-then-is_empty-2.result c.serve.result faults.Link c.whole-then-is_empty-2.ensures e));
-      lacking = λ e. absurd (whole_lacks_none c.whole-then-is_empty-2.result c.serve.result c.whole-then-is_empty-2.ensures e);
-      unsent = λ e. dock_still (g.D.Dock.known c.args.dock.now);
-      dock = λ none. refl;
-    }
-
-pub returns-else-is_empty-2 : goal.returns-else-is_empty-2
-returns-else-is_empty-2 g c =
-    let some : c.in-Serve.to ≡ [] → ⊥ = λ none. let yes = c.is_empty-else-any.ensures.1 none in let no = c.if-is_empty-2.false in absurd cc in
-    let plain : is_any c.in-Serve.live ≡ false = sym c.any.ensures ∙ c.if-any.false in
-    record {
-      words = λ e. c.send.ensures.words (fault_of_whole c.whole-else-is_empty-2.result c.send.result faults.Words c.whole-else-is_empty-2.ensures e);
-      memory = λ e. (refl, refl);
-      run = rw c.in-Serve.is (sends c.in-Serve.name c.in-Serve.to c.in-Serve.pace c.in-Serve.from c.in-Serve.live c.whole-else-is_empty-2.result c.args.err_ok.now (outside
-          g.S.Shelf.known c.args.shelf.now c.send.new.shelf g.I.Source.known c.args.input.now c.args.input.now g.O.Sink.known c.args.out.now c.args.out.now
+      words = λ e. c.send.ensures.words e;
+      memory = λ e. (c.send.ensures.memory e, refl);
+      run = rw c.in-Serve.is (sends c.in-Serve.name c.in-Serve.to c.in-Serve.pace c.in-Serve.from c.in-Serve.until c.in-Serve.live c.send.result c.args.err_ok.now (outside
+          g.S.Shelf.known c.args.shelf.now c.send.new.shelf g.I.Source.known c.args.input.now c.send.new.input g.O.Sink.known c.args.out.now c.args.out.now
           g.E.Sink.known c.args.err.now c.args.err.now g.D.Dock.known c.args.dock.now c.send.new.dock) some
-          (rw plain ((c.send.result, c.whole-else-is_empty-2.ensures, rw (← c.text-name.ensures) c.send.ensures.run), refl), refl, (c.requires.err_ok, refl)));
-      read = λ _. other_alone refl (whole_cause c.whole-else-is_empty-2.result c.send.result faults.Read c.whole-else-is_empty-2.ensures c.send.ensures.run.read_cause);
-      write = counts_none (λ e. c.send.ensures.write (fault_of_whole c.whole-else-is_empty-2.result c.send.result faults.Write c.whole-else-is_empty-2.ensures e)) refl;
-      opening = opening_as (g.D.Dock.known c.args.dock.now) (g.D.Dock.known c.send.new.dock) (λ is. c.whole-else-is_empty-2.ensures ∙ ap whole_of is) c.send.ensures.run.dock_cause;
-      link = λ e. rw c.in-Serve.is (opens_some c.in-Serve.name c.in-Serve.to c.in-Serve.pace c.in-Serve.from c.in-Serve.live some);
-      lacking = λ e. absurd (whole_lacks_none c.whole-else-is_empty-2.result c.send.result c.whole-else-is_empty-2.ensures e);
-      unsent = λ e. c.send.ensures.unsent (fault_of_whole c.whole-else-is_empty-2.result c.send.result faults.NoMemory c.whole-else-is_empty-2.ensures e);
-      dock = λ none. absurd (none (rw c.in-Serve.is (opens_some c.in-Serve.name c.in-Serve.to c.in-Serve.pace c.in-Serve.from c.in-Serve.live some)));
+          ((rw (← c.text-name.ensures) c.send.ensures.run, c.send.ensures.nothing), refl, (c.requires.err_ok, refl)));
+      read = c.send.ensures.read;
+      write = counts_none c.send.ensures.write refl;
+      opening = c.send.ensures.opening;
+      link = λ e. rw c.in-Serve.is (opens_some c.in-Serve.name c.in-Serve.to c.in-Serve.pace c.in-Serve.from c.in-Serve.until c.in-Serve.live some);
+      lacking = λ e. rw (c.in-Serve.is, lacks_live c.in-Serve.live c.args.input.now c.send.new.input c.send.result c.send.ensures.nothing e) refl;
+      unsent = λ e. c.send.ensures.unsent e;
+      dock = λ none. absurd (none (rw c.in-Serve.is (opens_some c.in-Serve.name c.in-Serve.to c.in-Serve.pace c.in-Serve.from c.in-Serve.until c.in-Serve.live some)));
     }
 
 -- ---- what receives, from links or from a capture

@@ -108,3 +108,20 @@ returns-else-len_read-len-clause-loaded g c = λ first bytes behind.
           (omega (arith, asked, same, size))
           (subst (λ e. AreTaken e c.args.live.now plan first c.args.t bytes) going taken));
     }
+
+-- ---- a frame that asks for nothing
+
+pub returns-in_err-len_read-clause-still : goal.returns-in_err-len_read-clause-still
+returns-in_err-len_read-clause-still g c = λ none.
+    let (size, asked) = asks_for c.args.live.now c.args.server.now.base _ c.args.t c.piece_len-len.result c.args.scratch.now c.requires.room c.piece_len-len.ensures.most c.piece_len-len.ensures.len c.schedule-2.ensures in
+    absurd (c.if-len-eq0.false (asked ∙ none))
+
+pub returns-then-len_read-len-clause-still : goal.returns-then-len_read-len-clause-still
+returns-then-len_read-len-clause-still g c = λ none.
+    let (size, asked) = asks_for c.args.live.now c.args.server.now.base _ c.args.t c.piece_len-len.result c.args.scratch.now c.requires.room c.piece_len-len.ensures.most c.piece_len-len.ensures.len c.schedule-2.ensures in
+    absurd (c.if-len-eq0.false (asked ∙ none))
+
+pub returns-else-len_read-len-clause-still : goal.returns-else-len_read-len-clause-still
+returns-else-len_read-len-clause-still g c = λ none.
+    let (size, asked) = asks_for c.args.live.now c.args.server.now.base _ c.args.t c.piece_len-len.result c.args.scratch.now c.requires.room c.piece_len-len.ensures.most c.piece_len-len.ensures.len c.schedule-2.ensures in
+    absurd (c.if-len-eq0.false (asked ∙ none))

@@ -1,48 +1,51 @@
-use Rattle.std.proofs.Common.{◌≡◌, ◌+◌, ◌-◌, ◌*◌, ◌++◌, ℕ, List, [], ◌∷◌, take, drop, ◌∙◌, ap, subst, arith}
-use Rattle.std.proofs.lemmas.List.{drop-drop}
+use Rattle.std.proofs.Common.{◌≡◌, ◌+◌, ◌-◌, ◌*◌, ◌≤◌, ◌++◌, ℕ, List, take, drop, length, ◌∙◌, ap, subst, arith}
+use Rattle.std.proofs.lemmas.List.{drop-drop, length-drop}
 use Rattle.std.proofs.lemmas.Result.{err_from_is_err_and}
 use Rattle.drm_links.specs.Sink.{OutputsText}
 use Rattle.drm_links.proofs.KnownLemmas.{done_counts}
-use Rattle.drm_links.proofs.WritingLemmas.{Writes-whole, Writes-broken, Writes-more}
+use Rattle.drm_links.proofs.WritingLemmas.{Writes-broken, Writes-more}
 use Rattle.report_text.specs.HexBits.{hex_of_bits}
-use Rattle.report_text.proofs.HexLemmas.{one_of, no_digits}
+use Rattle.report_text.proofs.HexLemmas.{digits_left}
 use Rattle.report_text.proofs.hex_bits.write_digits.Goals as goal
 
 pub returns-in_err-write_all-clause-written : goal.returns-in_err-write_all-clause-written
 returns-in_err-write_all-clause-written g c =
     let p = err_from_is_err_and c.from_residual.result c.from_residual.ensures.1 in
     let a = g.O.Sink.known c.args.out.now in
-    let b = g.O.Sink.known c.loop.out in
+    let b = g.O.Sink.known c.loop-left.out in
+    let l = c.loop-left.invariant in
+    let left = c.loop-left.left in
+    let some = c.min-some.result in
+    let few : some ≤ left = omega (arith, c.min-some.ensures) in
     let all : List ℕ = hex_of_bits (take (4 * c.args.count) c.args.bits.now) in
-    let rest : List ℕ = hex_of_bits (take (4 * (c.args.count - (c.loop.counter + 1))) c.take_u8-n.new.self) in
-    let next = one_of c.loop.bits c.take_u8-n.new.self c.args.count c.loop.counter c.from.result c.digit.result c.loop-test.true (omega (arith, c.requires, c.loop.invariant.left, c.loop-test.true)) (c.from.ensures ∙ c.take_u8-n.ensures.number) c.digit.ensures c.take_u8-n.ensures.rest in
+    let rest : List ℕ = hex_of_bits (take (4 * (left - some)) c.fill.new.bits) in
+    let next = digits_left left some c.loop-left.bits c.fill.new.bits (take some c.fill.new.digits) few l.enough c.fill.ensures.digits c.fill.ensures.rest in
     rw p.1
-    (Writes-broken all (c.digit.result ∷ []) rest a b (g.O.Sink.known c.write_all.new.out) c.write_all.result c.in_err-write_all.field-0.0 p.0
-    (subst (λ l. OutputsText a b (λ text. text ++ l ≡ all)) next c.loop.invariant.written) c.loop.invariant.same c.in_err-write_all.was c.write_all.ensures)
+    (Writes-broken all (take some c.fill.new.digits) rest a b (g.O.Sink.known c.write_all.new.out) c.write_all.result c.in_err-write_all.field-0.0 p.0
+    (subst (λ t. OutputsText a b (λ text. text ++ t ≡ all)) next l.written) l.same c.in_err-write_all.was c.write_all.ensures)
 
-pub loop-preserved : goal.loop-preserved
-loop-preserved g c =
+pub loop-left-preserved : goal.loop-left-preserved
+loop-left-preserved g c =
     let a = g.O.Sink.known c.args.out.now in
-    let b = g.O.Sink.known c.loop.out in
-    let all : List ℕ = hex_of_bits (take (4 * c.args.count) c.args.bits.now) in
-    let rest : List ℕ = hex_of_bits (take (4 * (c.args.count - (c.loop.counter + 1))) c.take_u8-n.new.self) in
-    let next = one_of c.loop.bits c.take_u8-n.new.self c.args.count c.loop.counter c.from.result c.digit.result c.loop-test.true (omega (arith, c.requires, c.loop.invariant.left, c.loop-test.true)) (c.from.ensures ∙ c.take_u8-n.ensures.number) c.digit.ensures c.take_u8-n.ensures.rest in
-    let four : 4 * c.loop.counter + 4 ≡ 4 * (c.loop.counter + 1) = omega arith in
+    let b = g.O.Sink.known c.loop-left.out in
+    let l = c.loop-left.invariant in
+    let left = c.loop-left.left in
+    let some = c.min-some.result in
+    let bits = c.args.bits.now in
+    let few : some ≤ left = omega (arith, c.min-some.ensures) in
+    let all : List ℕ = hex_of_bits (take (4 * c.args.count) bits) in
+    let rest : List ℕ = hex_of_bits (take (4 * (left - some)) c.fill.new.bits) in
+    let next = digits_left left some c.loop-left.bits c.fill.new.bits (take some c.fill.new.digits) few l.enough c.fill.ensures.digits c.fill.ensures.rest in
+    let place : 4 * (c.args.count - left) + 4 * some ≡ 4 * (c.args.count - (left - some)) = omega (arith, few, l.few) in
+    let long : length c.fill.new.bits ≡ length c.loop-left.bits - 4 * some = ap length c.fill.ensures.rest ∙ length-drop (4 * some) c.loop-left.bits in
     record {
+      few = omega (arith, l.few);
       bits =
-          c.take_u8-n.ensures.rest
-          ∙ (ap (drop 4) c.loop.invariant.bits ∙ (drop-drop 4 (4 * c.loop.counter) c.args.bits.now ∙ ap (λ k. drop k c.args.bits.now) four));
-      left = omega (arith, c.loop.invariant.left, c.take_u8-n.ensures.remaining);
+          c.fill.ensures.rest
+          ∙ (ap (drop (4 * some)) l.bits ∙ (drop-drop (4 * some) (4 * (c.args.count - left)) bits ∙ ap (λ k. drop k bits) place));
+      enough = omega (arith, few, l.enough, long);
       written =
-          Writes-more all (c.digit.result ∷ []) rest a b (g.O.Sink.known c.write_all.new.out) c.write_all.result _
-          (subst (λ l. OutputsText a b (λ text. text ++ l ≡ all)) next c.loop.invariant.written) c.in_ok-write_all.was c.write_all.ensures;
-      same = done_counts c.in_ok-write_all.was c.write_all.ensures.cause ∙ c.loop.invariant.same;
+          Writes-more all (take some c.fill.new.digits) rest a b (g.O.Sink.known c.write_all.new.out) c.write_all.result _
+          (subst (λ t. OutputsText a b (λ text. text ++ t ≡ all)) next l.written) c.in_ok-write_all.was c.write_all.ensures;
+      same = done_counts c.in_ok-write_all.was c.write_all.ensures.cause ∙ l.same;
     }
-
-pub returns-clause-written : goal.returns-clause-written
-returns-clause-written g c =
-    let a = g.O.Sink.known c.args.out.now in
-    let b = g.O.Sink.known c.loop.out in
-    let all : List ℕ = hex_of_bits (take (4 * c.args.count) c.args.bits.now) in
-    let none : 4 * (c.args.count - c.loop.counter) ≡ 0 = omega (arith, c.loop-test.false) in
-    Writes-whole all a b (no_digits all c.loop.bits (4 * (c.args.count - c.loop.counter)) a b none c.loop.invariant.written) c.loop.invariant.same

@@ -2,6 +2,7 @@ use Rattle.std.proofs.Common.{arith, ap, length, subst, sym, List, ℕ, ◌+◌,
 use Rattle.std.specs.Option.{IfSome}
 use Rattle.rs_erase.specs.Code.{ArePlaces}
 use Rattle.rs_patterns.specs.Marks.{is_marked}
+use Rattle.rs_patterns.specs.Positions.{erased_positions}
 use Rattle.rs_patterns.proofs.Positions.{are_places, erased_length}
 use Rattle.rs_patterns.proofs.patterns.prepare.Goals as goal
 
@@ -16,4 +17,6 @@ prepare-requires-clause-enough c =
 
 pub returns : goal.returns
 returns c =
-    subst (λ (es : List ℕ). IfSome c.prepare.result (λ p. p ≡ record { places = es; distance = c.args.count })) c.write_erased-erased.ensures.erased c.prepare.ensures
+    subst (λ (d : ℕ). IfSome c.prepare.result (λ p. p ≡ record { places = erased_positions c.args.count (is_marked c.args.marks.now) c.args.start c.args.k (c.args.k + 48); distance = d }))
+    c.requires.spaced
+    (subst (λ (es : List ℕ). IfSome c.prepare.result (λ p. p ≡ record { places = es; distance = c.args.spacing.now })) c.write_erased-erased.ensures.erased c.prepare.ensures)

@@ -1,8 +1,8 @@
 use Rattle.std.proofs.Common.{◌≡◌, ◌∙◌, Some, ap, rules}
 use Rattle.std.specs.FinMap as map
-use Rattle.drm_links.specs.ClosedLinks.{entries_of}
+use Rattle.drm_links.specs.ClosedLinks.{entries_of, histories_of}
 use Rattle.drm_links.specs.Link.{Traffic, rests_of}
-use Rattle.drm_links.specs.MemoryDock.{starts_of, kept_of}
+use Rattle.drm_links.specs.MemoryDock.{starts_of, kept_of, first_room}
 use Rattle.drm_links.proofs.DockLemmas.{starts_of-empty}
 use Rattle.drm_links.proofs.memory_dock.MemDock.make.Goals as goal
 
@@ -13,4 +13,5 @@ returns-clause-tells c =
     let gone = ap (λ nodes. kept_of (λ (traffic : Traffic). traffic.gone) (entries_of nodes)) c.new-2.ensures in
     let answers = ap (λ nodes. kept_of (λ (traffic : Traffic). traffic.answers) (entries_of nodes)) c.new-2.ensures in
     let rests = ap (λ nodes. kept_of rests_of (entries_of nodes)) c.new-2.ensures in
-    λ i. Some (record { openings = 0; reaches = 0; failing = failing i; links = links i; answers = answers i; gone = gone i; rests = rests i; calls = 0 })
+    let histories = ap histories_of c.new-3.ensures in
+    λ i. Some (record { openings = 0; reaches = 0; failing = failing i; links = links i; answers = answers i; gone = gone i; rests = rests i; histories = histories i; room = first_room; calls = 0 })

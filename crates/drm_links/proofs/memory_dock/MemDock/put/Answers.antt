@@ -1,7 +1,7 @@
 use Rattle.std.proofs.Common.{◌≡◌, ap}
 use Rattle.std.specs.FinMap as map
 use Rattle.drm_links.specs.Dock.{address_key}
-use Rattle.drm_links.specs.ClosedLinks.{entries_of}
+use Rattle.drm_links.specs.ClosedLinks.{entries_of, histories_of}
 use Rattle.drm_links.specs.MemoryDock.{DockState}
 use Rattle.drm_links.proofs.DockLemmas.{links-insert, contents-put}
 use Rattle.drm_links.proofs.memory_dock.MemDock.put.Goals as goal
@@ -17,6 +17,8 @@ returns-in-Ok-insert-clause-put c =
       links = links;
       closed = entries_of c.self.inside.closed;
       failing = c.self.inside.failing.items;
+      histories = histories_of c.self.inside.histories;
+      room = c.self.inside.room;
       openings = c.self.inside.openings;
       reaches = c.self.inside.reaches;
       calls = c.self.inside.calls;
@@ -31,6 +33,8 @@ returns-in-Ok-insert-clause-tells c =
       links = map.from_entries c.insert.new.self.entries;
       closed = entries_of c.self.inside.closed;
       failing = c.self.inside.failing.items;
+      histories = histories_of c.self.inside.histories;
+      room = c.self.inside.room;
       openings = c.self.inside.openings;
       reaches = c.self.inside.reaches;
       calls = c.self.inside.calls;

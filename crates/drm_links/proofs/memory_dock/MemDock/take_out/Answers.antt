@@ -1,6 +1,6 @@
 use Rattle.std.proofs.Common.{Some, inr, refl, sym, ap}
 use Rattle.std.specs.FinMap as map
-use Rattle.drm_links.specs.ClosedLinks.{entries_of}
+use Rattle.drm_links.specs.ClosedLinks.{entries_of, histories_of}
 use Rattle.drm_links.proofs.DockLemmas.{get-entries_of, links-remove}
 use Rattle.drm_links.proofs.memory_dock.MemDock.take_out.Goals as goal
 
@@ -12,6 +12,8 @@ returns-in_default-clause-exact c =
         links = map.from_entries (c.in_default.ensures.unchanged i);
         closed = entries_of c.self.inside.closed;
         failing = c.self.inside.failing.items;
+        histories = histories_of c.self.inside.histories;
+        room = c.self.inside.room;
         openings = c.saturating_add-self-inside.ensures i;
         reaches = c.self.inside.reaches;
         calls = c.saturating_add-self-inside-2.ensures i;
@@ -31,6 +33,8 @@ returns-clause-exact c =
             links = removed i;
             closed = entries_of c.self.inside.closed;
             failing = c.self.inside.failing.items;
+            histories = histories_of c.self.inside.histories;
+            room = c.self.inside.room;
             openings = c.saturating_add-self-inside.ensures i;
             reaches = c.self.inside.reaches;
             calls = c.saturating_add-self-inside-2.ensures i;

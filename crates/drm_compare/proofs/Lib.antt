@@ -1,0 +1,5 @@
+pub mod SomeParity
+pub mod Fragments
+pub mod Cuts
+pub mod Same
+pub mod Counted

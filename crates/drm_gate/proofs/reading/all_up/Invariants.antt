@@ -1,0 +1,6 @@
+use Rattle.std.proofs.Common.{◌≡◌, ℕ, ◌<◌, true}
+use Rattle.drm_links.specs.Calls.{is_up}
+use Rattle.drm_gate.proofs.reading.all_up.Given as goal
+
+abbrev pub invariant-loop-k : goal.invariant-loop-k
+invariant-loop-k g l = (j : ℕ) → j < l.k → is_up (g.R.Outlets.up l.relay) j ≡ true

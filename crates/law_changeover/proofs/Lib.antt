@@ -1,0 +1,2 @@
+pub mod SameFrames
+pub mod Changeovers

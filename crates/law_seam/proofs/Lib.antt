@@ -1,0 +1,4 @@
+mod Shifted
+mod Behind
+mod AtSeam
+mod Below

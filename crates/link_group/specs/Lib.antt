@@ -1,4 +1,0 @@
-pub mod Reaching
-pub mod MemberTook
-pub mod Binding
-pub mod Listed

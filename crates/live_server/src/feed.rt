@@ -1,0 +1,104 @@
+//! An input, and links over which frames are sent.
+
+ghost use Rattle.std.specs.Prelude.{ℕ, List, Bool, Option, None, true, false, ◌≡◌, ◌≤◌, ◌∷◌, [], length, take, IfOk, IfErr, OnErr, Err};
+ghost use Rattle.std.specs.Borrow.{GName};
+ghost use Rattle.drm_links.specs.Known.{Known, HasCause};
+ghost use Rattle.drm_links.specs.Source.{Input};
+ghost use Rattle.drm_links.specs.History.{History};
+ghost use Rattle.drm_links.specs.Calls.{is_up, NoneUp};
+ghost use Rattle.cmd_input.specs.Input.{ReadsFirstBytes, FailsBehind};
+ghost use Rattle.drm_server.specs.Serving.{ServesFrame};
+ghost use Rattle.live_server.specs.Turns.{FeedTurn, Asks, Sends, with_turns};
+
+use cmd_faults::Fault;
+use cmd_input::read_front;
+use drm_links::{Group, Source, none_up};
+use drm_server::{Server, serve_frame};
+
+/// An input and links, with one order of what is read and what is sent.
+pub trait LiveFeed<I> {
+    /// The input.
+    ghost source: { Self → I };
+
+    /// What is known of the input.
+    ghost input: { Self → Known Input };
+
+    /// What is known of the links.
+    ghost history: { Self → Known History };
+
+    /// Which of the links haven't failed.
+    ghost up: { Self → List Bool };
+
+    /// What was asked for and sent, in one order, where that is told.
+    ghost turns: { Self → Option (List FeedTurn) };
+
+    /// The references that it holds to the input and to the links, if it holds any.
+    ghost source_name: { Self → GName };
+
+    ghost links_name: { Self → GName };
+
+    /// Whether each link has failed.
+    fn none_left(&self) -> bool
+        ensures yes { result ≡ true → NoneUp (up self.now) }
+        ensures no { result ≡ false → (k : ℕ) × (is_up (up self.now) k ≡ true) };
+
+    /// Reads a piece of input into the front of the room, until input ends or the room is full. Answers how many bytes came.
+    fn read_piece(&mut self, piece: &mut [u8]) -> Result<usize, Fault>
+        ensures read { IfOk result (λ len. (len ≤ length piece.old)
+            × ReadsFirstBytes (length piece.old) (take len piece.new) (input self.old) (input self.new)) }
+        ensures failed { OnErr result (FailsBehind (length piece.old) (input self.old) (input self.new)) }
+        ensures fault { IfErr result (λ fault. fault ≡ Fault.Read) }
+        ensures cause { HasCause (input self.old) (input self.new) (result ≡ Err Fault.Read) }
+        ensures history { history self.new ≡ history self.old }
+        ensures up { up self.new ≡ up self.old }
+        ensures turns { turns self.new ≡ with_turns (Asks (length piece.old) ∷ []) (turns self.old) }
+        ensures same_source { source_name self.new ≡ source_name self.old }
+        ensures same_links { links_name self.new ≡ links_name self.old };
+
+    /// Sends the frame that is loaded, the one behind `n` others, over each link that hasn't failed, with its rests.
+    fn send_frame(&mut self, server: &mut Server<'_>, n: u32, pace: u32)
+        ensures made { ServesFrame server.old.plan server.old.frame pace n
+            (up self.old) (up self.new) (history self.old) (history self.new) }
+        ensures same_count { length (up self.new) ≡ length (up self.old) }
+        ensures server { server.new ≡ server.old }
+        ensures source { source self.new ≡ source self.old }
+        ensures input { input self.new ≡ input self.old }
+        ensures turns { turns self.new ≡ with_turns (Sends n ∷ []) (turns self.old) }
+        ensures same_source { source_name self.new ≡ source_name self.old }
+        ensures same_links { links_name self.new ≡ links_name self.old };
+}
+
+/// An input and a group that know nothing of each other, so no order of both is told.
+#[derive(Drop)]
+pub(crate) struct Apart<'a, I, G> {
+    pub input: &'a mut I,
+    pub group: &'a mut G,
+}
+
+impl<'a, I: Source, G: Group> LiveFeed<I> for Apart<'a, I, G> {
+    ghost source = { λ feed. feed.input.now };
+
+    ghost input = { λ feed. I.known feed.input.now };
+
+    ghost history = { λ feed. G.known feed.group.now };
+
+    ghost up = { λ feed. G.up feed.group.now };
+
+    ghost turns = { λ feed. None };
+
+    ghost source_name = { λ feed. feed.input.ghost_name };
+
+    ghost links_name = { λ feed. feed.group.ghost_name };
+
+    fn none_left(&self) -> bool {
+        none_up(&*self.group)
+    }
+
+    fn read_piece(&mut self, piece: &mut [u8]) -> Result<usize, Fault> {
+        read_front(&mut *self.input, piece)
+    }
+
+    fn send_frame(&mut self, server: &mut Server<'_>, n: u32, pace: u32) {
+        serve_frame(server, n, pace, &mut *self.group);
+    }
+}

@@ -1,7 +1,0 @@
-use Rattle.std.proofs.Common.{ℕ, ◌≡◌, ◌<◌, get_or}
-use Rattle.gf_field.specs.Field.{times}
-use Rattle.rs_erase.specs.Prepared.{scale_of}
-use Rattle.rs_erase.proofs.prepared.write_weights.Given as goal
-
-abbrev pub invariant-loop-j : goal.invariant-loop-j
-invariant-loop-j l = (k : ℕ) → k < l.j → times (get_or l.weights k 0) (scale_of l.locators k) ≡ 1
