@@ -33,19 +33,19 @@ _drmcast() {
     _drmcast_words
     local at=$((${#words[@]} - 1))
     if [ "$at" -le 1 ]; then
-        _drmcast_among 'fac check capacity serve receive count air show convert gate pack unpack texts exercise'
+        _drmcast_among 'fac check capacity agree serve receive count air show convert gate pack unpack texts exercise'
         return
     fi
     case ${words[at - 1]} in
-        --to | --pace | --from | --live | --window | --reach | --first | --frames | --idle | --limit) return ;;
+        --to | --pace | --from | --until | --live | --window | --reach | --first | --frames | --idle | --limit) return ;;
     esac
     case ${words[1]}:$at:${words[at]} in
-        serve:*:-*) _drmcast_among '--to --pace --from --live' ;;
+        serve:*:-*) _drmcast_among '--to --pace --from --until --live' ;;
         receive:*:-* | count:*:-* | gate:*:-*) _drmcast_among "$common --idle --limit" ;;
         convert:*:-* | unpack:*:-* | texts:*:-*) _drmcast_among "$common" ;;
         air:*:-*) _drmcast_among '--window' ;;
         convert:2:* | gate:4:*) _drmcast_among "$carries" ;;
-        check:2:* | capacity:2:* | serve:2:* | air:2:* | air:3:*) _drmcast_file ;;
+        check:2:* | capacity:2:* | agree:2:* | agree:3:* | serve:2:* | air:2:* | air:3:*) _drmcast_file ;;
     esac
 }
 

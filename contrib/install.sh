@@ -57,11 +57,12 @@ for name in drmcast drmpaths; do
     install -D -m 644 "$here/contrib/drmcast.bash" "$into/share/bash-completion/completions/$name"
 done
 # The last line is what the sessions of the documents need besides.
-for script in {watch,check_drmcast,playout,interleave,report,pcap,explain,record,pace,units,messages}.py \
+for script in {watch,check_drmcast,playout,onair,interleave,report,pcap,explain,record,pace,units,messages}.py \
     {drop,deliveries,tshark_show}.py loopback.sh; do
     install -D -m 755 "$here/tools/$script" "$into/lib/drmcast/$script"
 done
-for shared in command_line datagrams fitting metrics playlists reports schedule_faults schedule_told schedules; do
+for shared in changes command_line datagrams fed_server fitting followed follower joined lasting metrics on_air pieces playlists playout_told reports schedule_faults \
+    schedule_told schedules sending; do
     install -D -m 644 "$here/tools/$shared.py" "$into/lib/drmcast/$shared.py"
 done
 for document in docs/{OPERATION,SECURITY,SCHEDULE,FORMATS,TOUR,WIRESHARK,FIGURES,PROMISES,PROVED,BELIEVED,DECISIONS}.md README.md CHANGELOG.md LICENSE; do

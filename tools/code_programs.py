@@ -1,12 +1,10 @@
 """The programs that code_speed.py builds: ours in Rattle, and those of the peers in C."""
 
-# How words are solved by one pattern, and by none, as before there were patterns.
-BY_PATTERN = ("    let pattern = rs_erase::Pattern::prepare(erased);\n", "rs_erase::solve_by(&pattern, &mut work)")
+# How the messages of words are filled: by one pattern of places at one distance, or by none, as before there were patterns.
 BY_NONE = ("", "rs_erase::solve(&mut work, erased)")
-# The same of the message alone, of places at one distance.
 BY_SPACED = (
     """    let spacing = rs_erase::Spacing::prepare(5);
-    let Some(pattern) = rs_erase::SpacedPattern::prepare(erased, 5) else {
+    let Some(pattern) = rs_erase::SpacedPattern::prepare(erased, &spacing) else {
         return COUNT as u64;
     };
 """,
@@ -32,7 +30,6 @@ enum Body {
     Encode,
     Syndromes,
     Solve,
-    SolveBy,
     SolveSpaced,
     Check,
 }
@@ -122,21 +119,6 @@ fn solve_all(words: &[[u8; 255]; COUNT], erased: &[u8]) -> u64 {
     wrong
 }
 
-/// The same by one pattern, which is prepared for all of them.
-fn solve_by_all(words: &[[u8; 255]; COUNT], erased: &[u8]) -> u64 {
-    let mut wrong = 0u64;
-    if !are_places(erased) || erased.len() > 48 {
-        return COUNT as u64;
-    }
-PREPARE    for word in words.iter() {
-        let mut work = without(word, erased);
-        if SOLVE_BY.is_err() || work != *word {
-            wrong = wrong.wrapping_add(1);
-        }
-    }
-    wrong
-}
-
 /// How many of the messages don't come back.
 fn solve_spaced_all(words: &[[u8; 255]; COUNT], erased: &[u8]) -> u64 {
     let mut wrong = 0u64;
@@ -195,10 +177,6 @@ fn rounds_of(words: &mut [[u8; 255]; COUNT], body: Body, length: usize, rounds: 
                 erased[47] = 240 + (i % 13) as u8;
                 solve_all(words, &erased)
             }
-            Body::SolveBy => {
-                erased[47] = 240 + (i % 13) as u8;
-                solve_by_all(words, &erased)
-            }
             Body::SolveSpaced => {
                 erased[47] = 240 + (i % 13) as u8;
                 solve_spaced_all(words, &erased)
@@ -249,17 +227,15 @@ fn main(rt: HostRuntime) -> io::Result<()> {
     }
     println!(rt; "words,0.0,{sum}")?;
     time(&rt, &mut words, "solve 48", Body::Solve, 207, 10)?;
-    time(&rt, &mut words, "solve by 48", Body::SolveBy, 207, 10)?;
     time(&rt, &mut words, "solve spaced 48", Body::SolveSpaced, 207, 10)?;
     time(&rt, &mut words, "check", Body::Check, 207, 2)
 }
 """
 
 
-def main(by, spaced):
-    """The program whose words are solved so, and their messages so."""
-    text = MAIN.replace("PREPARE_SPACED", spaced[0]).replace("SOLVE_SPACED", spaced[1])
-    return text.replace("PREPARE", by[0]).replace("SOLVE_BY", by[1])
+def main(spaced):
+    """The program that fills messages so."""
+    return MAIN.replace("PREPARE_SPACED", spaced[0]).replace("SOLVE_SPACED", spaced[1])
 
 
 INVARIANT = """use Rattle.std.proofs.Common.{ℕ, ◌+◌, ◌<◌, get_or}

@@ -1,5 +1,5 @@
 #!/usr/bin/env python3
-"""Measures how fast `encode`, `syndromes`, `solve`, `solve_by` and `solve_spaced` of rs_erase are, beside libfec and, over many words, ISA-L;
+"""Measures how fast `encode`, `syndromes`, `solve` and `solve_spaced` of rs_erase are, beside libfec and, over many words, ISA-L;
 and `crc16` of drm_bits.
 
 It writes a temporary folder with copies of drm_bits, gf_field and rs_erase, and a program that calls them; `rt run` proves and builds
@@ -9,8 +9,8 @@ counts. What is printed is a table in Markdown, and whether all programs made th
 
     tools/code_speed.py [--rounds N] [--before TREE]
 
-With --before the same is built of another tree of this repository, and runs by turns with the others; where it has no `solve_by`
-or `solve_spaced`, `solve_by` or `solve` is measured in its place. It ends with 1 if two programs disagree.
+With --before the same is built of another tree of this repository, and runs by turns with the others; where it has no
+`solve_spaced`, `solve` is measured in its place. It ends with 1 if two programs disagree.
 """
 
 import argparse
@@ -32,7 +32,6 @@ ROWS = [
     ("encode, chunks of 190 bytes", "encode 190", "encode 207"),
     ("syndromes", "syndromes", "syndromes"),
     ("solve, 48 erasures", "solve 48", "solve 48"),
-    ("solve_by, 48 erasures, 64 words a pattern", "solve by 48", "solve 48"),
     ("solve_spaced, 48 erasures, 64 words a pattern", "solve spaced 48", "solve 48"),
     ("crc16, packets of 4,090 bytes", "check", None),
 ]
@@ -46,10 +45,9 @@ def write_crates(tree, folder):
         shutil.copytree(tree / "crates" / name, crates / name, ignore=shutil.ignore_patterns("out"))
     program = crates / "code_speed"
     source = crates / "rs_erase" / "src"
-    by = code_programs.BY_PATTERN if (source / "pattern.rt").exists() else code_programs.BY_NONE
-    spaced = code_programs.BY_SPACED if (source / "spaced.rt").exists() else by
+    spaced = code_programs.BY_SPACED if (source / "zech_sums.rt").exists() else code_programs.BY_NONE
     (program / "src").mkdir(parents=True)
-    (program / "src" / "main.rt").write_text(code_programs.main(by, spaced), encoding="utf-8")
+    (program / "src" / "main.rt").write_text(code_programs.main(spaced), encoding="utf-8")
     (program / "proofs" / "are_places").mkdir(parents=True)
     (program / "proofs" / "are_places" / "Invariants.antt").write_text(code_programs.INVARIANT, encoding="utf-8")
     (folder / "crates.txt").write_text("drm_bits:\ngf_field:\nrs_erase: gf_field\ncode_speed: drm_bits gf_field rs_erase\n")

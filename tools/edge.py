@@ -253,8 +253,8 @@ def differences(program, case):
 # What is said behind a refusal of the words or a fault, by the words: the last line of standard error. Expected is what this system says.
 LINES = {
     "drmcast": {
-        "": "no words: a command comes first, one of fac check capacity serve receive count air show convert gate pack unpack texts exercise",
-        "serv it": "serv: a command comes first, one of fac check capacity serve receive count air show convert gate pack unpack texts exercise",
+        "": "no words: a command comes first, one of fac check capacity agree serve receive count air show convert gate pack unpack texts exercise",
+        "serv it": "serv: a command comes first, one of fac check capacity agree serve receive count air show convert gate pack unpack texts exercise",
         "show l.cap": "l.cap: show reads standard input: < l.cap",
         "receive l.cap": "l.cap: ADDRS: an address is four numbers and a port, as 192.0.2.7:5000; 1 to 16 of them, all different, are joined by "
                          "commas; a capture comes on standard input: < l.cap",
@@ -268,11 +268,11 @@ LINES = {
         "serve a --to 127.0.0.1": "127.0.0.1: --to: an address is four numbers and a port, as 192.0.2.7:5000; 1 to 16 of them, all different, "
                                   "are joined by commas",
         "serve a --pace 10001": "10001: --pace: a number from 0 to 10000",
-        "serve a --window 8": "--window: the options of serve are --to --pace --from --live",
+        "serve a --window 8": "--window: the options of serve are --to --pace --from --until --live",
         "fac --window=8": "--window=8: fac has no options",
         "serve a --pace 1 --pace 2": "--pace: this option is given twice",
         "serve a --pace": "--pace: this option has a value behind it",
-        "serve a -p 1": "-p: the options of serve are --to --pace --from --live",
+        "serve a -p 1": "-p: the options of serve are --to --pace --from --until --live",
         "serve a --live 1,0": "1,0: --live: streams are numbers from 0 to 3, rising, joined by commas",
         "convert pft 2 1400": "pft: this is one word: pft:2:1400",
         "convert pft:9:1400": "pft:9:1400: CARRY: packets are carried plain, or pft:M:MTU with M 0 to 5 and MTU 128 to 1500, as pft:2:1400",

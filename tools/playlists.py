@@ -1,6 +1,7 @@
 """A list of schedules, each with the moment when it begins: what `playout.py` sends, and `interleave.py` takes sizes from."""
 import collections
 import datetime
+import functools
 import re
 import time
 
@@ -10,12 +11,20 @@ import schedules
 Entry = collections.namedtuple("Entry", "line begin name number count super_frames text")
 
 BEGIN = re.compile(r"2\d{3}-\d\d-\d\dT\d\d:\d\d:\d\d(\.\d{1,3})?Z")
+# The schedules of a list are looked at again with each change of one of them.
+PARSED = 256
 FIRST = re.compile(r"^first (\d+) (\d+)\nlength (\d+)$", re.MULTILINE)
 FRAMES = schedules.FRAMES
 NUMBERS, COUNTS = 1 << 16, 1 << 32
 WRONG_LIST = 3
 # The Modified Julian Date of the first day of 1970.
 MJD_OF_1970, DAY_MILLIS, HOUR_MILLIS, MINUTE_MILLIS = 40_587, 86_400_000, 3_600_000, 60_000
+
+
+@functools.lru_cache(maxsize=PARSED)
+def parsed(text):
+    """What is in a text."""
+    return schedules.Schedule(text)
 
 
 def millis(word):
@@ -57,7 +66,22 @@ def named(path):
             yield number, begin, name.strip()
 
 
-def entry(program, number, begin, name):
+class Checks:
+    """What `drmcast` says of a schedule's file."""
+
+    def __init__(self, program):
+        self.program = program
+
+    def schedule(self, name):
+        """What `drmcast check` says: its status, the canonical text, and its complaint."""
+        return schedules.checked(self.program, name)
+
+    def unfit(self, name, text):
+        """What doesn't fit its channel."""
+        return fitting.unfit(self.program, name, text)
+
+
+def entry(checks, number, begin, name):
     """The schedule that a line names, as `drmcast check` reads it."""
     if not name:
         raise Wrong([f"line {number} isn't a moment and a file: {begin[:60]}"])
@@ -65,12 +89,12 @@ def entry(program, number, begin, name):
         at = millis(begin)
     except ValueError as fault:
         raise Wrong([f"line {number}: {fault}"]) from None
-    status, text, complaint = schedules.checked(program, name)
+    status, text, complaint = checks.schedule(name)
     if status:
         raise Wrong([f"line {number}: {name}: {'; '.join(complaint.splitlines())}"], status)
     found = FIRST.search(text)
     if found is None:
-        raise Wrong([f"line {number}: {name}: {program} check prints no schedule"])
+        raise Wrong([f"line {number}: {name}: {checks.program} check prints no schedule"])
     return Entry(number, at, name, *map(int, found.groups()), text)
 
 
@@ -100,14 +124,14 @@ def streams_of(live):
 def faults_of_live(one, live):
     """The live streams that no configuration of a schedule has: their bytes would never be read."""
     for stream in streams_of(live):
-        if not schedules.Schedule(one.text).has(stream):
+        if not parsed(one.text).has(stream):
             yield f"line {one.line}: {one.name} has no stream {stream}, which --live names"
 
 
 def changes_of_live(entries, live):
     """Where a live stream changes its size, which an encoder can't know."""
     for stream in streams_of(live):
-        found = [(one.line, *size) for one in entries for size in schedules.sizes([(one.name, schedules.Schedule(one.text))], stream)]
+        found = [(one.line, *size) for one in entries for size in schedules.sizes([(one.name, parsed(one.text))], stream)]
         for (_, before, where_before), (line, size, where) in zip(found, found[1:]):
             if size != before:
                 yield f"line {line}: stream {stream} has {where}, and {where_before}; what feeds it has to change with it"
@@ -115,7 +139,7 @@ def changes_of_live(entries, live):
 
 def warnings_of_clocks(one, pace):
     """Where the time in the SDC isn't the moment at which it is sent."""
-    for place, config in enumerate(schedules.Schedule(one.text).configurations, 1):
+    for place, config in enumerate(parsed(one.text).configurations, 1):
         if config.clock:
             mjd, hours, minutes = map(int, config.clock)
             said = (mjd - MJD_OF_1970) * DAY_MILLIS + hours * HOUR_MILLIS + minutes * MINUTE_MILLIS
@@ -125,13 +149,13 @@ def warnings_of_clocks(one, pace):
                        f"that would be \"clock {begins // DAY_MILLIS + MJD_OF_1970} {begins // HOUR_MILLIS % 24} {begins // MINUTE_MILLIS % 60}\"")
 
 
-def faults_of_channels(one, program):
+def faults_of_channels(one, checks):
     """What no modulator can send of a schedule."""
-    for text in fitting.unfit(program, one.name, one.text):
+    for text in checks.unfit(one.name, one.text):
         yield f"line {one.line}: {one.name}: {text}"
 
 
-def read(path, program, pace, live=None, interleaved=False, fits=False):
+def read(path, checks, pace, live=None, interleaved=False, fits=False):
     """The schedules of a list, and what is to be looked at though it is no fault; raises what is wrong. What `interleave.py` feeds has one
     size of each stream, so a change of it is a fault then; and with `fits` so is what a channel doesn't carry."""
     entries, found, unfit, status = [], [], [], 0
@@ -141,9 +165,9 @@ def read(path, program, pace, live=None, interleaved=False, fits=False):
         listed, found = [], fault.texts
     for number, begin, name in listed:
         try:
-            entries.append(entry(program, number, begin, name))
+            entries.append(entry(checks, number, begin, name))
             found += faults_of_live(entries[-1], live)
-            unfit += faults_of_channels(entries[-1], program)
+            unfit += faults_of_channels(entries[-1], checks)
         except Wrong as fault:
             found += fault.texts
             status = status or fault.status

@@ -1,17 +1,19 @@
 #!/usr/bin/env python3
-"""Tells how large the definitions are that a definition, or the clauses of a source file, rest on: the files that are reached by
-imports, and their lines.
+"""Tells how large the definitions are that a definition, the clauses of a source file, or one clause of a function rest on: the files that
+are reached by imports, and their lines.
 
     tools/reached.py crates/recv_report/specs/Headline.antt
-    tools/reached.py --check docs/BELIEVED.md
+    tools/reached.py --check docs/BELIEVED.md README.md
     tools/reached.py --write docs/BELIEVED.md
 
 Counted are the lines of definitions and comments, without imports and empty ones, crate by crate. What the toolchain's own
-library defines, and the types that the code declares, aren't counted.
+library defines, and the types that the code declares, aren't counted; of the toolchain's other crates those are named whose
+definitions are reached.
 
 A list of what is believed has a table behind each line "Reached from `FILE`:", with the files of each crate, and their number and
-lines below it; behind "Reached from `FILE`, but not from `OTHER`:" with those that FILE adds to what OTHER reaches. With --check the
-list is compared with what is reached, with --write it is made anew.
+lines below it; behind "Reached from `FILE`, but not from `OTHER`:" with those that FILE adds to what OTHER reaches. In the place of a
+file may stand "clause `NAME` of `crate::function`", or a pattern of files. With --check each list is compared with what is
+reached, and each "N files of M crates with L lines" of the documents behind it with these sums; with --write the list is made anew.
 """
 import collections
 import itertools
@@ -20,10 +22,16 @@ import re
 import sys
 
 import command_line
+from definitions import functions
 
 TOP = pathlib.Path(__file__).resolve().parent.parent
-IMPORT = re.compile(r"^\s*(?:ghost )?use Rattle\.(\w+)\.specs\.([\w.]+)", re.MULTILINE)
-LISTED = re.compile(r"^Reached from `([^`]+)`(?:, but not from `([^`]+)`)?:\n(?:\n\|.*(?:\n\|.*)*\n\n.*\n)?", re.MULTILINE)
+IMPORT = re.compile(r"^\s*(?:ghost |pub )?use Rattle\.(\w+)\.specs\.([\w.]+)", re.MULTILINE)
+PLACE = r"(?:clause `\w+` of )?`[^`]+`"
+LISTED = re.compile(rf"^Reached from ({PLACE})(?:, but not from ({PLACE}))?:\n(?:\n\|.*(?:\n\|.*)*\n\n.*\n)?", re.MULTILINE)
+CLAUSE = re.compile(r"clause `(\w+)` of `(\w+)::([\w:]+)`")
+SUMS = re.compile(r"([\d,]+)\s+files\s+of\s+(\d+)\s+crates,?\s+with\s+([\d,]+)\s+lines")
+# The library of the toolchain: numbers, lists, finite maps and the like.
+LIBRARY = {"std", "core", "io", "libc", "os", "std_alloc", "std_collections", "std_heap", "std_io"}
 
 
 def file_of(crate, path):
@@ -36,19 +44,34 @@ def file_of(crate, path):
     return None
 
 
+def begins(place):
+    """The files with which a place of a list begins."""
+    clause = CLAUSE.fullmatch(place)
+    if not clause:
+        files = sorted(TOP.glob(place.strip("`")))
+        return files or sys.exit(f"no file {place}")
+    name, crate, function = clause.groups()
+    found = functions(crate).get(function) if (TOP / "crates" / crate).is_dir() else None
+    if not found or name not in found.clauses:
+        sys.exit(f"no {place}")
+    return sorted({file for file, _ in found.clauses[name] if file.is_file()})
+
+
 def reached(start):
-    """All files of definitions that are reached from a file."""
-    found, left = set(), [start]
+    """All files of definitions that are reached from these, and the toolchain's crates that they name."""
+    found, left, others = set(), list(start), set()
     while left:
         file = left.pop()
         if file not in found:
             found.add(file)
-            left += filter(None, (file_of(*names) for names in IMPORT.findall(file.read_text(encoding="utf-8"))))
-    return {file for file in found if file.suffix == ".antt"}
+            for crate, path in IMPORT.findall(file.read_text(encoding="utf-8")):
+                others |= set() if (TOP / "crates" / crate).is_dir() else {crate}
+                left += filter(None, [file_of(crate, path)])
+    return {file for file in found if file.suffix == ".antt"}, others - LIBRARY
 
 
 def lines_of(file):
-    return sum(1 for line in file.read_text(encoding="utf-8").splitlines() if line.strip() and not line.startswith("use "))
+    return sum(1 for line in file.read_text(encoding="utf-8").splitlines() if line.strip() and not line.startswith(("use ", "pub use ")))
 
 
 def by_crate(files):
@@ -65,13 +88,16 @@ def name_of(file):
 
 
 def section(start, other):
-    """What a list says of a file, beside what another one reaches: the line that names it, the table of what is reached, and the sums."""
-    crates = by_crate(reached(TOP / start) - (reached(TOP / other) if other else set()))
-    rows = [f"| `{crate}` | {', '.join(map(name_of, files))} |" for crate, files in crates.items()]
-    files = [file for some in crates.values() for file in some]
-    lines = sum(map(lines_of, files))
-    sums = f"{len(files):,} files of {len(crates)} crates, with {lines:,} lines of definitions and comments."
-    named = f"Reached from `{start}`, but not from `{other}`:" if other else f"Reached from `{start}`:"
+    """What a list says of a place, beside what another one reaches: the line that names it, the table of what is reached, and the sums."""
+    files, toolchain = reached(begins(start))
+    known, named_before = reached(begins(other)) if other else (set(), set())
+    crates = by_crate(files - known)
+    rows = [f"| `{crate}` | {', '.join(map(name_of, some))} |" for crate, some in crates.items()]
+    count, lines = sum(map(len, crates.values())), sum(lines_of(file) for some in crates.values() for file in some)
+    sums = f"{count:,} files of {len(crates)} crates, with {lines:,} lines of definitions and comments"
+    beside = ", ".join(f"`{crate}`" for crate in sorted(toolchain - named_before))
+    sums += f"; beside them definitions of the toolchain's {beside}." if beside else "."
+    named = f"Reached from {start}, but not from {other}:" if other else f"Reached from {start}:"
     return "\n".join([named, "", "| crate | files of its `specs` |", "|---|---|", *rows, "", sums, ""])
 
 
@@ -80,31 +106,49 @@ def made_anew(text):
 
 
 def compare(file):
-    """Ends the run where a list isn't what is reached."""
+    """Ends the run where a list isn't what is reached, or where there is none, or one of an unknown form. Answers the sums."""
     text = file.read_text(encoding="utf-8")
     for old, new in itertools.zip_longest(text.splitlines(), made_anew(text).splitlines(), fillvalue="(nothing)"):
         if old != new:
             sys.exit(f"{file}: not what is reached: run tools/reached.py --write {file}\n  there: {old}\n  now:   {new}")
-    print(f"{file}: {len(LISTED.findall(text))} lists are what is reached")
+    lists, begun = len(LISTED.findall(text)), len(re.findall("^Reached from", text, re.MULTILINE))
+    if not lists or lists != begun:
+        sys.exit(f"{file}: {begun} lines begin a list, and {lists} are of the form that is known")
+    print(f"{file}: {lists} lists are what is reached")
+    return set(SUMS.findall(text))
+
+
+def compare_sums(file, sums):
+    """Ends the run where a document has other sums, or none."""
+    there = SUMS.findall(file.read_text(encoding="utf-8"))
+    for some in there or [("no",) * 3]:
+        if some not in sums:
+            sys.exit(f"{file}: {some[0]} files of {some[1]} crates with {some[2]} lines are no list's sums")
+    print(f"{file}: {len(there)} sums are those of lists")
 
 
 def tell(start):
-    crates = by_crate(reached(start))
-    for crate, files in crates.items():
-        print(f"{crate}: {len(files)} files, {sum(map(lines_of, files))} lines")
-    files = [file for some in crates.values() for file in some]
+    files, toolchain = reached([start])
+    crates = by_crate(files)
+    for crate, some in crates.items():
+        print(f"{crate}: {len(some)} files, {sum(map(lines_of, some))} lines")
     print(f"all: {len(files)} files of {len(crates)} crates, {sum(map(lines_of, files))} lines")
+    if toolchain:
+        print(f"beside them of the toolchain: {', '.join(sorted(toolchain))}")
 
 
 def main():
     parser = command_line.parser(__doc__)
     what = parser.add_mutually_exclusive_group(required=True)
     what.add_argument("definition", metavar="FILE", nargs="?", type=command_line.file)
-    what.add_argument("--check", metavar="LIST", type=command_line.file)
+    what.add_argument("--check", metavar="LIST", nargs="+", type=command_line.file)
     what.add_argument("--write", metavar="LIST", type=command_line.file)
     given = parser.parse_args()
     if given.check:
-        compare(pathlib.Path(given.check))
+        first, *others = map(pathlib.Path, given.check)
+        sums = compare(first)
+        for other in others:
+            compare_sums(other, sums)
     elif given.write:
         file = pathlib.Path(given.write)
         file.write_text(made_anew(file.read_text(encoding="utf-8")), encoding="utf-8")

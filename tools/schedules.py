@@ -142,12 +142,13 @@ def lines(text):
 
 
 class Stream:
-    """A stream of a configuration: the bytes of its parts, and the file of its content, None if it has none."""
+    """A stream of a configuration: the bytes of its parts, and its content, which is a file or else one byte again and again."""
 
     def __init__(self, line):
         self.number = line.number
         self.a, self.b = map(int, line.words[1:3])
         self.file = line.words[4] if line.words[3] == "file" else None
+        self.fill = None if self.file else bytes.fromhex(line.words[4])
         self.size = self.a + self.b
 
 
@@ -249,7 +250,8 @@ def entity_size(line):
     return HEAD + fixed + sum(len(each) // 2 for each in digits if each != "-")
 
 
-def checked(program, name):
-    """What `drmcast check` says of a schedule's file: its status, the canonical text, and what it complains."""
-    asked = subprocess.run([program, "check", "--", name], stdin=subprocess.DEVNULL, stdout=subprocess.PIPE, stderr=subprocess.PIPE, check=False)
+def checked(program, name, folder=None):
+    """What `drmcast check` says of a schedule's file: its status, the canonical text, and what it complains. The files that it names are looked for from
+    this folder on."""
+    asked = subprocess.run([program, "check", "--", name], cwd=folder, stdin=subprocess.DEVNULL, stdout=subprocess.PIPE, stderr=subprocess.PIPE, check=False)
     return command_line.status_of(asked), asked.stdout.decode(errors="replace"), asked.stderr.decode(errors="replace").strip()

@@ -1,11 +1,14 @@
 #!/usr/bin/env python3
 """Times serving and receiving in one run, beside tshark on the same datagrams where it is installed.
 
-    tools/speeds.py PROGRAM [--super-frames N] [--rounds N]
-    tools/speeds.py PROGRAM --before PROGRAM [--super-frames N] [--turns N]
+    tools/speeds.py PROGRAM [--super-frames N] [--rounds N] [--seed N]
+    tools/speeds.py PROGRAM --before PROGRAM [--super-frames N] [--turns N] [--seed N]
 
-PROGRAM is crates/drmcast/out/drmcast. The schedule has packets of 4,090 bytes; in the first of each three a block comes on top. Its
+PROGRAM is crates/drmcast/out/drmcast. Served is a stream of 480 bytes a frame, which a usual channel carries, of 1,044, the most that any
+carries, and of 4,004, which none does; in the first packet of each three a block comes on top. The
 stream is one byte again and again, and in the rows that say so 4 MB of a file, the most that a schedule reads.
+What is received has lost random fragments of each packet, by a seed, or is shuffled: the datagrams of three packets stand in random order.
+Rows with always the same fragments lost say so.
 A row has the bytes of the datagrams that were served, or that came, the best time of the rounds and the rate. `air` serves and
 receives in one process; the row behind it is what is left of its time without that of `serve` for the same datagrams. The last
 rows are sessions over the loopback, at an even pace, of two lengths, with the most memory that the receiver held, by GNU time
@@ -30,14 +33,26 @@ import command_line
 import turns
 from datagrams import datagrams, pcap
 
-STREAM = 4004
+# Bytes of a stream in a frame: what a usual channel carries, the most that any does, and more.
+STREAM, LARGE_STREAM, LONG_STREAM = 480, 1044, 4004
+# Packets of a hundred bytes or so.
+SHORT_STREAM = 20
+# So many packets are shuffled among one another.
+SHUFFLED = 3
 # A stream's file has so many bytes at the most.
 MOST_FILE = 4_194_304
 MOST_SCRIPT = 262_144
 MOST_DELIVERIES = 100_000
 ADDRESSES = [f"127.0.0.1:{port}" for port in range(50123, 50139)]
-# What is compared: under which carry, and how many fragments of each packet are lost.
-RECEIVED = (("plain", 0), ("pft 2", 0), ("pft 2", 2), ("pft 5", 0), ("pft 5", 5))
+# What is served: under which carry, and of how many bytes a frame.
+SERVED = tuple((carry, stream) for stream in (STREAM, LARGE_STREAM, LONG_STREAM) for carry in ("plain", "pft 0", "pft 2", "pft 4", "pft 5")) + (
+    ("plain", SHORT_STREAM), ("pft 2", SHORT_STREAM))
+# What is received: under which carry, of how many bytes a frame, how many fragments of each packet are lost, and in which way.
+RANDOM, SAME, IN_ORDER, MIXED = "random fragments of each packet lost", "of each packet's fragments lost, always the first", "nothing lost", "nothing lost, shuffled"
+RECEIVED = tuple((carry, stream, lost, way) for stream in (STREAM, LARGE_STREAM, LONG_STREAM) for carry, lost, way in (
+    ("pft 2", 2, RANDOM), ("pft 2", 0, MIXED), ("pft 4", 4, RANDOM), ("pft 2", 0, IN_ORDER), ("plain", 0, IN_ORDER))) + (
+    ("pft 2", SHORT_STREAM, 2, RANDOM), ("plain", SHORT_STREAM, 0, IN_ORDER),
+    ("pft 2", LONG_STREAM, 2, SAME), ("pft 5", LONG_STREAM, 0, IN_ORDER), ("pft 5", LONG_STREAM, 5, SAME))
 # Frames and addresses of the sessions over the loopback.
 SESSIONS = ((300, 1), (3000, 1), (1200, 16))
 TSHARK = ("tshark", "-n", "-Y", "dcp-af.crc_ok", "-T", "fields", "-e", "dcp-af.crc_ok", "-r")
@@ -61,8 +76,8 @@ label 0 Radio Nord
 """
 
 
-def schedule(carry, length, content="fill 55"):
-    return PLAN.format(carry=carry, length=length, stream=STREAM, content=content)
+def schedule(carry, length, content="fill 55", stream=LONG_STREAM):
+    return PLAN.format(carry=carry, length=length, stream=stream, content=content)
 
 
 def timed(words, folder, out=os.devnull, rounds=1):
@@ -81,28 +96,51 @@ def row(what, size, took):
     print(f"| {what} | {size / 1e6:.1f} | {took:.2f} | {size / took / 1e6:.1f} |", flush=True)
 
 
-def chosen(folder, name, lost, most):
-    """A script that loses the first fragments of each packet, what is left of the capture, and of how many packets. As many
-    packets as a script may deliver, and as its text may name where fragments are lost."""
-    with open(f"{folder}/{name}.capture", "rb") as capture:
-        parts = list(datagrams(capture.read()))
-    lines, left, packets = [], [], 0
-    room = MOST_SCRIPT - len("feed\n")
-    for datagram, count, index in parts:
+def packets_of(capture):
+    """The datagrams of each packet of a capture."""
+    packets = []
+    for datagram, _, index in datagrams(capture):
         if index == 0:
-            lines_of_packet = [f"take {packets} {i}" for i in range(lost, count)]
-            room -= sum(len(line) + 1 for line in lines_of_packet) if lost else 0
-            if room < 0 or packets == most or len(left) + count > MOST_DELIVERIES:
-                break
-            lines += lines_of_packet
-            packets += 1
-        if index >= lost:
-            left.append(datagram)
-    if not lost:
-        lines = [f"packets 0 {packets - 1}"]
-    script = f"{name}.{lost}.script"
+            packets.append([])
+        packets[-1].append(datagram)
+    return packets
+
+
+def arriving(packets, lost, way, seed):
+    """What is left of packets on their way: of each the numbers of the datagrams that come; and all that come, in their order, each by the
+    number of its packet and its own."""
+    chance = random.Random(seed)
+    come = []
+    for packet in packets:
+        gone = chance.sample(range(len(packet)), lost) if way == RANDOM else range(lost)
+        come.append([index for index in range(len(packet)) if index not in gone])
+    order = []
+    for first in range(0, len(packets), SHUFFLED):
+        some = [(number, index) for number in range(first, min(first + SHUFFLED, len(packets))) for index in come[number]]
+        if way == MIXED:
+            chance.shuffle(some)
+        order += some
+    return come, order
+
+
+def name_of(carry, stream):
+    return f"{carry} {stream}"
+
+
+def chosen(folder, name, lost, way, most, seed):
+    """A script that takes what comes, its datagrams, and of how many packets. As many packets as a script may deliver, and as its text may
+    name where datagrams are named."""
+    packets = packets_of(pathlib.Path(folder, f"{name}.capture").read_bytes())[:most]
+    named = lost > 0 or way == MIXED
+    lines, left, room = [], [], MOST_SCRIPT - len("feed\n")
+    many = len(packets) if not named else min(len(packets), room // (len("take 99999 99\n") * max(map(len, packets))) // SHUFFLED * SHUFFLED)
+    many = min(many, MOST_DELIVERIES // max(map(len, packets)))
+    _, order = arriving(packets[:many], lost, way, seed)
+    left = [packets[number][index] for number, index in order]
+    lines = [f"take {number} {index}" for number, index in order] if named else [f"packets 0 {many - 1}"]
+    script = f"{name}.script"
     pathlib.Path(folder, script).write_text("\n".join(["feed"] + lines) + "\n")
-    return script, left, packets
+    return script, left, many
 
 
 def tshark(folder, name, wanted):
@@ -128,51 +166,65 @@ def session(program, folder, frames, many=1):
     return f"a receiver of {frames:,} frames{at} over UDP holds {memory:.2f} MiB: `{last}`"
 
 
-def lossy(folder, name, lost):
-    """Writes what is left of a capture without the first fragments of each packet, also for tshark; answers the file's name."""
-    whole = pathlib.Path(folder, f"{name}.capture").read_bytes()
-    left = [datagram for datagram, count, index in datagrams(whole) if index >= lost]
-    path = f"{name}.{lost}.capture"
+def lossy(folder, name, lost, way, seed):
+    """Writes what comes of a capture, also for tshark; answers the file's name."""
+    packets = packets_of(pathlib.Path(folder, f"{name}.capture").read_bytes())
+    left = [packets[number][index] for number, index in arriving(packets, lost, way, seed)[1]]
+    path = f"{name}.{lost}.{way[:6]}.capture"
     pathlib.Path(folder, path).write_bytes(b"".join(left))
     pcap(f"{folder}/{path}.pcap", left)
     return path
 
 
+def how(lost, way):
+    return f"{lost} {way}" if lost else way
+
+
+def of_stream(stream):
+    return f"a stream of {stream:,} bytes"
+
+
 def serving(program, folder, length):
     """What is served: of one byte again and again, of a file, and of standard input."""
-    from_file = MOST_FILE // (3 * STREAM)
-    audio = random.Random(1).randbytes(STREAM * 3 * from_file)
+    from_file = MOST_FILE // (3 * LONG_STREAM)
+    audio = random.Random(1).randbytes(LONG_STREAM * 3 * from_file)
     pathlib.Path(folder, "audio.bin").write_bytes(audio)
-    for carry in ("plain", "pft 0", "pft 2", "pft 5"):
-        mtu = "" if carry == "plain" else " 1400"
-        for kind, frames, content in (("", length, "fill 55"), (" from a file", from_file, "file audio.bin")):
-            name = carry + kind
-            pathlib.Path(folder, f"{name}.plan").write_text(schedule(carry + mtu, frames, content))
-            with open(f"{folder}/{name}.capture", "wb") as capture:
-                subprocess.run([program, "serve", f"{name}.plan"], cwd=folder, stdout=capture, check=True)
-            yield turns.Job(f"`serve` under `{carry}`{kind}", ("serve", f"{name}.plan"), size=os.path.getsize(f"{folder}/{name}.capture"))
+    schedules = [(name_of(carry, stream), carry, length, "fill 55", stream) for carry, stream in SERVED]
+    schedules += [(f"{carry} from a file", carry, from_file, "file audio.bin", LONG_STREAM) for carry in ("plain", "pft 2")]
+    for name, carry, frames, content, stream in schedules:
+        text = schedule(carry if carry == "plain" else f"{carry} 1400", frames, content, stream)
+        pathlib.Path(folder, f"{name}.plan").write_text(text)
+        with open(f"{folder}/{name}.capture", "wb") as capture:
+            subprocess.run([program, "serve", f"{name}.plan"], cwd=folder, stdout=capture, check=True)
+        kind = " from a file" if content != "fill 55" else ""
+        yield turns.Job(f"`serve` under `{carry}`{kind}, {of_stream(stream)}", ("serve", f"{name}.plan"), size=os.path.getsize(f"{folder}/{name}.capture"))
     yield turns.Job("`serve --live 0` under `pft 2`, of the same bytes", ("serve", "pft 2 from a file.plan", "--live", "0"), "audio.bin",
                     os.path.getsize(f"{folder}/pft 2 from a file.capture"))
+    sent = name_of("pft 2", LARGE_STREAM)
     for many, rounds in ((1, 0), (len(ADDRESSES), turns.PEER_ROUNDS)):
-        what = f"`serve --to` {many} address{'es' if many > 1 else ''}, where nobody listens, under `pft 2`"
-        words = ("serve", "pft 2.plan", "--to", ",".join(ADDRESSES[:many]))
-        yield turns.Job(what, words, size=os.path.getsize(f"{folder}/pft 2.capture"), turns=rounds)
+        what = f"`serve --to` {many} address{'es' if many > 1 else ''}, where nobody listens, under `pft 2`, {of_stream(LARGE_STREAM)}"
+        words = ("serve", f"{sent}.plan", "--to", ",".join(ADDRESSES[:many]))
+        yield turns.Job(what, words, size=os.path.getsize(f"{folder}/{sent}.capture"), turns=rounds)
 
 
-def receiving(folder, beside):
-    """What is received of these captures, and tshark on the same datagrams."""
-    for carry, lost in RECEIVED:
-        path = lossy(folder, carry, lost)
-        how = "nothing lost" if lost == 0 else f"{lost} of each packet's fragments lost"
-        peer = (*TSHARK, f"{path}.pcap") if beside else ()
-        yield turns.Job(f"`receive` under `{carry}`, {how}", ("receive", "--first", "0"), path, os.path.getsize(f"{folder}/{path}"), peer)
+def receiving(folder, beside, seed):
+    """What is received of these captures, and tshark on the same datagrams where none is lost, since it doesn't recover."""
+    for carry, stream, lost, way in RECEIVED:
+        path = lossy(folder, name_of(carry, stream), lost, way, seed)
+        peer = (*TSHARK, f"{path}.pcap") if beside and not lost else ()
+        yield turns.Job(f"`receive` under `{carry}`, {of_stream(stream)}, {how(lost, way)}", ("receive", "--first", "0"), path, os.path.getsize(f"{folder}/{path}"), peer)
+    path = f"{name_of('plain', SHORT_STREAM)}.capture"
+    yield turns.Job(f"`show` under `plain`, {of_stream(SHORT_STREAM)}", ("show",), path, os.path.getsize(f"{folder}/{path}"))
+    for name in ("plain", "pft 2"):
+        path = f"{name_of(name, LARGE_STREAM)}.capture"
+        yield turns.Job(f"`convert` of `{name}` to `pft 2`, {of_stream(LARGE_STREAM)}", ("convert", "pft:2:1400"), path, os.path.getsize(f"{folder}/{path}"))
 
 
 def others(folder):
     """The other commands, one of each."""
     examples = pathlib.Path(__file__).resolve().parent.parent / "examples"
     plan, script = "pft 2 from a file.plan", "all.script"
-    pathlib.Path(folder, script).write_text(f"feed\npackets 0 {MOST_FILE // STREAM // 3 * 3 - 1}\n")
+    pathlib.Path(folder, script).write_text(f"feed\npackets 0 {MOST_FILE // LONG_STREAM // 3 * 3 - 1}\n")
     pathlib.Path(folder, "units").write_bytes((500).to_bytes(4, "big").join([b""] + [bytes(500)] * 2000))
     for words, given in (
         (("fac",), examples / "fac.bin"),
@@ -180,16 +232,16 @@ def others(folder):
         (("air", plan, script), os.devnull),
         (("exercise", "100"), os.devnull),
         (("pack", "0", "97"), "units"),
-        (("unpack", "0", "0", "97"), "plain.capture"),
-        (("texts", "0"), "plain.capture"),
+        (("unpack", "0", "0", "97"), f"{name_of('plain', LONG_STREAM)}.capture"),
+        (("texts", "0"), f"{name_of('plain', LONG_STREAM)}.capture"),
     ):
         yield turns.Job(f"`{' '.join(words)}`", words, given)
 
 
-def compared(programs, folder, length, rounds):
+def compared(programs, folder, length, rounds, seed):
     """Two programs by turns, over the schedules' captures and all other commands."""
     beside = shutil.which("tshark") is not None
-    jobs = itertools.chain(serving(programs[-1], folder, length), receiving(folder, beside), others(folder))
+    jobs = itertools.chain(serving(programs[-1], folder, length), receiving(folder, beside, seed), others(folder))
     differ = turns.table(jobs, programs, folder, rounds)
     if beside:
         pcap(f"{folder}/none.pcap", [])
@@ -201,34 +253,30 @@ def compared(programs, folder, length, rounds):
 
 
 def served(program, folder, length, rounds):
-    """Prints how fast captures are served, and answers the time of each schedule whose stream is one byte."""
-    from_file = MOST_FILE // (3 * STREAM)
-    pathlib.Path(folder, "audio.bin").write_bytes(random.Random(1).randbytes(STREAM * 3 * from_file))
+    """Prints how fast captures are served, and answers the time of each."""
     alone = {}
-    for name in ("plain", "pft 0", "pft 2", "pft 5"):
-        carry = name if name == "plain" else f"{name} 1400"
-        for kind, text in (("", schedule(carry, length)), (" from a file", schedule(carry, from_file, "file audio.bin"))):
-            pathlib.Path(folder, f"{name}{kind}.plan").write_text(text)
-            took, status = timed([program, "serve", f"{name}{kind}.plan"], folder, f"{name}{kind}.capture", rounds)
-            if status:
-                sys.exit(f"serve ended with {status}")
-            alone[name + kind] = took
-            row(f"`serve` under `{name}`{kind}, to a file", os.path.getsize(f"{folder}/{name}{kind}.capture"), took)
+    for job in serving(program, folder, length):
+        took, status = timed([program, *job.words], folder, rounds=rounds) if job.given == os.devnull else (None, 0)
+        if status:
+            sys.exit(f"serve ended with {status}")
+        if took:
+            alone[job.words[1].removesuffix(".plan")] = took
+            row(job.what, job.size, took)
     return alone
 
 
-def received(program, folder, length, rounds, alone):
+def received(program, folder, length, rounds, seed, alone):
     """Prints how fast `air` is, and what is left of it without serving."""
-    for name, lost in RECEIVED:
-        script, left, packets = chosen(folder, name, lost, 3 * length)
+    for carry, stream, lost, way in RECEIVED:
+        name = name_of(carry, stream)
+        script, left, packets = chosen(folder, name, lost, way, 3 * length, seed)
         size = sum(map(len, left))
         took, status = timed([program, "air", f"{name}.plan", script], folder, "report", rounds)
         if status not in (0, 7):
             sys.exit(f"air ended with {status}")
-        how = f"{lost} of each packet's fragments lost" if lost else "nothing lost"
-        row(f"`air` under `{name}`, {how}", size, took)
+        row(f"`air` under `{carry}`, {of_stream(stream)}, {how(lost, way)}", size, took)
         row("receiving alone", size, took - alone[name] * packets / (3 * length))
-        if shutil.which("tshark") and name != "plain":
+        if shutil.which("tshark") and carry != "plain" and not lost:
             row("tshark on these datagrams", size, tshark(folder, name, left))
 
 
@@ -237,14 +285,15 @@ def main():
     words.add_argument("program", type=command_line.program)
     words.add_argument("--super-frames", type=command_line.number(1, 10_000_000), default=2000)
     words.add_argument("--rounds", type=command_line.number(1, 10_000_000), default=3)
+    words.add_argument("--seed", type=command_line.number(0, 10_000_000), default=1, help="of what is lost, and of the order (1)")
     turns.options(words)
     given = words.parse_args()
     program, length = os.path.abspath(given.program), given.super_frames
     with tempfile.TemporaryDirectory() as folder:
         if given.before:
-            return compared([given.before, program], folder, length, given.turns)
+            return compared([given.before, program], folder, length, given.turns, given.seed)
         print("| what | MB of datagrams | seconds | MB/s |\n|---|---|---|---|")
-        received(program, folder, length, given.rounds, served(program, folder, length, given.rounds))
+        received(program, folder, length, given.rounds, given.seed, served(program, folder, length, given.rounds))
         for frames, many in SESSIONS:
             print(f"| {session(program, folder, frames, many)} | | | |", flush=True)
     if not shutil.which("tshark"):

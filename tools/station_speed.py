@@ -21,7 +21,7 @@ import threading
 import time
 
 import command_line
-from speeds import MOST_FILE, STREAM, schedule
+from speeds import LONG_STREAM, MOST_FILE, schedule
 
 CARRY = "pft 2 1400"
 PORTS = range(50130, 50146)
@@ -106,8 +106,8 @@ def main():
     words.add_argument("--minutes", type=command_line.number(0, 1_000), default=0)
     given = words.parse_args()
     program, length, rounds = os.path.abspath(given.program), given.super_frames, given.rounds
-    from_file = MOST_FILE // (3 * STREAM)
-    content = random.Random(1).randbytes(STREAM * 3 * from_file)
+    from_file = MOST_FILE // (3 * LONG_STREAM)
+    content = random.Random(1).randbytes(LONG_STREAM * 3 * from_file)
     with tempfile.TemporaryDirectory() as folder:
         pathlib.Path(folder, "audio.bin").write_bytes(content)
         for name, frames, kind in (("fill.plan", length, "fill 55"), ("file.plan", from_file, "file audio.bin"), ("own.plan", from_file, "fill 55")):
@@ -117,7 +117,7 @@ def main():
         row("`serve`, one byte again and again", fill, best([program, "serve", "fill.plan"], folder, rounds))
         row("`serve` from a file", file, best([program, "serve", "file.plan"], folder, rounds))
         row("`serve --live 0` of the same bytes from a pipe", file, best([program, "serve", "own.plan", "--live", "0"], folder, rounds, content))
-        live = (content * (length // from_file + 1))[: 3 * STREAM * length]
+        live = (content * (length // from_file + 1))[: 3 * LONG_STREAM * length]
         row("`serve --live 0`, as many frames as the first row", fill, best([program, "serve", "fill.plan", "--live", "0"], folder, rounds, live))
         addresses = [f"127.0.0.1:{port}" for port in PORTS]
         for many in (1, 16):

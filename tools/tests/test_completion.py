@@ -74,7 +74,9 @@ class Completion(unittest.TestCase):
                              ("drmcast gate 127.0.0.1:5000 127.0.0.1:5001 pl", ["gate", "127.0.0.1:5000", "127.0.0.1:5001", "plain"]),
                              ("drmcast receive 0.0.0.0:5000 --id", ["receive", "0.0.0.0:5000", "--idle"]), ("drmcast serve --pa", ["serve", "--pace"]), ("drmcast serve --fr", ["serve", "--from"]),
                              ("drmcast serve --li", ["serve", "--live"]),
-                             ("drmcast check my", ["check", "my evening.plan"]), ("drmcast cap", ["capacity"]), ("drmcast capacity my", ["capacity", "my evening.plan"]), ("drmcast show < my", ["show"]), ("drmcast convert plain < my", ["convert", "plain"]), ("drmpaths 127.0.0.1:5000,127.0.0.1:5001 --li", ["127.0.0.1:5000,127.0.0.1:5001", "--limit"])):
+                             ("drmcast check my", ["check", "my evening.plan"]), ("drmcast cap", ["capacity"]), ("drmcast capacity my", ["capacity", "my evening.plan"]), ("drmcast agr", ["agree"]),
+                             ("drmcast agree my", ["agree", "my evening.plan"]), ("drmcast agree other.plan my", ["agree", "other.plan", "my evening.plan"]),
+                             ("drmcast show < my", ["show"]), ("drmcast convert plain < my", ["convert", "plain"]), ("drmpaths 127.0.0.1:5000,127.0.0.1:5001 --li", ["127.0.0.1:5000,127.0.0.1:5001", "--limit"])):
             with self.subTest(line=line):
                 self.assertEqual(self.completed(line), wanted)
 

@@ -87,7 +87,7 @@ class Playlists(stations.Station):
     def test_bad_lists(self):
         self.plan("wrong.plan", 0, 0, 10, "wrong")
         for line, status, said in (("18:00 a.plan", 3, "no moment"), ("2026-12-24T18:00:00Z", 3, "isn't a moment and a file"), ("# nothing", 3, "no schedule"),
-                                   ("2026-12-24T18:00:00Z wrong.plan", 3, "drmcast: schedule line 7: fit"), ("\u00e4", 3, "isn't a moment")):
+                                   ("2026-12-24T18:00:00Z wrong.plan", 3, "drmcast: schedule line 5: fit"), ("\u00e4", 3, "isn't a moment")):
             self.list(line)
             found = self.ran("--to", "127.0.0.1:9")
             self.assertEqual((found[0], found[1], found[2].count("\n")), (status, "", 1), line)

@@ -9,13 +9,21 @@ import running
 import stations
 from stations import PACE
 
+import changes
+import followed
 import metrics
+import on_air
 import playlists
 import playout
+import playout_told
 
 
 class Playout(stations.Station):
     FAILED = "playout.py: drmcast serve of a.plan ended with status 6; one is begun each second, until one is on air again"
+
+    def setUp(self):
+        super().setUp()
+        self.air = stations.Air(self)
 
     def stopped_after(self, servers):
         """The status and the complaints of a playout that is stopped as soon as it has begun so many servers."""
@@ -39,34 +47,39 @@ class Playout(stations.Station):
     def test_where_a_schedule_is_begun(self):
         one = playlists.Entry(1, 10_000, "a", 0, 0, 100, "")
         for at, wanted in ((0, (0, 10_000)), (10_000, (0, 10_000)), (10_001, (1, 11_200)), (11_200, (1, 11_200)), (11_201, (2, 12_400))):
-            self.assertEqual(playout.place(one, 400, at), wanted, at)
+            self.assertEqual(playout_told.place(one, 400, at), wanted, at)
 
-    def test_each_begins_at_its_moment_and_takes_its_bytes(self):
-        begin = playlists.now() + 2500
+    def test_each_begins_at_its_moment(self):
+        begin = playlists.now() + 1500
         lines = self.three(begin)
-        given = bytes(range(100))
         # The first one's link failed, but it was served to its end.
         self.folder.joinpath("ending").write_text("6", encoding="ascii")
-        status, out, err = self.ran("--to", "127.0.0.1:9", "--live", "0,1", given=given)
+        status, out, err = self.ran("--to", self.air.address)
         self.assertEqual((status, err), (9, f"drmcast: link fault\n{self.FAILED}\n"))
-        self.assertEqual([words for _, words in self.log()], [["serve", "--to", "127.0.0.1:9", "--pace", str(PACE), "--live", "0,1", "--", name] for _, name in lines])
-        for (at, _), (due, _) in zip(self.log(), lines):
-            self.assertGreaterEqual(at, due)
-        self.assertEqual(self.folder.joinpath("taken").read_bytes(), given[:3 * 12])
+        self.assertEqual([words[:-1] for _, words in self.log()], [["serve", "--to", self.air.address, "--pace", str(PACE), "--live", "0,1,2,3", "--"]] * 3)
+        self.assertEqual(self.air.numbers(), [(65_530 + number) % 65_536 for number in range(36)])
+        # Servers wait for their first pieces, which come at the moments.
+        for number, (due, _) in zip((65_530, 9, 18), lines):
+            self.assertGreaterEqual(self.air.moment(number), due)
         said = [line.partition(" ")[2] for line in out.splitlines()]
         self.assertEqual(said[0], f"nothing is on air; a.plan begins at {playlists.moment(begin)}")
+        self.assertEqual([text for text in said if text.startswith("begins")],
+                         [f"begins: {name}, super frame 0 of {count}, until {playlists.moment(at + count * 3 * PACE)}" for (at, name), count in zip(lines, (5, 3, 4))])
         self.assertEqual(said[-1], "the list has ended, and nothing is on air")
 
     def test_it_goes_on_within_a_schedule(self):
         self.plan("a.plan", 0, 0, 1000)
         begin = playlists.now() - 1000
         self.list((begin, "a.plan"))
-        self.assertEqual(self.stopped_after(1)[0], 0)
-        at, words = self.log()[0]
+        with running.start(*self.words("--to", self.air.address), cwd=self.folder) as playing:
+            running.until(lambda: self.air.frames, "a frame")
+            self.assertEqual(running.stop(playing)[0], 0)
+        _, words = self.log()[0]
         later = int(words[words.index("--from") + 1])
         self.assertGreater(later, 16)
-        self.assertGreaterEqual(at, begin + later * 3 * PACE)
-        self.assertEqual(words, ["serve", "--to", "127.0.0.1:9", "--pace", str(PACE), "--from", str(later), "--", "a.plan"])
+        self.assertEqual(self.air.numbers()[0], 3 * later)
+        self.assertGreaterEqual(self.air.moment(3 * later), begin + later * 3 * PACE)
+        self.assertEqual(words, ["serve", "--to", self.air.address, "--pace", str(PACE), "--live", "0,1,2,3", "--from", str(later), "--", "1/sent.plan"])
 
     def test_a_server_that_fails(self):
         self.plan("a.plan", 0, 0, 1000)
@@ -75,7 +88,8 @@ class Playout(stations.Station):
         status, err = self.stopped_after(2)
         self.assertEqual((status, err), (0, f"drmcast: link fault\n{self.FAILED}\n"))
         first, second = (int(words[words.index("--from") + 1]) for _, words in self.log())
-        self.assertGreater(second, first + 15)
+        # A second later, less what the first one had more time to begin.
+        self.assertGreater(second, first + 10)
         self.folder.joinpath("failing").write_text("3", encoding="ascii")
         self.list((playlists.now() + 300, "a.plan"))
         status, out, _ = self.ran("--to", "127.0.0.1:9")
@@ -110,27 +124,30 @@ class Playout(stations.Station):
         """A playout of this list by itself, whose servers nobody starts."""
         self.list(*begin)
         options = playout.arguments_of([str(self.folder / "it.list"), "--to", "127.0.0.1:9", "--pace", str(PACE), "--program", str(self.program)])
-        file = playout.ListFile(options)
-        return playout.Playout(file, file.read()[0], None)
+        checks = changes.KnownChecks(options.program, followed.Followed())
+        entries, _ = playlists.read(options.list, checks, PACE)
+        playing = playout.playout_of(options, entries, checks, changes.Seams(options.program), None)
+        self.addCleanup(playing.lasts.temporary.cleanup)
+        self.addCleanup(playing.lasts.held.close)
+        return playing
 
     def test_an_hour_and_ten_minutes_ahead(self):
-        said, playout_say = [], playout.say
-        self.addCleanup(setattr, playout, "say", playout_say)
-        playout.say = said.append
+        said = []
+        self.addCleanup(setattr, playout_told, "say", playout_told.say)
+        playout_told.say = said.append
         self.plan("a.plan", 0, 0, 200_000)
         self.addCleanup(os.chdir, os.getcwd())
         os.chdir(self.folder)
         one = self.playing([(playlists.now(), "a.plan")])
-        self.addCleanup(setattr, playout, "now", playout.now)
         for minutes, wanted in ((61, []), (60, ["60"]), (59, []), (11, []), (10, ["10"]), (3, []), (-1, [])):
-            playout.now = lambda at=one.end() - minutes * 60_000: at
+            one.now = lambda at=one.end() - minutes * 60_000: at
             one.says_end()
             self.assertEqual([re.search("in ([0-9]+) minutes", text)[1] for text in said], wanted, minutes)
             said.clear()
 
     def test_a_failure_that_lasts_is_said_once(self):
         said = []
-        for owner, name in ((playout, "say"), (playout.command_line, "complain")):
+        for owner, name in ((playout_told, "say"), (playout_told.command_line, "complain")):
             self.addCleanup(setattr, owner, name, getattr(owner, name))
             setattr(owner, name, said.append)
         self.plan("a.plan", 0, 0, 2000)
@@ -142,46 +159,43 @@ class Playout(stations.Station):
         for words, status, wanted in ((b"link fault\n", 6, ["link fault\n", failed]), (b"link fault\n", 6, []), (b"link fault\n", 6, []),
                                       (b"no memory\n", 1, ["no memory\n", failed.replace("6", "1")]), (b"no memory\n", 1, []), (b"refused since\n", 0, ["refused since\n", "on air again: a.plan"]),
                                       (b"accepted again\n", 0, ["accepted again\n"])):
-            one.heard = b""
-            one.hears(words)
+            one.heard = words
+            if one.fault is None:
+                one.passes_on(words)
             if status:
-                one.tells_failure(one.entries[0], status)
+                one.tells_failure(status)
             else:
-                one.recovers(one.entries[0])
+                one.recovers()
             self.assertEqual(said, wanted, (words, status))
             said.clear()
         self.assertEqual(one.failures, 5)
 
     def test_a_list_that_changes(self):
-        said, complained = [], []
-        for name, value in (("say", said.append), ("now", playlists.now)):
-            self.addCleanup(setattr, playout, name, getattr(playout, name))
-            setattr(playout, name, value)
-        self.addCleanup(setattr, playout.command_line, "complain", playout.command_line.complain)
-        playout.command_line.complain = complained.append
+        said = []
+        self.addCleanup(setattr, on_air, "say", on_air.say)
+        on_air.say = said.append
         self.addCleanup(os.chdir, os.getcwd())
         os.chdir(self.folder)
-        begin = playlists.now() - 60_000
+        begin = playlists.now() + 60_000
         for name, number in (("a.plan", 0), ("b.plan", 6000 % 65536)):
             self.plan(name, number, number, 2000)
         one = self.playing([(begin, "a.plan")])
-        for lines, taken, refused, left in (([(begin, "a.plan")], 0, 0, 1), ([(begin, "a.plan"), (begin + 120_000, "b.plan")], 1, 0, 2),
-                                            ([(begin, "a.plan"), (begin + 120_001, "b.plan")], 1, 1, 2), ([(begin + 120_000, "b.plan")], 1, 2, 2),
-                                            (["nothing"], 1, 3, 2), (["# now", (begin, "a.plan")], 2, 3, 1)):
+        one.resumes()
+        for lines, left, refused in (([(begin, "a.plan")], 1, ""), ([(begin, "a.plan"), (begin + 120_000, "b.plan")], 2, ""),
+                                     ([(begin, "a.plan"), (begin + 120_001, "b.plan")], 2, "it.list line 2: a gap of 0.001 s: a.plan ends at [^ ]+, and b.plan begins at"),
+                                     ([(begin + 120_000, "b.plan")], 2, "it.list a.plan of [^ ]+ isn't in it as it was"), (["nothing"], 2, "can't decode byte 0xff"),
+                                     (["# now", (begin, "a.plan")], 1, "")):
             self.list(*lines)
             if lines == ["nothing"]:
                 self.folder.joinpath("it.list").write_bytes(b"\xff")
-            before = one.taken, one.refused
-            one.due = 0.0
-            one.looks()
-            self.assertEqual((one.taken, one.refused), before, "it is read once it stands still")
-            one.due = 0.0
-            one.looks()
-            self.assertEqual((one.taken, one.refused, len(one.entries)), (taken, refused, left), lines)
-        self.assertEqual([text.partition(",")[0].partition(";")[0] for text in said if "change" in text],
-                         ["the list has changed", *["the changed list is refused"] * 3, "the list has changed"])
-        self.assertRegex(complained[0], "it.list line 2: a gap of 0.001 s: a.plan ends at [^ ]+, and b.plan begins at")
-        self.assertRegex(complained[1], "it.list a.plan of [^ ]+ isn't in it as it was")
+            one.follower.refusals, before, taken = [], len(one.entries), one.taken
+            change = one.follower.judged(one.playing())
+            if change:
+                one.plans(change)
+                self.assertTrue(one.follower.verdicts.get())
+            self.assertEqual((len(one.entries), one.taken - taken), (left, int(left != before)), lines)
+            self.assertRegex(" ".join(text for refusal in one.follower.refusals for text in refusal.texts), refused or "^$")
+        self.assertEqual([text.partition(",")[0] for text in said], ["the list has changed"] * 2)
 
     def test_what_feeds_it_is_gone(self):
         self.plan("a.plan", 0, 0, 1000)

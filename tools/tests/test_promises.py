@@ -9,6 +9,11 @@ import unittest
 import running
 
 SOURCE = """ghost use Rattle.low.specs.Sums.{IsSum, Counts};
+ghost use Rattle.low.specs.Passing.{IsPassedOn};
+
+pub fn pass()
+    ensures { IsPassedOn }
+{}
 
 pub fn add(a: u8, b: u8) -> u16
     ensures sum { IsSum a b result }
@@ -42,6 +47,31 @@ pub record Counts (a b c : ℕ) : Type 0 where
   pub few : c < 511
   pub is : IsSum a b c
 """
+PASSING = """pub use Rattle.low.specs.Sums.{IsSum as IsPassedOn}
+"""
+RUN = """ghost use Rattle.low.specs.Command.{CommandRun};
+
+pub fn run()
+    ensures runs { CommandRun request }
+{}
+"""
+REQUEST = """pub enum Request {
+    Check,
+    Serve {
+        pace: u32,
+    },
+}
+"""
+COMMAND = """use Rattle.low.specs.Sums.{IsSum, Counts}
+
+abbrev pub CommandRun : Request → Type 0
+CommandRun Check = IsChecked
+CommandRun (Serve pace) =
+    Counts 0 0 pace
+
+abbrev pub IsChecked : Type 0
+IsChecked = IsSum 0 0 0
+"""
 ROW = "| {} | {} | proof |"
 OTHER = "| promise | shown by | what was tried | by |\n|---|---|---|---|\n| runs | `low` | a try | test |\n"
 
@@ -53,10 +83,11 @@ class Rows(unittest.TestCase):
         self.top = pathlib.Path(folder.name)
         for part in ("tools", "docs", "crates/low/src", "crates/low/specs"):
             self.top.joinpath(part).mkdir(parents=True)
-        for script in ("promises.py", "command_line.py"):
+        for script in ("promises.py", "definitions.py", "command_line.py"):
             shutil.copy(running.TOOLS / script, self.top / "tools" / script)
         self.write("crates/low/src/sums.rt", SOURCE)
         self.write("crates/low/specs/Sums.antt", DEFINITIONS)
+        self.write("crates/low/specs/Passing.antt", PASSING)
 
     def write(self, name, text):
         self.top.joinpath(name).write_text(text, encoding="utf-8")
@@ -73,6 +104,8 @@ class Rows(unittest.TestCase):
 
     def test_what_is_there(self):
         self.assertEqual(self.complaints(ROW.format("`low::add`", "`sum`, `counted`, `IsSum`, `Counts`, `Counts.few`"),
+                                         ROW.format("`low::add`", "`Counts`"),
+                                         ROW.format("`low::pass`", "`IsSum`, its clause"),
                                          ROW.format("`low::law`", "its clause"),
                                          ROW.format("`low::add`, `law`, `Shelf::load`", "`sum`; its clause; `cause`")), [])
 
@@ -103,6 +136,31 @@ class Rows(unittest.TestCase):
         header = "| promise | clause of `low::add` | by |"
         self.assertEqual(self.complaints("| `sum` | proof |", header=header), [])
         self.assertEqual(self.complaints("| `some` | proof |", header=header), ["low::add has no some"])
+
+    def test_a_definition_of_another_clause(self):
+        self.assertEqual(self.complaints(ROW.format("`low::add`", "`sum`, `Counts.few`")), ["low::add has no Counts.few in sum"])
+        self.assertEqual(self.complaints(ROW.format("`low::add`", "`counted`, `IsSum`")), [])
+
+    def test_a_clause_of_the_header(self):
+        header = "| promise | clause `sum` of `low::add` | by |"
+        self.assertEqual(self.complaints("| `IsSum` | proof |", header=header), [])
+        self.assertEqual(self.complaints("| `Counts` | proof |", header=header), ["low::add has no Counts in sum"])
+        self.assertEqual(self.complaints("| `counted`, `Counts` | proof |", header=header), [])
+        header = "| promise | clause `total` of `low::add` | by |"
+        self.assertEqual(self.complaints("| `sum` | proof |", header=header), ["low::add has no total"])
+
+    def test_the_commands_of_a_row(self):
+        self.top.joinpath("crates/drm_words/src").mkdir(parents=True)
+        self.write("crates/drm_words/src/request.rt", REQUEST)
+        self.write("crates/low/src/run.rt", RUN)
+        self.write("crates/low/specs/Command.antt", COMMAND)
+        header = "| promise | clause `runs` of `low::run` | by |"
+        self.assertEqual(self.complaints("of any command | `IsChecked`, `Counts.few` | proof |", header=header), [])
+        self.assertEqual(self.complaints("what `check` does | `IsChecked`, `IsSum` | proof |", header=header), [])
+        self.assertEqual(self.complaints("what `check` does | `IsChecked` | proof |", "it does | `Counts.few` | proof |", header=header),
+                         ["low::run has no Counts.few in runs"])
+        self.assertEqual(self.complaints("what `check` does | `IsSum` | proof |", "of `serve --to` | `Counts.few` | proof |", header=header), [])
+        self.assertEqual(self.complaints("of `serve --to` | `IsChecked` | proof |", header=header), ["low::run has no IsChecked in runs"])
 
     def test_what_is_tested(self):
         header = "| promise | shown by | what was tried | by |"

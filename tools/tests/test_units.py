@@ -29,7 +29,7 @@ class Unit:
     def unit(self, name):
         """A unit for this instance, within the folder."""
         text = UNITS.joinpath(f"drmcast-{name}@.service").read_text(encoding="ascii")
-        return text.replace("@PREFIX@", str(self.folder)).replace("/run/", f"{self.folder}/run/").replace("%i", INSTANCE)
+        return text.replace("@PREFIX@", str(self.folder)).replace("/run/", f"{self.folder}/run/").replace("/var/lib/", f"{self.folder}/state/").replace("%i", INSTANCE)
 
     def environment(self, text, given):
         """Its environment, with what its file has."""
@@ -94,7 +94,7 @@ class Lines(Unit, unittest.TestCase):
                 ("serve", to | {"PLAN": "my.plan", "PACE": "40", "OPTIONS": "--from 3"}, "serve --to 192.0.2.7:5000,192.0.2.8:5000 --pace 40 --from 3 -- my.plan"),
                 ("gate", to | {"FROM": "0.0.0.0:5000", "CARRY": "plain", "OPTIONS": "--window 16"}, "gate --window 16 -- 0.0.0.0:5000 192.0.2.7:5000,192.0.2.8:5000 plain"),
                 ("playout", to | {"LIST": "week.list"}, f"--program {self.folder}/bin/drmcast --metrics {self.folder}/run/drmcast-playout/nord/playout.prom --link nord "
-                                                        "--to 192.0.2.7:5000,192.0.2.8:5000 --pace 400 -- week.list"),
+                                                        f"--state {self.folder}/state/drmcast-playout/nord --to 192.0.2.7:5000,192.0.2.8:5000 --pace 400 -- week.list"),
                 ("paths", {"AT": "192.0.2.7:5000,198.51.100.7:5000", "OPTIONS": "--window 64"}, "192.0.2.7:5000,198.51.100.7:5000 --window 64"),
                 ("receive", {"AT": "0.0.0.0:5000", "OPTIONS": "--window 16"}, f"--metrics {self.folder}/run/drmcast/nord/receive.prom --link nord -- {self.folder}/bin/drmcast "
                                                                               "receive 0.0.0.0:5000 --window 16")):
@@ -135,7 +135,7 @@ class Lines(Unit, unittest.TestCase):
             "--program", f"{self.folder}/bin/drmcast", "--list", "it.list", "--pace", "40", "--late", "1000", "--fill", "55", "--", f"0:{run}/0.fifo"]))
         self.assertEqual(out.strip(), "".join(f"<{word}>" for word in [
             "--program", f"{self.folder}/bin/drmcast", "--interleaved", "--live", "0,1", "--to", "127.0.0.1:9", "--pace", "40", "--metrics", f"{run}/playout.prom", "--link", "nord",
-            "--reach", "3", "--", "it.list"]))
+            "--state", f"{self.folder}/state/drmcast-live/nord", "--reach", "3", "--", "it.list"]))
 
     def test_statuses_of_a_live_station(self):
         for interleave, playout, wanted in (("exec cat /dev/zero", "exit 9", 9), ("exec cat /dev/zero", "kill -9 $$", 137), ("exit 3", "cat > rest; exit 10", 3),
