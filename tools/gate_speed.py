@@ -5,9 +5,9 @@
     tools/gate_speed.py PROGRAM --before PROGRAM [--super-frames N] [--turns N]
 
 The packets have 4,090 bytes, and come in fragments of which five may be lost: with none lost, and with five of each. The fragments of a
-packet are sent at once, and the next packet's when something of this one has come out: the first datagram behind the gateway, or its
-line of the report. A row has the time between its last fragment and that, in the middle and at the most of all packets, and how many datagrams a
-second of the program's own processor time are taken.
+packet are sent at once up to the one with which it can be recovered, the rest when something of it has come out: the first datagram that
+the gateway sends, or its line of the report. A row has the time between the fragment that was needed and that, in the middle and at the most of all
+packets, and how many datagrams a second of the program's own processor time are taken.
 
 With --before the program before and the program now run by turns. A row has the most datagrams a second of the turns (11), how many
 times they are, and the shortest time in the middle, of each.
@@ -25,6 +25,7 @@ from typing import NamedTuple
 import command_line
 import turns
 from datagrams import datagrams
+from fragments import needed
 from speeds import schedule
 
 LOST = 5
@@ -50,17 +51,20 @@ def packets(program, folder, super_frames, lost):
 
 
 def delays(sender, wanted, comes):
-    """How long after its last fragment something comes of each packet."""
+    """How long after the fragment with which it can be recovered something comes of each packet."""
     for packet in wanted:
-        for datagram in packet:
+        enough = needed(packet)
+        for datagram in packet[:enough]:
             sender.sendto(datagram, FROM)
         sent = time.perf_counter()
         comes()
         yield time.perf_counter() - sent
+        for datagram in packet[enough:]:
+            sender.sendto(datagram, FROM)
 
 
 class Measured(NamedTuple):
-    """What one run took: seconds of the processor, and after each packet's last fragment."""
+    """What one run took: seconds of the processor, and after the fragment of each packet that was needed."""
 
     used: float
     took: list

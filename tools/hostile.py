@@ -3,6 +3,7 @@
 
     tools/hostile.py PROGRAM [--captures N] [--datagrams N] [--seed N] [--mib N]
     tools/hostile.py --costs PROGRAM [--before PROGRAM] [--turns N]
+    tools/hostile.py --search N PROGRAM [--seed N]
 
 PROGRAM is crates/drmcast/out/drmcast. A capture has up to 400 packets that `serve` wrote, of which some are altered: bits and bytes
 of them, fields of their heads with the check value made right again or not, their numbers, their order; or packets of random
@@ -15,6 +16,9 @@ With --costs it measures instead what the dearest datagrams cost, in processor t
 number is far ahead, a packet with as many items as it can have, and fragments of chunks with one, two or eight bytes. What as many
 bytes of report lines cost in a usual report is told apart, and how many times the usual datagram and these lines the hostile one
 costs. With --before the program before runs by turns with it.
+
+With --search it looks for the dearest fragments by itself: of so many kinds, drawn at random by the seed or near the dearest so far (bytes of
+a chunk, fragments of a packet, their length, and which of them come), it prints the ten that cost most beside usual datagrams of their bytes.
 """
 import os
 import random
@@ -28,6 +32,7 @@ import time
 
 import command_line
 import costs
+import dearest
 import turns
 from datagrams import check_value, datagrams
 
@@ -256,8 +261,11 @@ def main():
     words.add_argument("--seed", type=command_line.number(0, 10_000_000), default=1)
     words.add_argument("--mib", type=command_line.number(1, 10_000_000), default=4)
     words.add_argument("--costs", action="store_true", help="measure what the dearest datagrams cost")
+    words.add_argument("--search", type=command_line.number(1, 10_000_000), metavar="N", help="look for the dearest fragments among so many kinds")
     turns.options(words)
     given = words.parse_args()
+    if given.search:
+        return dearest.search(given.program, given.seed, given.search)
     if given.costs:
         return costs.table(os.path.abspath(given.program), given.before, given.turns)
     program, draw, served = Program(given.program, given.mib << 20), random.Random(given.seed), []

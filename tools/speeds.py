@@ -2,7 +2,7 @@
 """Times serving and receiving in one run, beside tshark on the same datagrams where it is installed.
 
     tools/speeds.py PROGRAM [--super-frames N] [--rounds N] [--seed N]
-    tools/speeds.py PROGRAM --before PROGRAM [--super-frames N] [--turns N] [--seed N]
+    tools/speeds.py PROGRAM --before PROGRAM [--super-frames N] [--turns N] [--seed N] [--picture FILE]
 
 PROGRAM is crates/drmcast/out/drmcast. Served is a stream of 480 bytes a frame, which a usual channel carries, of 1,044, the most that any
 carries, and of 4,004, which none does; in the first packet of each three a block comes on top. The
@@ -17,7 +17,7 @@ rows are sessions over the loopback, at an even pace, of two lengths, with the m
 With --before the program before and the program now run by turns, and tshark beside them. A row has the bytes of the datagrams that
 were served, or that came; the rates by the least processor time of the turns (11; of tshark, and of 16 addresses, 3), and how many
 times they are; and the most memory that each program holds. What is printed goes to /dev/null. Then come the other commands, with
-milliseconds in place of rates. Status 1 where the programs write something else.
+milliseconds in place of rates. Status 1 where the programs write something else. --picture draws the table's ratios as bars (SVG).
 """
 import itertools
 import os
@@ -238,11 +238,11 @@ def others(folder):
         yield turns.Job(f"`{' '.join(words)}`", words, given)
 
 
-def compared(programs, folder, length, rounds, seed):
+def compared(programs, folder, length, rounds, seed, picture):
     """Two programs by turns, over the schedules' captures and all other commands."""
     beside = shutil.which("tshark") is not None
     jobs = itertools.chain(serving(programs[-1], folder, length), receiving(folder, beside, seed), others(folder))
-    differ = turns.table(jobs, programs, folder, rounds)
+    differ = turns.table(jobs, programs, folder, rounds, picture)
     if beside:
         pcap(f"{folder}/none.pcap", [])
         print(f"tshark takes {turns.used([*TSHARK, 'none.pcap'], folder):.2f} s of no datagrams, which its rates are measured with.")
@@ -286,12 +286,13 @@ def main():
     words.add_argument("--super-frames", type=command_line.number(1, 10_000_000), default=2000)
     words.add_argument("--rounds", type=command_line.number(1, 10_000_000), default=3)
     words.add_argument("--seed", type=command_line.number(0, 10_000_000), default=1, help="of what is lost, and of the order (1)")
+    words.add_argument("--picture", metavar="FILE", help="where the table of both programs is drawn, as SVG")
     turns.options(words)
     given = words.parse_args()
     program, length = os.path.abspath(given.program), given.super_frames
     with tempfile.TemporaryDirectory() as folder:
         if given.before:
-            return compared([given.before, program], folder, length, given.turns, given.seed)
+            return compared([given.before, program], folder, length, given.turns, given.seed, given.picture)
         print("| what | MB of datagrams | seconds | MB/s |\n|---|---|---|---|")
         received(program, folder, length, given.rounds, given.seed, served(program, folder, length, given.rounds))
         for frames, many in SESSIONS:

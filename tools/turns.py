@@ -10,6 +10,7 @@ import sys
 import tempfile
 from typing import NamedTuple
 
+import bars
 import command_line
 
 ROUNDS = 11
@@ -85,7 +86,7 @@ def written(words, folder, given=os.devnull):
 
 def row(job, programs, folder, rounds):
     """Prints a row: the rates of the program before, of the one now and of the peer, and the memory that both programs hold.
-    Answers whether both write the same."""
+    Answers how many times as fast the one now is, and whether both write the same."""
     words = [[program, *job.words] for program in programs] + ([list(job.peer)] if job.peer else [])
     commands = [lambda each=each: used(each, folder, job.given) for each in words]
     many = job.turns or rounds
@@ -98,15 +99,18 @@ def row(job, programs, folder, rounds):
     beside = [rates[2], f"{peer[0] / now:.1f}"] if peer else ["", ""]
     cells = [job.what, f"{job.size / 1e6:.1f}" if job.size else "", rates[0], rates[1], f"{before / now:.2f}", *beside]
     print("| " + " | ".join(cells + [f"{mib:.2f}" for mib in memory]) + " |", flush=True)
-    return len({written(each, folder, job.given) for each in words[:2]}) == 1
+    return before / now, len({written(each, folder, job.given) for each in words[:2]}) == 1
 
 
-def table(jobs, programs, folder, rounds):
+def table(jobs, programs, folder, rounds, picture=None):
     """Prints the rows of these jobs, the program before being the first one, on what they were measured, and which jobs' output
-    isn't the same; answers whether there is one."""
+    isn't the same; answers whether there is one. Where a file is named for it, the table is drawn there too."""
     surroundings = Surroundings()
     print(HEAD)
-    differ = [job.what for job in jobs if not row(job, programs, folder, rounds)]
+    rows = [(job.what, *row(job, programs, folder, rounds)) for job in jobs]
+    differ = [what for what, _, alike in rows if not alike]
+    if picture:
+        pathlib.Path(picture).write_text(bars.drawing("How many times as fast as the program before", [each[:2] for each in rows]), encoding="utf-8")
     print(f"\nProcessor time, the least of {rounds} turns (a peer's of {min(rounds, PEER_ROUNDS)}). {surroundings.said()}")
     print(f"Both programs wrote the same{f', but for {differ}' if differ else ''}.", flush=True)
     return bool(differ)
