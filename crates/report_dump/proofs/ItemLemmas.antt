@@ -1,7 +1,10 @@
 -- The items of a payload up to a cut: there is one list of them, and the reader gives it.
-use Rattle.std.proofs.Common.{◌≡◌, inl, inr, ℕ, zero, suc, ◌^◌, ◌<◌, ◌≤◌, List, [], ◌∷◌, ◌++◌, length, take, drop, refl, sym, ap, subst, ◌∙◌, append_assoc, arith, length-append, length-drop, append-nil}
+use Rattle.std.proofs.Common.{◌≡◌, true, All, inl, inr, ℕ, zero, suc, ◌^◌, ◌<◌, ◌≤◌, List, [], ◌∷◌, ◌++◌, length, take, drop, refl, sym, ap, subst, ◌∙◌, append_assoc, arith, length-append, length-drop, append-nil}
+use Rattle.std.specs.Char.{is_ascii_graphic}
+use Rattle.std.specs.List.{flat_map}
 use Rattle.std.specs.Int.{w16, w32, to_be_bytes, from_be_bytes}
 use Rattle.std.proofs.lemmas.List.{take-append-drop, take_at, drop_at, length-take-le}
+use Rattle.std.proofs.lemmas.List.Elements.{All-head, All-tail}
 use Rattle.std.proofs.lemmas.Bool.{cases_lt}
 use Rattle.drm_bits.specs.Bits.{bits_of, IsBytes}
 use Rattle.drm_bits.proofs.BitsLemmas.{length-bits_of}
@@ -17,7 +20,7 @@ use Rattle.dcp_tag.proofs.TagLemmas.{split_front, head_size, padded, one_front, 
 use Rattle.dcp_af.specs.Packet.{AfPacket, IsAf}
 use Rattle.dcp_af.specs.Packet as packet
 use Rattle.report_dump.specs.PacketContent.{HasNoItem, AreItems}
-use Rattle.report_dump.specs.Lines.{tag_text, tag_line}
+use Rattle.report_dump.specs.Lines.{name_byte, tag_text, tag_line}
 use Rattle.report_dump.specs.Text.{items_text}
 
 number_4 : (four : List ℕ) → IsBytes four → from_be_bytes w32 four < 2 ^ 32
@@ -115,3 +118,10 @@ payload_bytes p bytes small (check, ends, checks) =
     let behind : drop (length (packet.head p)) bytes ≡ p.payload ++ last = ap (drop (length (packet.head p))) stands ∙ drop_at (packet.head p) (p.payload ++ last) (length (packet.head p)) refl in
     let is : take (length p.payload) (drop (length (packet.head p)) bytes) ≡ p.payload = ap (take (length p.payload)) behind ∙ take_at p.payload last (length p.payload) refl in
     subst IsBytes is (small_front (drop (length (packet.head p)) bytes) (length p.payload) (small_rest bytes (length (packet.head p)) small))
+
+-- a name all of whose bytes are visible signs stands as it is
+pub plain_name : (name : List ℕ) → All (λ byte. is_ascii_graphic byte ≡ true) name → flat_map name_byte name ≡ name
+plain_name [] all = refl
+plain_name (byte ∷ name) all =
+    rw (All-head (λ (b : ℕ). is_ascii_graphic b ≡ true) byte name all)
+    (ap (λ l. byte ∷ l) (plain_name name (All-tail (λ (b : ℕ). is_ascii_graphic b ≡ true) byte name all)))

@@ -1,6 +1,7 @@
 //! The lines of the items of a payload.
 
-ghost use Rattle.std.specs.Prelude.{List, IfSome, IfNone};
+ghost use Rattle.std.specs.Prelude.{◌≡◌, true, List, All, IfSome, IfNone};
+ghost use Rattle.std.specs.Char.{is_ascii_graphic};
 ghost use Rattle.std.specs.List.{flat_map};
 ghost use Rattle.drm_links.specs.Sink.{WritesWhole};
 ghost use Rattle.dcp_tag.specs.Tag.{TagItem};
@@ -39,11 +40,31 @@ fn next<'a>(items: &mut Items<'a>) -> Option<Item<'a>>
 fn write_tag<O: Sink>(out: &mut O, name: &[u8; 4], bits: u32) -> Result<(), WriteFault>
     ensures { WritesWhole result (O.known out.old) (O.known out.new) (tag_text name.now bits) }
 {
+    if name.iter().all(|byte| byte.is_ascii_graphic()) {
+        return write_plain_tag(out, name, bits);
+    }
     write_all(out, b"tag ")?;
     write_name(out, name)?;
     write_pieces(
         out,
         &[
+            Piece::Words(" "),
+            Piece::Number(u64::from(bits)),
+            Piece::Words("\n"),
+        ],
+    )
+}
+
+// The same for a name that stands as it is, as most do.
+fn write_plain_tag<O: Sink>(out: &mut O, name: &[u8; 4], bits: u32) -> Result<(), WriteFault>
+    requires { All (λ byte. is_ascii_graphic byte ≡ true) name.now }
+    ensures { WritesWhole result (O.known out.old) (O.known out.new) (tag_text name.now bits) }
+{
+    write_pieces(
+        out,
+        &[
+            Piece::Words("tag "),
+            Piece::Name(*name),
             Piece::Words(" "),
             Piece::Number(u64::from(bits)),
             Piece::Words("\n"),

@@ -1,6 +1,6 @@
 //! Texts in pieces to a sink.
 
-ghost use Rattle.std.specs.Prelude.{◌≤◌, length};
+ghost use Rattle.std.specs.Prelude.{◌≤◌, length, decimal};
 ghost use Rattle.hex.specs.Hex.{encode_lower};
 ghost use Rattle.drm_links.specs.Sink.{WritesWhole};
 ghost use Rattle.text_output.specs.Text.{piece_text, text_of};
@@ -30,10 +30,20 @@ pub fn write_piece<O: Sink>(out: &mut O, piece: Piece<'_>) -> Result<(), WriteFa
 {
     match piece {
         Piece::Words(text) => write_all(out, text.as_bytes()),
-        Piece::Number(n) => write_all(out, Buffer::new().format(n).as_bytes()),
+        Piece::Number(n) => write_number(out, n),
         Piece::Hex(bytes) => write_hex(out, bytes),
         Piece::Name(name) => write_all(out, &name),
     }
+}
+
+// Writes the decimal digits of a number. Most numbers of a report have one digit, which takes no room and no division.
+fn write_number<O: Sink>(out: &mut O, n: u64) -> Result<(), WriteFault>
+    ensures { WritesWhole result (O.known out.old) (O.known out.new) (decimal n) }
+{
+    if n < 10 {
+        return write_all(out, &[b'0' + n as u8]);
+    }
+    write_all(out, Buffer::new().format(n).as_bytes())
 }
 
 /// Writes bytes in hex, two digits each.
