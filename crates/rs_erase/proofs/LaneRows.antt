@@ -4,7 +4,9 @@ use Rattle.std.proofs.Math.Seq.{drop-drop, take-add}
 use Rattle.std.proofs.lemmas.List.{append_assoc, length-append, take_all}
 use Rattle.std.proofs.lemmas.Simd.{length-put_chunk, take_more_put_chunk}
 use lib.Lanes.{Each1, chunk, put_chunk, zip2}
+use Rattle.std.specs.Int.Bits.{xor_zero_r}
 use Rattle.gf_field.specs.Field.{times}
+use Rattle.gf_field.proofs.Times.{zero_times}
 use Rattle.rs_erase.specs.Code.{AreElements}
 use Rattle.rs_erase.specs.Polynomial.{add, scale}
 use Rattle.rs_erase.proofs.Elements.{append_elements, cons_elements, no_elements}
@@ -17,6 +19,19 @@ length_three a b c la lb lc = omega (arith, length-append a (b ++ c), length-app
 pub scaled_is : (f : ℕ) (a : List ℕ) → map (times f) a ≡ scale f a
 scaled_is f [] = refl
 scaled_is f (x ∷ a) = ap (λ (zs : List ℕ). times f x ∷ zs) (scaled_is f a)
+
+-- a multiple by 0 adds nothing
+pub zero_lanes : (a b : List ℕ) → length a ≡ length b → a ≡ zip2 bit_xor a (map (times 0) b)
+zero_lanes [] [] e = refl
+zero_lanes [] (y ∷ b) e = absurd (omega arith)
+zero_lanes (x ∷ a) [] e = absurd (omega arith)
+zero_lanes (x ∷ a) (y ∷ b) e = ap₂ (λ (z : ℕ) (zs : List ℕ). z ∷ zs) (sym (ap (bit_xor x) (zero_times y) ∙ xor_zero_r x)) (zero_lanes a b (omega arith))
+
+pub zero_multiple : (a b : List ℕ) → length a ≡ length b → a ≡ add a (scale 0 b)
+zero_multiple [] [] e = refl
+zero_multiple [] (y ∷ b) e = absurd (omega arith)
+zero_multiple (x ∷ a) [] e = absurd (omega arith)
+zero_multiple (x ∷ a) (y ∷ b) e = ap₂ (λ (z : ℕ) (zs : List ℕ). z ∷ zs) (sym (ap (bit_xor x) (zero_times y) ∙ xor_zero_r x)) (zero_multiple a b (omega arith))
 
 scale_append : (f : ℕ) (p q : List ℕ) → scale f p ++ scale f q ≡ scale f (p ++ q)
 scale_append f [] q = refl

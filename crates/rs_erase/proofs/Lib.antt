@@ -23,3 +23,4 @@ pub mod SpacedSums
 pub mod FirstValues
 pub mod SpacedWords
 pub mod ZechSums
+pub mod FirstRemainders

@@ -103,7 +103,7 @@ pub word_found : (es w r s factors weights starts lanes sums table new : List �
     → AreFactors (locators_of es) factors → AreMultiplied factors r s → length r ≡ 48
     → ((j : ℕ) → j < length es → times (get_or weights j 0) (scale_of (locators_of es) j) ≡ 1)
     → AreLanes starts used distance (take message es) lanes → IsSpacing distance table
-    → ((run i : ℕ) → run < used → run < 6 → i < 16 → get_or starts run 0 < 207
+    → ((run i : ℕ) → run < used → run < 13 → i < 16 → get_or starts run 0 < 207
     → get_or sums (16 * run + i) 0 ≡ spaced_sum table s (207 - get_or starts run 0) i 48)
     → ((vs : List ℕ) → length vs ≡ length (take message es)
     → ((j : ℕ) → j < length (take message es) → get_or vs j 0 ≡ times (get_or weights j 0) (get_or sums (get_or lanes j 0) 0))
@@ -134,11 +134,11 @@ word_found es w r s factors weights starts lanes sums table new distance message
     let low = inside.before j jm in
     let small = h.small in
     let whole = lane_parts lane in
-    let six : run < 6 = omega arith in
+    let thirteen : run < 13 = omega arith in
     let far : get_or xs j 0 ≡ power (254 - (get_or starts run 0 + distance * i)) = located_at es j (omega arith) ∙ ap (λ (e : ℕ). power (254 - e)) (sym place) in
     let first = get_or (syndromes_without (without j xs) t) 0 0 in
     let is : get_or sums lane 0 ≡ spaced_sum table s (207 - get_or starts run 0) i 48 =
-    ap (λ (n : ℕ). get_or sums n 0) (sym whole) ∙ each run i h.run six li (omega arith) in
+    ap (λ (n : ℕ). get_or sums n 0) (sym whole) ∙ each run i h.run thirteen li (omega arith) in
     let sum : get_or sums lane 0 ≡ first =
     is ∙ lane_sum xs r s table distance (get_or starts run 0) i j 48 (omega arith) (omega arith) far (omega arith) (multiplied_by xs factors r s hf hs) spacing li lr (omega arith) in
     get_or-take message ds j 0 jm

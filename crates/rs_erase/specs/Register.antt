@@ -28,3 +28,8 @@ pub record IsMultipleRemainder (factor p : ℕ) (row : List ℕ) : Type 0 where
 pub record AreMultiples (highest : ℕ) (rows : List ℕ) : Type 0 where
   pub low : (i n : ℕ) → i < 4 → n < 16 → IsMultipleRemainder n (highest - i) (chunk (48 * (32 * i + n)) 48 rows)
   pub high : (i n : ℕ) → i < 4 → n < 16 → IsMultipleRemainder (16 * n) (highest - i) (chunk (48 * (32 * i + 16 + n)) 48 rows)
+
+-- what remains of the first k elements of a message of 207, with zeros behind them
+pub record HasFirstRemainder (word register : List ℕ) (k : ℕ) : Type 0 where
+  pub long : length register ≡ 48
+  pub values : (j : ℕ) → 0 < j → j ≤ 48 → word_value (power j) register ≡ times (word_value (power j) (take k word)) (nth_power (power j) (255 - k))

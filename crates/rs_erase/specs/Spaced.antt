@@ -32,7 +32,7 @@ pub record SpacedPlaces : Type 0 where
 
 -- A lane of a place: it is so many steps behind the start of a run of sixteen.
 pub record IsLane (starts : List ℕ) (runs distance place lane : ℕ) : Type 0 where
-  pub small : lane < 96
+  pub small : lane < 208
   pub run : lane / 16 < runs
   pub there : slice_index starts (lane / 16) + distance * (lane % 16) ≡ place
 

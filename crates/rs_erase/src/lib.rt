@@ -16,6 +16,7 @@
 
 mod equations;
 mod fault;
+mod first_remainders;
 mod laws;
 mod multiples;
 mod multiples_51;

@@ -1,7 +1,8 @@
 //! Forty-eight elements, as many as a word has parity bytes, in lanes.
 
-ghost use Rattle.std.specs.Prelude.{◌≡◌, ◌<◌, ◌≤◌, ◌^◌, ◌+◌, ◌++◌, [], ◌∷◌, drop, length, replicate, slice_index, take};
-ghost use Rattle.std.specs.Simd.Lanes.{chunk, put_chunk};
+ghost use Rattle.std.specs.Prelude.{◌≡◌, ◌<◌, ◌≤◌, ◌^◌, ◌+◌, ◌++◌, [], ◌∷◌, bit_xor, drop, length, map, replicate, slice_index, take};
+ghost use Rattle.std.specs.Simd.Lanes.{chunk, put_chunk, zip2};
+ghost use Rattle.gf_field.specs.Field.{times};
 ghost use Rattle.rs_erase.specs.Code.{AreElements};
 ghost use Rattle.rs_erase.specs.Polynomial.{add, scale};
 ghost use Rattle.rs_erase.specs.Rows.{listed};
@@ -53,10 +54,13 @@ impl Row {
         }
     }
 
-    /// The elements with this multiple of the others added.
+    /// The elements with this multiple of the others added. Many a multiple is that by 0, where a chunk has few bytes.
     pub fn plus_multiple(self, factor: u8, other: Row) -> Row
         ensures { listed result ≡ add (listed self) (scale factor (listed other)) }
     {
+        if factor == 0 {
+            return self;
+        }
         self.plus(Row {
             first: scaled(other.first, factor),
             second: scaled(other.second, factor),
@@ -99,6 +103,16 @@ pub fn lanes_from(bytes: &[u8], place: usize) -> u8x16
     ensures { result ≡ chunk place 16 bytes.now }
 {
     u8x16::from_slice(&bytes[place..])
+}
+
+/// The lanes with this multiple of the others added.
+pub fn plus_multiple(lanes: u8x16, factor: u8, others: u8x16) -> u8x16
+    ensures { result ≡ zip2 bit_xor lanes (map (times factor) others) }
+{
+    if factor == 0 {
+        return lanes;
+    }
+    lanes ^ scaled(others, factor)
 }
 
 /// The lanes of three vectors.

@@ -1,10 +1,10 @@
 //! Runs of places at one distance.
 
-ghost use Rattle.std.specs.Prelude.{◌≡◌, ◌<◌, ◌≤◌, true, length, slice_index};
+ghost use Rattle.std.specs.Prelude.{◌≡◌, ◌<◌, ◌≤◌, ◌+◌, ◌*◌, true, length, slice_index};
 ghost use Rattle.rs_erase.specs.Spaced.{AreLanes, IsLane};
 
-/// How many runs there may be.
-pub const RUNS: usize = 6;
+/// How many runs there may be: at distance 1 as many as have all places of a message.
+pub const RUNS: usize = 13;
 
 /// The places of a run.
 const LANES: usize = 16;
@@ -16,7 +16,7 @@ pub struct Runs {
     pub starts: [u8; RUNS],
     /// How many there are.
     pub used: usize,
-    /// How many places each run has.
+    /// How many lanes of each run are behind the places so far.
     lens: [usize; RUNS],
 }
 
@@ -42,7 +42,7 @@ impl Runs {
         let steps = usize::from(lane) % LANES;
         run < RUNS
             && run < self.used
-            && usize::from(self.starts[run]) + usize::from(distance) * steps == usize::from(place)
+            && place_of(self.starts[run], distance, steps) == usize::from(place)
     }
 }
 
@@ -61,22 +61,40 @@ pub fn runs_of(distance: u8, places: &[u8], lanes: &mut [u8; 48]) -> Runs
     runs
 }
 
-/// The lane of one place more: in the run whose next place it is, or first in a new one.
+/// The lane of one place more: in a run in whose reach it is, or first in a new one.
 fn lane_in(runs: &mut Runs, distance: u8, place: u8) -> u8 {
     for run in 0..RUNS {
-        let len = runs.lens[run];
         if run >= runs.used {
             runs.used = run + 1;
             runs.starts[run] = place;
             runs.lens[run] = 1;
             return (LANES * run) as u8;
         }
-        if len < LANES
-            && usize::from(runs.starts[run]) + usize::from(distance) * len == usize::from(place)
-        {
-            runs.lens[run] = len + 1;
-            return (LANES * run + len) as u8;
+        let start = runs.starts[run];
+        let steps = steps_to(start, distance, runs.lens[run], place);
+        runs.lens[run] = steps;
+        if steps < LANES && place_of(start, distance, steps) == usize::from(place) {
+            runs.lens[run] = steps + 1;
+            return (LANES * run + steps) as u8;
         }
     }
     0
+}
+
+/// How many steps behind the start of a run, but no fewer than these, the first place is that isn't before this one.
+fn steps_to(start: u8, distance: u8, least: usize, place: u8) -> usize {
+    for steps in least..LANES {
+        if place_of(start, distance, steps) >= usize::from(place) {
+            return steps;
+        }
+    }
+    LANES
+}
+
+/// The place so many steps behind the start of a run.
+fn place_of(start: u8, distance: u8, steps: usize) -> usize
+    requires { steps < 16 }
+    ensures { result ≡ start + distance * steps }
+{
+    usize::from(start) + usize::from(distance) * steps
 }

@@ -9,11 +9,11 @@ ghost use Rattle.rs_erase.specs.Spaced.{spaced_sum, AreInMessage, HasMessage};
 use crate::equations::are_zero;
 use crate::fault::SolveFault;
 use crate::roots::{first_values_of, values_of, word_remainder};
-use crate::row::{lanes_from, write_lanes};
+use crate::row::{lanes_from, plus_multiple, write_lanes};
 use crate::runs::{RUNS, runs_of};
 use crate::spacing::Spacing;
 use crate::zech_sums::{factors_by, sums_at, write_weights_by};
-use gf_field::{Gf, scaled};
+use gf_field::Gf;
 use std::marker::Model;
 use std::simd::prelude::*;
 
@@ -31,7 +31,7 @@ pub struct SpacedPattern {
     // For each place what makes the value of what its lane comes to.
     weights: [Gf; 48],
     // Where each run starts, and for each place of the message its lane.
-    starts: [u8; 6],
+    starts: [u8; 13],
     used: usize,
     lanes: [u8; 48],
 }
@@ -48,7 +48,7 @@ impl Model for SpacedPattern {
 }
 
 impl SpacedPattern {
-    /// Prepares for these erased places, where those of the message make at most six runs of sixteen at this distance.
+    /// Prepares for these erased places, where those of the message make at most thirteen runs of sixteen at this distance.
     pub fn prepare(erased: &[u8], spacing: &Spacing) -> Option<SpacedPattern>
         requires places { ArePlaces erased.now }
         requires enough { length erased.now ≤ 48 }
@@ -168,11 +168,11 @@ fn sums_of_runs(
     starts: &[u8; RUNS],
     used: usize,
     symbols: &[u8; 48],
-) -> [u8; 96]
-    ensures { (run i : ℕ) → run < used → run < 6 → i < 16 → slice_index starts.now run < 207
+) -> [u8; 208]
+    ensures { (run i : ℕ) → run < used → run < 13 → i < 16 → slice_index starts.now run < 207
         → slice_index result (16 * run + i) ≡ spaced_sum table.now symbols.now (207 - slice_index starts.now run) i 48 }
 {
-    let mut sums = [0; 96];
+    let mut sums = [0; 208];
     for run in 0..used.min(RUNS) {
         write_lanes(
             &mut sums,
@@ -193,17 +193,17 @@ fn sums_of_run(table: &[u8; 4096], start: u8, symbols: &[u8; 48]) -> u8x16
     }
     let first = 207 - usize::from(start);
     for p in 0..48usize {
-        sums = sums ^ scaled(lanes_from(table, 16 * (first + p)), symbols[p]);
+        sums = plus_multiple(sums, symbols[p], lanes_from(table, 16 * (first + p)));
     }
     sums
 }
 
 /// Adds at each place what its lane comes to, times its weight.
-fn add_found(word: &mut [u8], places: &[u8], sums: &[u8; 96], lanes: &[u8; 48], weights: &[Gf; 48])
+fn add_found(word: &mut [u8], places: &[u8], sums: &[u8; 208], lanes: &[u8; 48], weights: &[Gf; 48])
     requires length { length word.old ≡ 255 }
     requires places { ArePlaces places.now }
     requires within_limit { length places.now ≤ 48 }
-    requires lanes { (j : ℕ) → j < length places.now → slice_index lanes.now j < 96 }
+    requires lanes { (j : ℕ) → j < length places.now → slice_index lanes.now j < 208 }
     ensures { (vs : List ℕ) → length vs ≡ length places.now
         → ((j : ℕ) → j < length places.now
         → slice_index vs j ≡ times (slice_index weights.now j) (slice_index sums.now (slice_index lanes.now j)))

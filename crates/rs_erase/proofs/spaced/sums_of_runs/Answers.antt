@@ -12,10 +12,10 @@ loop-run-preserved c =
     let new = c.write_lanes.new.bytes in
     let starts = c.args.starts.now in
     let is = c.write_lanes.ensures in
-    let long : length old ≡ 96 = c.loop-run.invariant.long in
+    let long : length old ≡ 208 = c.loop-run.invariant.long in
     let lr : length row ≡ 16 = search rules in
     let end = c.min-run-end.ensures in
-    let few : run < 6 = omega arith in
+    let few : run < 13 = omega arith in
     record {
       long = ap (λ (zs : List ℕ). length zs) is ∙ length-put_chunk (16 * run) old row ∙ long;
       done = λ r i lt li small. elim (cases_lt r run) [
