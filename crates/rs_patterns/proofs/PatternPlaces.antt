@@ -45,27 +45,30 @@ same_positions kept count k start marks some is =
     (λ i lt. sym (get_or-take count kept.marks i false lt) ∙ ap (λ (l : List Bool). get_or l i false) is.same_marks ∙ get_or-take count marks i false lt)
     start k (k + 48)
 
+-- the places and the distance of a pattern that is there
+pub pattern_in : (found : Option SpacedPlaces) (pattern : SpacedPlaces) (es : List ℕ) (d : ℕ) → IfSome found (λ p. p ≡ record { places = es; distance = d })
+    → found ≡ Some pattern → (pattern.places ≡ es) × (pattern.distance ≡ d)
+pattern_in found pattern es d right is =
+    let same : pattern ≡ record { places = es; distance = d } = subst (λ (p : Option SpacedPlaces). IfSome p (λ q. q ≡ record { places = es; distance = d })) is right in
+    (ap (λ (v : SpacedPlaces). v.places) same, ap (λ (v : SpacedPlaces). v.distance) same)
+
 -- a kept pattern is the one of these chunks, if it is for them
 pub right_pattern : (kept : Kept) (pattern : SpacedPlaces) (count k start : ℕ) (marks : List Bool) → 0 < count → IsWellFormed kept → kept.pattern ≡ Some pattern
     → IsFor kept count k (start % count) marks
-    → (pattern.places ≡ erased_positions count (is_marked marks) start k (k + 48)) × (pattern.distance ≡ count)
+    → (pattern.places ≡ erased_positions count (is_marked marks) start k (k + 48)) × (pattern.distance ≡ kept.distance)
 right_pattern kept pattern count k start marks some right is for =
     let es = erased_positions kept.count (is_marked kept.marks) kept.first kept.k (kept.k + 48) in
-    let same : pattern ≡ record { places = es; distance = kept.count } =
-    subst (λ (p : Option SpacedPlaces). IfSome p (λ q. q ≡ record { places = es; distance = kept.count })) is right in (
-      ap (λ (v : SpacedPlaces). v.places) same ∙ same_positions kept count k start marks some for,
-      ap (λ (v : SpacedPlaces). v.distance) same ∙ for.same_count,
-    )
+    let here = pattern_in kept.pattern pattern es kept.distance right is in
+    (here.0 ∙ same_positions kept count k start marks some for, here.1)
 
 -- and where one is for these chunks, their pattern is right for it
 pub right_with : (kept : Kept) (pattern : Option SpacedPlaces) (count k start : ℕ) (marks : List Bool) → 0 < count
-    → IfSome pattern (λ p. p ≡ record { places = erased_positions count (is_marked marks) start k (k + 48); distance = count })
+    → IfSome pattern (λ p. p ≡ record { places = erased_positions count (is_marked marks) start k (k + 48); distance = kept.distance })
     → IsFor kept count k (start % count) marks → IsWellFormed (record kept { pattern = pattern })
 right_with kept None count k start marks some is for = tt
 right_with kept (Some pattern) count k start marks some is for =
     is
-    ∙ ap₂ (λ (es : List ℕ) (d : ℕ). record { places = es; distance = d })
-    (sym (same_positions kept count k start marks some for)) (sym for.same_count)
+    ∙ ap (λ (es : List ℕ). record { places = es; distance = kept.distance }) (sym (same_positions kept count k start marks some for))
 
 -- The word's front is that of each code word that agrees.
 pub same_front : (es old new word : List ℕ) (k : ℕ) → k ≤ 207 → length new ≡ 255 → HasMessage es old new → IsCodeWord word → AgreesOutside es old word

@@ -22,11 +22,11 @@ pub record IsFor (kept : Kept) (count k first : ℕ) (marks : List Bool) : Type 
   pub same_first : kept.first ≡ first
   pub same_marks : take count kept.marks ≡ take count marks
 
--- where there is a pattern, it has the erased positions of the chunks that it is for, and a fragment's bytes are so far apart
+-- where there is a pattern, it has the erased positions of the chunks that it is for, and runs at the distance that is noted
 abbrev pub IsWellFormed : Kept → Type 0
 IsWellFormed kept =
     IfSome kept.pattern (λ pattern. pattern
-    ≡ record { places = erased_positions kept.count (is_marked kept.marks) kept.first kept.k (kept.k + 48); distance = kept.count })
+    ≡ record { places = erased_positions kept.count (is_marked kept.marks) kept.first kept.k (kept.k + 48); distance = kept.distance })
 
 -- patterns in their places
 pub record AreKept (kept : List Kept) : Type 0 where

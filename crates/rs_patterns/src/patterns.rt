@@ -21,7 +21,13 @@ const KEPT: usize = 64;
 const SETS: usize = KEPT / 2;
 
 // Of packets with more fragments none is kept.
-const MOST_MARKS: usize = 64;
+const MOST_MARKS: usize = 255;
+
+// In chunks of so few bytes, and in packets of more fragments than these, erased places are taken for runs of neighbours: all
+// places of the chunk are few runs then, or a fragment has few places of it.
+const FEW_BYTES: usize = 16;
+
+const MANY_FRAGMENTS: usize = 64;
 
 // A pattern, and for which chunks it is: those of packets with so many fragments, of which the same ones are marked, that
 // have so many bytes and begin with this fragment.
@@ -31,6 +37,8 @@ pub(crate) struct Kept {
     pub(crate) k: usize,
     pub(crate) first: usize,
     pub(crate) marks: [bool; MOST_MARKS],
+    // How far apart the places of its runs are.
+    pub(crate) distance: u8,
     // None where the erased bytes stand in too many runs.
     pub(crate) pattern: Option<SpacedPattern>,
 }
@@ -85,16 +93,23 @@ impl Patterns {
         ensures message { OnOk result (HasMessage (erased_positions count (is_marked marks.now) start k (k + 48)) word.old word.new) }
     {
         if count > MOST_MARKS {
-            return solve_once(marks, count, k, start, word);
+            return solve_once(&mut self.spacings, marks, count, k, start, word);
         }
-        self.spacings.turn_to(count);
         let first = start % count;
         let set = first % SETS;
         let second = is_second(&self.kept, self.second[set], set, marks, count, k, first);
         self.second[set] = second;
         let place = if second { set + SETS } else { set };
-        let spacing = self.spacings.last();
-        solve_at(&mut self.kept, place, spacing, marks, count, k, start, word)
+        solve_at(
+            &mut self.kept,
+            place,
+            &mut self.spacings,
+            marks,
+            count,
+            k,
+            start,
+            word,
+        )
     }
 }
 
@@ -109,6 +124,7 @@ fn no_patterns(alloc: Global) -> Result<Vec<Kept>, NoMemory>
             k: 0,
             first: 0,
             marks: [false; MOST_MARKS],
+            distance: 1,
             pattern: None,
         };
         if patterns.push(none).is_err() {
@@ -129,7 +145,7 @@ fn is_second(
     first: usize,
 ) -> bool
     requires there { set + 32 < length kept.now }
-    requires within_limit { count ≤ 64 }
+    requires within_limit { count ≤ 255 }
     requires room { count ≤ length marks.now }
 {
     !is_for(&kept[set], marks, count, k, first)
@@ -138,7 +154,7 @@ fn is_second(
 
 // Whether it is for these chunks.
 fn is_for(kept: &Kept, marks: &[bool], count: usize, k: usize, first: usize) -> bool
-    requires within_limit { count ≤ 64 }
+    requires within_limit { count ≤ 255 }
     requires room { count ≤ length marks.now }
     ensures { result ≡ true → IsFor kept.now count k first marks.now }
 {
@@ -161,7 +177,7 @@ fn have_same(marks: &[bool], others: &[bool], count: usize) -> bool
 fn solve_at(
     kept: &mut [Kept],
     place: usize,
-    spacing: &Spacing,
+    spacings: &mut Spacings,
     marks: &[bool],
     count: usize,
     k: usize,
@@ -170,20 +186,19 @@ fn solve_at(
 ) -> Result<(), SolveFault>
     requires kept { AreKept kept.old }
     requires there { place < 64 }
-    requires spaced { spacing.now ≡ count }
-    requires within_limit { count ≤ 64 }
+    requires within_limit { count ≤ 255 }
     requires erased { IsErased count k start marks.now }
     ensures kept { AreKept kept.new }
     ensures solved { IsOk result ↔ HasCodeWord (erased_positions count (is_marked marks.now) start k (k + 48)) word.old }
     ensures message { OnOk result (HasMessage (erased_positions count (is_marked marks.now) start k (k + 48)) word.old word.new) }
 {
-    solve_kept(&mut kept[place], spacing, marks, count, k, start, word)
+    solve_kept(&mut kept[place], spacings, marks, count, k, start, word)
 }
 
 // Solves by this pattern, which is made the chunk's.
 fn solve_kept(
     kept: &mut Kept,
-    spacing: &Spacing,
+    spacings: &mut Spacings,
     marks: &[bool],
     count: usize,
     k: usize,
@@ -191,45 +206,44 @@ fn solve_kept(
     word: &mut [u8; 255],
 ) -> Result<(), SolveFault>
     requires right { IsWellFormed kept.old }
-    requires spaced { spacing.now ≡ count }
-    requires within_limit { count ≤ 64 }
+    requires within_limit { count ≤ 255 }
     requires erased { IsErased count k start marks.now }
     ensures right { IsWellFormed kept.new }
     ensures solved { IsOk result ↔ HasCodeWord (erased_positions count (is_marked marks.now) start k (k + 48)) word.old }
     ensures message { OnOk result (HasMessage (erased_positions count (is_marked marks.now) start k (k + 48)) word.old word.new) }
 {
-    make_ready(kept, spacing, marks, count, k, start);
+    make_ready(kept, spacings, marks, count, k, start);
+    spacings.turn_to(kept.distance);
     if let Some(pattern) = &kept.pattern {
-        return solve_spaced(pattern, spacing, word);
+        return solve_spaced(pattern, spacings.last(), word);
     }
-    solve_once(marks, count, k, start, word)
+    solve_by_places(marks, count, k, start, word)
 }
 
 // Sees to it that it is for these chunks, with their pattern, where they have one.
 fn make_ready(
     kept: &mut Kept,
-    spacing: &Spacing,
+    spacings: &mut Spacings,
     marks: &[bool],
     count: usize,
     k: usize,
     start: usize,
 )
     requires right { IsWellFormed kept.old }
-    requires spaced { spacing.now ≡ count }
-    requires within_limit { count ≤ 64 }
+    requires within_limit { count ≤ 255 }
     requires erased { IsErased count k start marks.now }
     ensures right { IsWellFormed kept.new }
     ensures is_for { IsFor kept.new count k (start % count) marks.now }
 {
     if !is_for(kept, marks, count, k, start % count) {
         note(kept, marks, count, k, start % count);
-        kept.pattern = prepare(spacing, marks, count, k, start);
+        prepare_kept(kept, spacings, marks, count, k, start);
     }
 }
 
 // From now on it is for these chunks, without a pattern.
 fn note(kept: &mut Kept, marks: &[bool], count: usize, k: usize, first: usize)
-    requires within_limit { count ≤ 64 }
+    requires within_limit { count ≤ 255 }
     requires room { count ≤ length marks.now }
     ensures right { IsWellFormed kept.new }
     ensures is_for { IsFor kept.new count k first marks.now }
@@ -250,7 +264,67 @@ fn copy_first(marks: &mut [bool], others: &[bool], count: usize)
     marks[..count].copy_from_slice(&others[..count]);
 }
 
-// The pattern of the chunk that starts at a place, if its erased bytes belong to few fragments.
+// Prepares its pattern, with runs at the distance that suits such chunks, or of neighbours where these would be too many.
+fn prepare_kept(
+    kept: &mut Kept,
+    spacings: &mut Spacings,
+    marks: &[bool],
+    count: usize,
+    k: usize,
+    start: usize,
+)
+    requires is_for { IsFor kept.old count k (start % count) marks.now }
+    requires within_limit { count ≤ 255 }
+    requires erased { IsErased count k start marks.now }
+    ensures right { IsWellFormed kept.new }
+    ensures is_for { IsFor kept.new count k (start % count) marks.now }
+{
+    prepare_at(
+        kept,
+        run_distance(count, k),
+        spacings,
+        marks,
+        count,
+        k,
+        start,
+    );
+    if kept.pattern.is_none() {
+        prepare_at(kept, 1, spacings, marks, count, k, start);
+    }
+}
+
+// How far apart the places of runs are best taken in such chunks.
+fn run_distance(count: usize, k: usize) -> u8
+    requires { count ≤ 255 }
+{
+    if k <= FEW_BYTES || count > MANY_FRAGMENTS {
+        1
+    } else {
+        count as u8
+    }
+}
+
+// Prepares its pattern with runs at this distance.
+fn prepare_at(
+    kept: &mut Kept,
+    distance: u8,
+    spacings: &mut Spacings,
+    marks: &[bool],
+    count: usize,
+    k: usize,
+    start: usize,
+)
+    requires is_for { IsFor kept.old count k (start % count) marks.now }
+    requires erased { IsErased count k start marks.now }
+    ensures right { IsWellFormed kept.new }
+    ensures is_for { IsFor kept.new count k (start % count) marks.now }
+{
+    spacings.turn_to(distance);
+    kept.distance = distance;
+    kept.pattern = prepare(spacings.last(), marks, count, k, start);
+}
+
+// The pattern of the chunk that starts at a place, if its erased bytes stand in few runs at this distance.
 fn prepare(
     spacing: &Spacing,
     marks: &[bool],
@@ -258,19 +332,38 @@ fn prepare(
     k: usize,
     start: usize,
 ) -> Option<SpacedPattern>
-    requires spaced { spacing.now ≡ count }
-    requires erased { IsErased count k start marks.now }
-    requires within_limit { count ≤ 64 }
+    requires { IsErased count k start marks.now }
     ensures { IfSome result (λ pattern. pattern
-        ≡ record { places = erased_positions count (is_marked marks.now) start k (k + 48); distance = count }) }
+        ≡ record { places = erased_positions count (is_marked marks.now) start k (k + 48); distance = spacing.now }) }
 {
     let mut positions = [0; 255];
     let erased = write_erased(marks, count, k, start, &mut positions);
     SpacedPattern::prepare(&positions[..erased], spacing)
 }
 
-// Solves without a pattern.
+// Solves by a pattern that isn't kept.
 fn solve_once(
+    spacings: &mut Spacings,
+    marks: &[bool],
+    count: usize,
+    k: usize,
+    start: usize,
+    word: &mut [u8; 255],
+) -> Result<(), SolveFault>
+    requires { IsErased count k start marks.now }
+    ensures solved { IsOk result ↔ HasCodeWord (erased_positions count (is_marked marks.now) start k (k + 48)) word.old }
+    ensures message { OnOk result (HasMessage (erased_positions count (is_marked marks.now) start k (k + 48)) word.old word.new) }
+{
+    spacings.turn_to(1);
+    let spacing = spacings.last();
+    if let Some(pattern) = &prepare(spacing, marks, count, k, start) {
+        return solve_spaced(pattern, spacing, word);
+    }
+    solve_by_places(marks, count, k, start, word)
+}
+
+// Solves without a pattern.
+fn solve_by_places(
     marks: &[bool],
     count: usize,
     k: usize,

@@ -8,15 +8,13 @@ use Rattle.rs_patterns.proofs.patterns.prepare.Goals as goal
 
 pub prepare-requires-clause-places : goal.prepare-requires-clause-places
 prepare-requires-clause-places c =
-    subst ArePlaces (sym c.write_erased-erased.ensures.erased) (are_places c.args.count (is_marked c.args.marks.now) c.args.start c.args.k c.requires.erased.few)
+    subst ArePlaces (sym c.write_erased-erased.ensures.erased) (are_places c.args.count (is_marked c.args.marks.now) c.args.start c.args.k c.requires.few)
 
 pub prepare-requires-clause-enough : goal.prepare-requires-clause-enough
 prepare-requires-clause-enough c =
-    let enough = c.requires.erased.enough in
+    let enough = c.requires.enough in
     omega (arith, enough, ap length c.write_erased-erased.ensures.erased, erased_length c.args.count (is_marked c.args.marks.now) c.args.start c.args.k (c.args.k + 48))
 
 pub returns : goal.returns
 returns c =
-    subst (λ (d : ℕ). IfSome c.prepare.result (λ p. p ≡ record { places = erased_positions c.args.count (is_marked c.args.marks.now) c.args.start c.args.k (c.args.k + 48); distance = d }))
-    c.requires.spaced
-    (subst (λ (es : List ℕ). IfSome c.prepare.result (λ p. p ≡ record { places = es; distance = c.args.spacing.now })) c.write_erased-erased.ensures.erased c.prepare.ensures)
+    subst (λ (es : List ℕ). IfSome c.prepare.result (λ p. p ≡ record { places = es; distance = c.args.spacing.now })) c.write_erased-erased.ensures.erased c.prepare.ensures
