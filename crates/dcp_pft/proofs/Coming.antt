@@ -11,11 +11,11 @@ module _ (count : ℕ) where
   place_in : ℕ → List ℕ → ℕ → ℕ
   place_in at bytes j = byte_or_zero bytes (j * count + at)
 
-  length-every : (n at : ℕ) (bytes : List ℕ) → length (every count at n bytes) ≡ n
+  pub length-every : (n at : ℕ) (bytes : List ℕ) → length (every count at n bytes) ≡ n
   unfolding place_in
   length-every n at bytes = length-map-range_with_len (place_in at bytes) 0 n
 
-  every_at : (n at j : ℕ) (bytes : List ℕ) → j < n → get_or (every count at n bytes) j 0 ≡ get_or bytes (j * count + at) 0
+  pub every_at : (n at j : ℕ) (bytes : List ℕ) → j < n → get_or (every count at n bytes) j 0 ≡ get_or bytes (j * count + at) 0
   unfolding place_in
   every_at n at j bytes lt = get_or-map-range_with_len (place_in at bytes) 0 n j j 0 lt (omega arith)
 

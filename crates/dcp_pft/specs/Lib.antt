@@ -9,3 +9,4 @@ pub mod Writing
 pub mod Loss
 pub mod Faults
 pub mod Reading
+pub mod Turning

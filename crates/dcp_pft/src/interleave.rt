@@ -96,8 +96,8 @@ fn take_every(bytes: &[u8], count: u32, from: Next, into: &mut [u8]) -> Next
     }
 }
 
-// Behind the coded bytes there are zeros.
-fn fill_rest(into: &mut [u8], written: usize)
+/// Behind the coded bytes there are zeros.
+pub(crate) fn fill_rest(into: &mut [u8], written: usize)
     requires { written ≤ length into.old }
     ensures { into.new ≡ take written into.old ++ replicate (length into.old - written) 0 }
 {

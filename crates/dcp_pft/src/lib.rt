@@ -23,11 +23,14 @@ mod fragment;
 mod head;
 mod interleave;
 mod laws;
+mod lay_out;
 mod limits;
 mod parts;
 mod read;
 mod shape;
+mod turn;
 mod write;
+mod write_all;
 
 pub use carry::{Carry, cut_for, datagram_len, datagrams};
 pub use coding::code;
@@ -44,3 +47,4 @@ pub use limits::{
 pub use read::{read_fragment, size_by_head};
 pub use shape::{Rs, Shape, chunks, shape_for};
 pub use write::write_fragment;
+pub use write_all::{FRAGMENTS_ROOM, write_fragments};

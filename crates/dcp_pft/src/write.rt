@@ -5,9 +5,11 @@ ghost use Rattle.std.specs.Int.{w16, to_be_bytes};
 ghost use Rattle.drm_bits.specs.Bits.{IsBytes};
 ghost use Rattle.dcp_pft.specs.Limits.{most_fragment};
 ghost use Rattle.dcp_pft.specs.Cutting.{IsShapeOf, chunks_of};
+ghost use Rattle.dcp_pft.specs.Carrying.{fragment_size};
 ghost use Rattle.dcp_pft.specs.Coding.{IsParityOf};
 ghost use Rattle.dcp_pft.specs.Head.{SpellsHead, IsFragmentOf, fragment_of, sync, three_bytes};
 ghost use Rattle.dcp_pft.specs.Writing.{PutsHead, WritesFragment};
+ghost use Rattle.dcp_pft.specs.Turning.{with_payload};
 
 use crate::interleave::interleave;
 use crate::limits::MOST_FRAGMENT;
@@ -70,17 +72,19 @@ fn write_coded(
     end
 }
 
-// A fragment without a code.
-fn write_plain(
+/// A fragment without a code.
+pub(crate) fn write_plain(
     shape: &Shape,
     seq: u16,
     index: u32,
     packet: &[u8],
-    into: &mut [u8; MOST_FRAGMENT],
+    into: &mut [u8],
 ) -> usize
     requires shape { IsShapeOf (length packet.now) shape.now }
     requires code { shape.now.rs ≡ None }
-    ensures { (parity : List ℕ) → WritesFragment (fragment_of shape.now seq packet.now parity index) result into.old into.new }
+    requires room { shape.now.piece + 14 ≤ length into.old }
+    ensures fragment { (parity : List ℕ) → WritesFragment (fragment_of shape.now seq packet.now parity index) result into.old into.new }
+    ensures size { result ≡ fragment_size shape.now (length packet.now) index }
 {
     let size = usize::from(shape.piece);
     let payload = part(packet, index as usize * size, size);
@@ -90,6 +94,26 @@ fn write_plain(
     );
     put_at(into, PLAIN_HEAD as usize, payload);
     PLAIN_HEAD as usize + payload.len()
+}
+
+/// A fragment with a code and this payload.
+pub(crate) fn write_payload(
+    shape: &Shape,
+    rs: Rs,
+    seq: u16,
+    index: u32,
+    payload: &[u8],
+    into: &mut [u8],
+) -> usize
+    requires piece { length payload.now ≡ shape.now.piece }
+    requires within_limit { shape.now.piece + 16 ≤ most_fragment }
+    requires room { shape.now.piece + 16 ≤ length into.old }
+    ensures fragment { WritesFragment (with_payload shape.now rs seq index payload.now) result into.old into.new }
+    ensures size { result ≡ 16 + shape.now.piece }
+{
+    put_head(&coded_head(seq, index, shape.count, shape.piece, rs), into);
+    put_at(into, CODED_HEAD as usize, payload);
+    CODED_HEAD as usize + payload.len()
 }
 
 // The header with a code, before its check value.

@@ -1,0 +1,6 @@
+use Rattle.std.proofs.Common.{ℕ, ◌++◌, ◌*◌, List, length, get_or, refl, arith}
+use Rattle.std.proofs.lemmas.List.FromFn.{get_or-map-range_with_len}
+use Rattle.dcp_pft.proofs.turn.evens.Goals as goal
+
+pub returns : goal.returns
+returns c = λ l below. get_or-map-range_with_len (λ (j : ℕ). get_or (c.args.first ++ c.args.second) (2 * j) 0) 0 16 l l 0 below (omega arith)
