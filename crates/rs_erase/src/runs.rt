@@ -16,8 +16,9 @@ pub struct Runs {
     pub starts: [u8; RUNS],
     /// How many there are.
     pub used: usize,
-    /// How many lanes of each run are behind the places so far.
+    /// How many lanes of each run are behind the places so far, and the place of the next lane.
     lens: [usize; RUNS],
+    nexts: [usize; RUNS],
 }
 
 impl Runs {
@@ -54,6 +55,7 @@ pub fn runs_of(distance: u8, places: &[u8], lanes: &mut [u8; 48]) -> Runs
         starts: [0; RUNS],
         used: 0,
         lens: [0; RUNS],
+        nexts: [0; RUNS],
     };
     for (j, place) in places.iter().enumerate() {
         lanes[j] = lane_in(&mut runs, distance, *place);
@@ -67,28 +69,38 @@ fn lane_in(runs: &mut Runs, distance: u8, place: u8) -> u8 {
         if run >= runs.used {
             runs.used = run + 1;
             runs.starts[run] = place;
-            runs.lens[run] = 1;
-            return (LANES * run) as u8;
+            runs.nexts[run] = usize::from(place);
         }
-        let start = runs.starts[run];
-        let steps = steps_to(start, distance, runs.lens[run], place);
-        runs.lens[run] = steps;
-        if steps < LANES && place_of(start, distance, steps) == usize::from(place) {
-            runs.lens[run] = steps + 1;
-            return (LANES * run + steps) as u8;
+        if runs.nexts[run] < usize::from(place) {
+            step_over(runs, run, distance, place);
+        }
+        let lane = runs.lens[run];
+        if lane < LANES && runs.nexts[run] == usize::from(place) {
+            step(runs, run, distance);
+            return (LANES * run + lane) as u8;
         }
     }
     0
 }
 
-/// How many steps behind the start of a run, but no fewer than these, the first place is that isn't before this one.
-fn steps_to(start: u8, distance: u8, least: usize, place: u8) -> usize {
-    for steps in least..LANES {
-        if place_of(start, distance, steps) >= usize::from(place) {
-            return steps;
+/// Goes on over the lanes of a run whose places are before this one.
+fn step_over(runs: &mut Runs, run: usize, distance: u8, place: u8)
+    requires { run < 13 }
+{
+    for _ in runs.lens[run]..LANES {
+        if runs.nexts[run] >= usize::from(place) {
+            return;
         }
+        step(runs, run, distance);
     }
-    LANES
+}
+
+/// Goes on to the next lane of a run.
+fn step(runs: &mut Runs, run: usize, distance: u8)
+    requires { run < 13 }
+{
+    runs.lens[run] = runs.lens[run].wrapping_add(1);
+    runs.nexts[run] = runs.nexts[run].wrapping_add(usize::from(distance));
 }
 
 /// The place so many steps behind the start of a run.

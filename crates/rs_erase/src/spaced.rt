@@ -130,9 +130,19 @@ fn multiplied(factors: &[u8; 48], symbols: &[u8; 48]) -> [u8; 48]
 {
     let mut products = [0; 48];
     for p in 0..48usize {
-        products[p] = Gf(factors[p]).mul(Gf(symbols[p])).0;
+        products[p] = product(factors[p], symbols[p]);
     }
     products
+}
+
+/// The factor times the symbol. Many a factor is 0, where a chunk has few bytes.
+fn product(factor: u8, symbol: u8) -> u8
+    ensures { result ≡ times factor symbol }
+{
+    if factor == 0 {
+        return 0;
+    }
+    Gf(factor).mul(Gf(symbol)).0
 }
 
 /// Whether the first of the values of these symbols at the roots are 0: as many as fewer places than 48 are erased.

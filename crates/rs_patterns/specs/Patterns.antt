@@ -30,5 +30,5 @@ IsWellFormed kept =
 
 -- patterns in their places
 pub record AreKept (kept : List Kept) : Type 0 where
-  pub each : length kept ≡ 64
+  pub each : length kept ≡ 128
   pub right : All IsWellFormed kept

@@ -1,6 +1,6 @@
 //! The erased bytes of a packet's chunks (TS 102 821): which they are, by the marks of the
 //! fragments that have come, and a chunk filled in its code word. Packets that lose the same
-//! fragments have the same places erased, so up to 64 patterns are kept, prepared, for the chunks
+//! fragments have the same places erased, so up to 128 patterns are kept, prepared, for the chunks
 //! that come next; no answer depends on what is kept.
 //!
 //! Code words are solved by `rs_erase`; which byte of a chunk belongs to which fragment is the rule

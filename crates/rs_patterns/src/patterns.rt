@@ -14,8 +14,8 @@ use rs_erase::{SolveFault, SpacedPattern, Spacing, solve, solve_spaced};
 use std::alloc::Global;
 use std::marker::Model;
 
-// How many are kept: enough for packets of up to 32 fragments and of two sizes by turns, as where each third has a block.
-const KEPT: usize = 64;
+// How many are kept: enough for packets of up to 64 fragments and of two sizes by turns, as where each third has a block.
+const KEPT: usize = 128;
 
 // Two places may have the patterns of chunks that begin with the same fragment.
 const SETS: usize = KEPT / 2;
@@ -144,7 +144,7 @@ fn is_second(
     k: usize,
     first: usize,
 ) -> bool
-    requires there { set + 32 < length kept.now }
+    requires there { set + 64 < length kept.now }
     requires within_limit { count ≤ 255 }
     requires room { count ≤ length marks.now }
 {
@@ -185,7 +185,7 @@ fn solve_at(
     word: &mut [u8; 255],
 ) -> Result<(), SolveFault>
     requires kept { AreKept kept.old }
-    requires there { place < 64 }
+    requires there { place < 128 }
     requires within_limit { count ≤ 255 }
     requires erased { IsErased count k start marks.now }
     ensures kept { AreKept kept.new }
