@@ -1,6 +1,6 @@
 pub mod MakingLemmas
 pub mod Taken
 pub mod Lists
-pub mod SomeFragments
+pub mod Layouts
 pub mod Gathering
 pub mod OverLinks

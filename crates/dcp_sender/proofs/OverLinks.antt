@@ -1,18 +1,18 @@
 -- The datagrams of a packet, as its carry calls for them.
-use Rattle.std.proofs.Common.{◌≡◌, ◌≤◌, ℕ, false, List, length, Option, None, Some, sym, subst, ◌∙◌, arith}
-use Rattle.std.specs.Prelude.{slice_index_or, IfSome}
+use Rattle.std.proofs.Common.{◌≡◌, ◌≤◌, ℕ, false, List, [], ◌∷◌, length, Option, None, Some, refl, sym, ap, subst, ◌∙◌, arith}
+use Rattle.std.specs.Prelude.{slice_index_or}
+use Rattle.std.proofs.lemmas.List.{append-nil}
 use Rattle.std.proofs.lemmas.Bool.Decides.{nat_tests}
 use Rattle.dcp_pft.specs.declared.carry.Carry.{Carry}
+use Rattle.dcp_pft.specs.declared.carry.Carry.TheVariants.{Plain}
 use Rattle.dcp_pft.specs.declared.shape.Shape.{Shape}
-use Rattle.dcp_pft.specs.Limits.{most_packet, most_fragments}
+use Rattle.dcp_pft.specs.Limits.{most_packet}
 use Rattle.dcp_pft.specs.Carrying.{cut_of, datagram_count, CarriesPacket}
-use Rattle.dcp_pft.specs.Cutting.{IsShapeOf}
-use Rattle.dcp_pft.specs.Laws.{AllTaken}
 use Rattle.dcp_pft.proofs.Carried.{whole_count, cut_count, carries_whole, carries_cut}
-use Rattle.dcp_sender.specs.CarriesText.{AreOf}
+use Rattle.dcp_sender.specs.CarriesText.{AreOf, CarriesText}
 use Rattle.dcp_sender.specs.Sending.{IsDatagramOf, count_of, AreAll}
 use Rattle.dcp_sender.specs.OverLinks.{is_large}
-use Rattle.dcp_sender.proofs.Taken.{taken}
+use Rattle.dcp_sender.proofs.Lists.{itself}
 
 count_is : (carry : Carry) (len : ℕ) (cut : Option Shape) → cut_of carry len ≡ cut → count_of cut ≡ datagram_count carry len
 count_is carry len None same = whole_count carry len same
@@ -28,16 +28,14 @@ all_of carry seq packet cut datagrams same are = record {
   each = λ i none below. carried carry seq i packet (slice_index_or datagrams i none) cut same (are.0 i none below);
 }
 
--- a packet has no more datagrams than a reader takes
-few_cut : AllTaken → (len : ℕ) (cut : Option Shape) → IfSome cut (IsShapeOf len) → count_of cut ≤ most_fragments
-few_cut all len None shaped = omega arith
-few_cut all len (Some shape) shaped = (taken all len shape shaped).few
-
-pub few_datagrams : AllTaken → (carry : Carry) (len n : ℕ) (cut : Option Shape) → cut_of carry len ≡ cut → IfSome cut (IsShapeOf len) → n ≡ datagram_count carry len → n ≤ most_fragments
-few_datagrams all carry len n cut same shaped is =
-    let few = few_cut all len cut shaped in
-    omega (arith, few, is, count_is carry len cut same)
-
 -- a packet that isn't above the limit
 pub small_enough : (carry : Carry) (len : ℕ) → is_large carry len ≡ false → len ≤ most_packet carry
 small_enough carry len small = grind (arith, nat_tests)
+
+-- a packet that is carried whole
+pub whole_carried : (carry : Carry) (seq : ℕ) (packet : List ℕ) → carry ≡ Plain → CarriesText carry seq packet packet
+whole_carried carry seq packet is = record {
+  datagrams = packet ∷ [];
+  are = all_of carry seq packet None (packet ∷ []) (ap (λ (c : Carry). cut_of c (length packet)) is) (itself seq packet, refl);
+  is = sym (append-nil packet);
+}

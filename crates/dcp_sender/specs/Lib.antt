@@ -1,5 +1,6 @@
 pub mod Making
 pub mod Parity
+pub mod Layout
 pub mod Sending
 pub mod Packets
 pub mod CarriesText

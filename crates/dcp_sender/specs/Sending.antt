@@ -1,10 +1,7 @@
--- A packet that is sent over a link: itself, or its fragments (TS 102 821).
-use Rattle.std.specs.Prelude.{ℕ, ◌≡◌, ◌<◌, Bool, List, length, Option, None, Some, slice_index_or}
+-- The datagrams of a packet: itself, or its fragments (TS 102 821).
+use Rattle.std.specs.Prelude.{ℕ, ◌≡◌, ◌<◌, List, length, Option, None, Some, slice_index_or}
 use Rattle.dcp_pft.specs.declared.shape.Shape.{Shape}
 use Rattle.dcp_pft.specs.Head.{IsFragmentOf}
-use Rattle.drm_links.specs.History.{GroupEvent}
-use Rattle.drm_links.specs.Calls.{sends}
-use Rattle.dcp_sender.specs.Making.{CallsMake}
 
 -- datagram i of a packet with this sequence number that is carried whole, or cut in this shape
 abbrev pub IsDatagramOf : Option Shape → ℕ → List ℕ → ℕ → List ℕ → Type 0
@@ -24,8 +21,3 @@ AreFirst cut sequence packet datagrams =
 -- all of them
 abbrev pub AreAll : Option Shape → ℕ → List ℕ → List (List ℕ) → Type 0
 AreAll cut sequence packet datagrams = AreFirst cut sequence packet datagrams × (length datagrams ≡ count_of cut)
-
--- What happened is what comes of a packet's datagrams over the k-th link, one after another and without a rest.
-abbrev pub MakesPacket : Option Shape → ℕ → List ℕ → ℕ → List Bool → List Bool → (List GroupEvent → Type 0) → Type 0
-MakesPacket cut sequence packet k up up' Happened =
-    (datagrams : List (List ℕ)) × AreAll cut sequence packet datagrams × CallsMake (sends k datagrams) up up' Happened

@@ -1,11 +1,11 @@
 //! The parity of a packet, and its fragments.
 
-ghost use Rattle.std.specs.Prelude.{◌≡◌, ◌*◌, ◌<◌, ◌≤◌, length, take, Some, IfSome};
+ghost use Rattle.std.specs.Prelude.{◌≡◌, ◌*◌, ◌<◌, ◌≤◌, length, take};
 ghost use Rattle.dcp_pft.specs.Limits.{most_fragment, most_parity};
 ghost use Rattle.dcp_pft.specs.Cutting.{chunks_of, IsShapeOf};
 ghost use Rattle.dcp_pft.specs.Coding.{IsParityOf};
 ghost use Rattle.dcp_pft.specs.Head.{IsFragmentOf};
-ghost use Rattle.dcp_sender.specs.Parity.{HoldsParity, IsCoded};
+ghost use Rattle.dcp_sender.specs.Parity.{IsCoded};
 
 use dcp_pft::{MOST_FRAGMENT, Shape, all_taken, chunks, code, write_fragment};
 
@@ -21,31 +21,19 @@ fn parity_len(shape: &Shape, len: usize) -> usize
     48 * chunks(shape) as usize
 }
 
-/// Writes the parity of a packet that is cut.
-pub fn write_parity(packet: &[u8], cut: Option<Shape>, into: &mut [u8])
-    requires shape { IfSome cut (IsShapeOf (length packet.now)) }
-    requires room { length into.old ≡ most_parity }
-    ensures parity { HoldsParity cut packet.now into.new }
-    ensures whole_length { length into.new ≡ most_parity }
-{
-    if let Some(shape) = cut {
-        write_front(packet, &shape, into);
-    }
-}
-
-// Writes the parity into the first bytes.
-fn write_front(packet: &[u8], shape: &Shape, into: &mut [u8])
+/// Writes the parity of a packet into the first bytes.
+pub(crate) fn write_parity(packet: &[u8], shape: &Shape, into: &mut [u8])
     requires shape { IsShapeOf (length packet.now) shape.now }
     requires room { length into.old ≡ most_parity }
     ensures parity { IsParityOf shape.now packet.now (take (48 * chunks_of shape.now) into.new) }
-    ensures same_length { length into.new ≡ length into.old }
+    ensures same_length { length into.new ≡ most_parity }
 {
     let len = parity_len(shape, packet.len());
     code(packet, shape, &mut into[..len]);
 }
 
 /// Writes fragment `i` of a packet whose parity stands at the front of `parity`, and gives its length.
-pub fn write_cut(
+pub(crate) fn write_cut(
     packet: &[u8],
     shape: &Shape,
     parity: &[u8],

@@ -1,4 +1,5 @@
 pub mod SomeParity
+pub mod SomeFragments
 pub mod Fragments
 pub mod Cuts
 pub mod Same

@@ -3,7 +3,6 @@ use Rattle.std.proofs.Common.{◌≡◌, ◌↔◌, ℕ, Bool, true, false, ◌<
 use Rattle.std.specs.Prelude.{IfSome, IsTrue}
 use Rattle.std.specs.Bool.{Decides}
 use Rattle.std.proofs.lemmas.Bool.{true≢false}
-use Rattle.std.proofs.Math.Seq.{get_or-append_seam}
 use Rattle.dcp_af.specs.Packet.{AfPacket}
 use Rattle.dcp_af.proofs.Answered.{is_packet_at}
 use Rattle.dcp_pft.specs.declared.carry.Carry.{Carry}
@@ -15,7 +14,7 @@ use Rattle.dcp_pft.specs.Cutting.{IsShapeOf, shape_of}
 use Rattle.dcp_pft.proofs.Carried.{is_shape}
 use Rattle.dcp_pft.proofs.Payloads.{shape_is_taken}
 use Rattle.dcp_sender.specs.Sending as sending
-use Rattle.dcp_sender.proofs.SomeFragments.{some_datagrams}
+use Rattle.dcp_sender.proofs.OverLinks.{all_of}
 use Rattle.drm_schedule.specs.declared.plan.Plan.{Plan}
 use Rattle.drm_schedule.specs.Valid.{IsSchedule}
 use Rattle.drm_timeline.specs.Numbers.{sequence_number}
@@ -24,11 +23,11 @@ use Rattle.drm_server.specs.Placed.{PlacedFrame}
 use Rattle.drm_server.specs.Datagrams.{HasDatagrams, IsDatagramAt, AreFirst}
 use Rattle.drm_server.proofs.DatagramLemmas.{first_length}
 use Rattle.drm_server.proofs.FrameLemmas.{of_frame}
-use Rattle.drm_server.proofs.OneDelivery.{first_split}
+use Rattle.drm_server.proofs.OneDelivery.{at_place}
 use Rattle.drm_server.proofs.OnePacket.{one_packet, some_bytes}
 use Rattle.law_collect.proofs.Sent.{head_of}
 use Rattle.drm_compare.specs.Agreement.{SameDatagrams}
-use Rattle.drm_compare.proofs.SomeParity.{some_held}
+use Rattle.drm_compare.proofs.SomeFragments.{some_datagrams}
 use Rattle.drm_compare.proofs.Fragments as fragments
 use Rattle.drm_compare.proofs.Fragments.{IsCarried, IsShared, shared, one_cut}
 
@@ -78,14 +77,12 @@ module _ (plan other : Plan) (t : ℕ) (packet packet' : List ℕ) (own : IsOwn 
       let is' : IsPacketAt other t packet = subst (λ (p : List ℕ). IsPacketAt other t p) (sym same) own'.is in
       let cut' : cut_of other.carry (length packet) ≡ cut_of plan.carry (length packet) = ap (λ (p : List ℕ). cut_of other.carry (length p)) same ∙ sym cut in
       let seq : sequence_number plan t ≡ sequence_number other t = same_sequence plan other t packet own.is is' in
-      let held = some_held (cut_of plan.carry (length packet)) packet
-      (shaped plan.carry (length packet) own.valid.in_lines.carry_fits (some_bytes plan t packet own.is) own.small) own.is.octets in
-      let all = some_datagrams (cut_of plan.carry (length packet)) (sequence_number plan t) packet held.0 held.1 in
-      let firsts' : sending.AreFirst (cut_of plan.carry (length packet)) (sequence_number other t) packet all.0 =
-      subst (λ (n : ℕ). sending.AreFirst (cut_of plan.carry (length packet)) n packet all.0) seq all.1.0 in (
+      let cut_as : Option Shape = cut_of plan.carry (length packet) in
+      let all = some_datagrams cut_as (sequence_number plan t) packet (shaped plan.carry (length packet) own.valid.in_lines.carry_fits (some_bytes plan t packet own.is) own.small) own.is.octets in
+      let all' : sending.AreAll cut_as (sequence_number other t) packet all.0 = subst (λ (n : ℕ). sending.AreAll cut_as n packet all.0) seq all.1 in (
         all.0,
-        of_frame plan t packet own.is (cut_of plan.carry (length packet)) all.0 refl all.1.0 all.1.1,
-        of_frame other t packet is' (cut_of plan.carry (length packet)) all.0 cut' firsts' all.1.1,
+        of_frame plan t packet all.0 own.is (all_of plan.carry (sequence_number plan t) packet cut_as all.0 refl all.1),
+        of_frame other t packet all.0 is' (all_of other.carry (sequence_number other t) packet cut_as all.0 cut' all'),
       )
 
 -- ---- and the other way round
@@ -96,15 +93,6 @@ carries : (plan : Plan) (t i : ℕ) (packet datagram : List ℕ) → IsPacketAt 
 carries plan t i packet datagram is at =
     let same : at.packet ≡ packet = one_packet plan t at.packet packet at.is_packet is in
     subst (λ (p : List ℕ). (i < datagram_count plan.carry (length p)) × CarriesPacket plan.carry (sequence_number plan t) p i datagram) same (at.within, at.is)
-
--- it stands at its place
-at_place : (plan : Plan) (t i count : ℕ) (datagrams : List (List ℕ)) → i < count → AreFirst plan t count datagrams → IsDatagramAt plan t i (get_or datagrams i [])
-at_place plan t i count datagrams below are =
-    let (first, next, behind, firsts, is, same) = first_split plan t i count datagrams below are in
-    let seam : get_or datagrams i [] ≡ next =
-    ap (λ (l : List (List ℕ)). get_or l i []) same
-    ∙ ap (λ (n : ℕ). get_or (first ++ next ∷ behind) n []) (sym (first_length plan t i first firsts)) ∙ get_or-append_seam first next behind [] in
-    subst (λ (d : List ℕ). IsDatagramAt plan t i d) (sym seam) is
 
 module _ (plan other : Plan) (t : ℕ) (packet packet' : List ℕ) (own : IsOwn plan t packet) (own' : IsOwn other t packet') where
   abbrev Shared : ℕ → Type 0

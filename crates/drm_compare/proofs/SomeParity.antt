@@ -1,8 +1,7 @@
 -- Each packet has its parity, whether it is made or not: a message with a remainder has one with a symbol more.
 use Rattle.std.proofs.Common.{◌≡◌, ℕ, zero, suc, ◌-◌, ◌*◌, ◌^◌, ◌<◌, ◌≤◌, List, [], ◌∷◌, ◌++◌, length, take, drop, replicate, Option, None, Some, refl, sym, ap, ap₂, subst, ◌∙◌, arith, bit_xor, length-append, append_assoc, length-take}
 use Rattle.std.proofs.Math.Seq.{take-append_seam, drop-append_seam}
-use Rattle.std.proofs.lemmas.List.{append-nil, take_all}
-use Rattle.std.specs.Prelude.{IfSome}
+use Rattle.std.proofs.lemmas.List.{append-nil}
 use Rattle.std.proofs.lemmas.List.Elements.{All-take, All-drop}
 use Rattle.std.specs.Int.Bits.{xor_assoc, xor_self, xor_zero_r}
 use Rattle.gf_field.specs.Field.{power, times}
@@ -20,11 +19,10 @@ use Rattle.rs_erase.proofs.ShiftRegister.{remainder_is_parity}
 use Rattle.rs_erase.proofs.WordValues.{length-add_same, nth_power_add, nth_power-lt, one_more, word_value_add, word_value_append, word_value_scale, word_value_zeros}
 use Rattle.dcp_pft.specs.declared.shape.Rs.{Rs}
 use Rattle.dcp_pft.specs.declared.shape.Shape.{Shape}
-use Rattle.dcp_pft.specs.Cutting.{IsShapeOf, chunks_of}
-use Rattle.dcp_pft.specs.Coding.{AreParities, filled}
+use Rattle.dcp_pft.specs.Cutting.{IsShapeOf}
+use Rattle.dcp_pft.specs.Coding.{AreParities, IsParityOf, filled}
 use Rattle.dcp_pft.proofs.Shapes.{has_code}
-use Rattle.dcp_pft.proofs.Fragments.{with_rs, chunks_by, parities_long}
-use Rattle.dcp_sender.specs.Parity.{HoldsParity}
+use Rattle.dcp_pft.proofs.Fragments.{with_rs, chunks_by}
 
 -- what remains of x to the 48: the generator without its leading 1
 abbrev row : List ℕ
@@ -115,19 +113,11 @@ some_parities (suc c) k chunks small elements =
       (subst (λ (p : List ℕ). IsCodeWord (word_of (take k chunks) p)) (sym front) first.2, subst (λ (p : List ℕ). AreParities c k (drop k chunks) p) (sym behind) more.1),
     )
 
--- bytes at whose front the parity of a packet stands, by whether there is a code
-held_by : (shape : Shape) (packet : List ℕ) → IsShapeOf (length packet) shape → IsBytes packet → (o : Option Rs) → shape.rs ≡ o
-    → (bytes : List ℕ) × HoldsParity (Some (with_rs shape o)) packet bytes
-held_by shape packet is bytes None none = ([], take_all (48 * chunks_of (with_rs shape None)) [] (omega arith))
-held_by shape packet is bytes (Some rs) has =
-    let small = (has_code (length packet) shape rs is has).size in
-    let all = some_parities (chunks_by shape rs) rs.k (filled rs packet) small (append_elements packet (replicate rs.z 0) (elements_of packet bytes) (zeros_elements rs.z)) in
-    let long = parities_long (chunks_by shape rs) rs.k (filled rs packet) all.0 small all.1 in (
-      all.0,
-      subst (λ (p : List ℕ). AreParities (chunks_by shape rs) rs.k (filled rs packet) p) (sym (take_all (48 * chunks_by shape rs) all.0 (omega (arith, long)))) all.1,
-    )
+-- so has a packet that is cut, by whether there is a code
+parity_by : (shape : Shape) (packet : List ℕ) → IsShapeOf (length packet) shape → IsBytes packet → (o : Option Rs) → shape.rs ≡ o → (parity : List ℕ) × IsParityOf (with_rs shape o) packet parity
+parity_by shape packet is bytes None none = ([], refl)
+parity_by shape packet is bytes (Some rs) has =
+    some_parities (chunks_by shape rs) rs.k (filled rs packet) (has_code (length packet) shape rs is has).size (append_elements packet (replicate rs.z 0) (elements_of packet bytes) (zeros_elements rs.z))
 
--- so has a packet that is cut
-pub some_held : (cut : Option Shape) (packet : List ℕ) → IfSome cut (IsShapeOf (length packet)) → IsBytes packet → (bytes : List ℕ) × HoldsParity cut packet bytes
-some_held None packet is bytes = ([], tt)
-some_held (Some shape) packet is bytes = held_by shape packet is bytes shape.rs refl
+pub some_parity_of : (shape : Shape) (packet : List ℕ) → IsShapeOf (length packet) shape → IsBytes packet → (parity : List ℕ) × IsParityOf shape packet parity
+some_parity_of shape packet is bytes = parity_by shape packet is bytes shape.rs refl

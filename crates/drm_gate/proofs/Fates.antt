@@ -9,7 +9,7 @@ use Rattle.dcp_af.proofs.Answered.{no_fault}
 use Rattle.dcp_collect.specs.Runs.{CollectorItem, Packet, Lost, Damaged}
 use Rattle.law_collect.proofs.SentCuts.{packet_long}
 use Rattle.dcp_sender.specs.CarriesText.{AreOf}
-use Rattle.dcp_sender.proofs.SomeFragments.{same_lists}
+use Rattle.dcp_sender.proofs.Lists.{same_lists}
 use Rattle.dcp_sender.specs.Packets.{IsAny, sequence_of}
 use Rattle.drm_gate.specs.Passing.{Outcome, Sent, Bad, Large, Missing, IsNone, OutcomeOf, OutcomesOf, datagrams_of, sent_of}
 

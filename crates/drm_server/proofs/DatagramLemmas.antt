@@ -4,14 +4,6 @@ use Rattle.drm_schedule.specs.declared.plan.Plan.{Plan}
 use Rattle.drm_server.specs.ServerState.{ServerState}
 use Rattle.drm_server.specs.Datagrams.{IsDatagramAt, AreFirst, AreOfFrame, AreOfFrames}
 
-pub next_datagram : (plan : Plan) (t i : ℕ) (before : List (List ℕ)) (datagram : List ℕ) → AreFirst plan t i before → IsDatagramAt plan t i datagram → AreFirst plan t (i + 1) (before ++ datagram ∷ [])
-next_datagram plan t i before datagram are is =
-    let one : suc i ≡ i + 1 = omega arith in
-    subst (λ k. AreFirst plan t k (before ++ datagram ∷ [])) one (more are is)
-  where
-    more : AreFirst plan t i before → IsDatagramAt plan t i datagram → AreFirst plan t (suc i) (before ++ datagram ∷ [])
-    more are is = (before, datagram, are, is, refl)
-
 pub next_frame : (plan : Plan) (from n : ℕ) (before of_frame : List (List ℕ)) → AreOfFrames plan from n before → AreOfFrame plan (from + n) of_frame → AreOfFrames plan from (n + 1) (before ++ of_frame)
 next_frame plan from n before of_frame are is =
     let one : suc n ≡ n + 1 = omega arith in

@@ -8,7 +8,6 @@ pub mod OneBlock
 pub mod OnePacket
 pub mod OneDelivery
 pub mod DatagramLemmas
-pub mod CutLemmas
 pub mod CaptureLemmas
 pub mod FrameLemmas
 pub mod PieceLemmas

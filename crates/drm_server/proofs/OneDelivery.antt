@@ -1,6 +1,7 @@
 -- A schedule has one list of datagrams, of which those before a certain one are the front.
-use Rattle.std.proofs.Common.{◌≡◌, ◌+◌, ◌-◌, ◌<◌, ◌≤◌, ℕ, zero, suc, List, [], ◌∷◌, ◌++◌, length, refl, sym, ap, subst, ◌∙◌, ⊎_elim, arith, append_assoc}
+use Rattle.std.proofs.Common.{◌≡◌, ◌+◌, ◌-◌, ◌<◌, ◌≤◌, ℕ, zero, suc, List, [], ◌∷◌, ◌++◌, length, get_or, refl, sym, ap, subst, ◌∙◌, ⊎_elim, arith, append_assoc}
 use Rattle.std.proofs.lemmas.Bool.{cases_lt}
+use Rattle.std.proofs.Math.Seq.{get_or-append_seam}
 use Rattle.std.proofs.lemmas.List.{append-nil}
 use Rattle.std.specs.List.{concat}
 use Rattle.dcp_pft.specs.declared.carry.Carry.{Carry}
@@ -11,8 +12,9 @@ use Rattle.drm_timeline.specs.Numbers.{sequence_number}
 use Rattle.drm_server.specs.declared.stretch.Stretch.{Stretch}
 use Rattle.drm_server.specs.Stretch.{first_in, frames_in}
 use Rattle.dcp_pft.specs.Carrying.{CarriesPacket, datagram_count}
-use Rattle.drm_server.specs.Datagrams.{HasDatagrams, IsDatagramAt, AreFirst, AreOfFrame, AreOfFrames, AreDatagrams, AreBefore}
+use Rattle.drm_server.specs.Datagrams.{HasDatagrams, HasDatagram, IsDatagramAt, AreFirst, AreOfFrame, AreOfFrames, AreDatagrams, AreBefore}
 use Rattle.drm_server.specs.Capture.{IsCapture}
+use Rattle.drm_server.proofs.DatagramLemmas.{first_length}
 use Rattle.drm_server.proofs.OnePacket.{one_packet, some_bytes}
 
 -- a frame has one number of datagrams
@@ -41,6 +43,23 @@ first_split plan t i (suc k) datagrams l (before, datagram, are, is, same) =
     let last : k ≡ i = omega arith in
     (before, datagram, [], subst (λ n. AreFirst plan t n before) last are, subst (λ n. IsDatagramAt plan t n datagram) last is, same))
     (cases_lt i k)
+
+-- a frame's list has them at their places, and all of them
+pub at_place : (plan : Plan) (t i count : ℕ) (datagrams : List (List ℕ)) → i < count → AreFirst plan t count datagrams → IsDatagramAt plan t i (get_or datagrams i [])
+at_place plan t i count datagrams below are =
+    let (first, next, behind, firsts, is, same) = first_split plan t i count datagrams below are in
+    let seam : get_or datagrams i [] ≡ next =
+    ap (λ (l : List (List ℕ)). get_or l i []) same
+    ∙ ap (λ (n : ℕ). get_or (first ++ next ∷ behind) n []) (sym (first_length plan t i first firsts)) ∙ get_or-append_seam first next behind [] in
+    subst (λ (d : List ℕ). IsDatagramAt plan t i d) (sym seam) is
+
+pub as_many_as : (plan : Plan) (t : ℕ) (datagrams : List (List ℕ)) → AreOfFrame plan t datagrams → HasDatagrams plan t (length datagrams)
+as_many_as plan t datagrams (count, has, are) = subst (HasDatagrams plan t) (sym (first_length plan t count datagrams are)) has
+
+pub among_them : (plan : Plan) (t i : ℕ) (datagrams : List (List ℕ)) → AreOfFrame plan t datagrams → HasDatagram plan t i → (i < length datagrams) × IsDatagramAt plan t i (get_or datagrams i [])
+among_them plan t i datagrams (count, has, are) (many, have, less) =
+    let same : many ≡ count = one_count plan t many count have has in
+    (omega (arith, less, same, first_length plan t count datagrams are), at_place plan t i count datagrams (omega (arith, less, same)) are)
 
 -- the datagrams of frame t, and those before them
 pub frames_split : (plan : Plan) (from t n : ℕ) (datagrams : List (List ℕ)) → t < n → AreOfFrames plan from n datagrams

@@ -76,7 +76,7 @@ module _ (server : ServerState) (plan : Plan) (has : HasFrame server plan) where
   pub same_written : (n : ℕ) (before after : Known Output) → WroteFrame server.plan t n before after → WroteFrame plan t n before after
   same_written n before after (datagrams, are, size, written) = (datagrams, same_of_frame datagrams are, size, written)
 
-  pub same_front : (waited : List ℕ) (before after : Known Output) → OutputsText before after (IsPrefixOfFrame server.plan t waited) → OutputsText before after (IsPrefixOfFrame plan t waited)
-  same_front waited before after written =
-      OutputsText-weaker (IsPrefixOfFrame server.plan t waited) (IsPrefixOfFrame plan t waited) before after written
+  pub same_front : (before after : Known Output) → OutputsText before after (IsPrefixOfFrame server.plan t) → OutputsText before after (IsPrefixOfFrame plan t)
+  same_front before after written =
+      OutputsText-weaker (IsPrefixOfFrame server.plan t) (IsPrefixOfFrame plan t) before after written
       (λ text (i, datagrams, are, front). (i, datagrams, same_first (suc i) datagrams are, front))

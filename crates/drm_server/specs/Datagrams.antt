@@ -1,7 +1,8 @@
 -- The datagrams of a schedule: the packet of each frame, whole or cut into fragments (TS 102 821).
-use Rattle.std.specs.Prelude.{ℕ, zero, suc, ◌≡◌, ◌+◌, ◌<◌, List, [], ◌∷◌, ◌++◌, length}
+use Rattle.std.specs.Prelude.{ℕ, zero, suc, ◌≡◌, ◌+◌, ◌<◌, ◌≤◌, All, List, [], ◌∷◌, ◌++◌, length}
 use Rattle.drm_schedule.specs.declared.plan.Plan.{Plan}
 use Rattle.drm_timeline.specs.Numbers.{sequence_number}
+use Rattle.dcp_pft.specs.Limits.{most_packet}
 use Rattle.dcp_pft.specs.Carrying.{datagram_count, CarriesPacket}
 use Rattle.drm_server.specs.declared.stretch.Stretch.{Stretch}
 use Rattle.drm_server.specs.Stretch.{first_in, frames_in}
@@ -33,6 +34,12 @@ AreFirst plan t (suc i) datagrams =
 -- the datagrams of frame t
 abbrev pub AreOfFrame : Plan → ℕ → List (List ℕ) → Type 0
 AreOfFrame plan t datagrams = (count : ℕ) × HasDatagrams plan t count × AreFirst plan t count datagrams
+
+-- These are the datagrams of frame t: one or more, none of them longer than a packet may be.
+pub record CarriesFrame (plan : Plan) (t : ℕ) (datagrams : List (List ℕ)) : Type 0 where
+  pub are : AreOfFrame plan t datagrams
+  pub some : 1 ≤ length datagrams
+  pub in_range : All (λ bytes. length bytes ≤ most_packet plan.carry) datagrams
 
 -- the datagrams of n frames, the first of which is frame `first`
 abbrev pub AreOfFrames : Plan → ℕ → ℕ → List (List ℕ) → Type 0

@@ -3,7 +3,6 @@ pub mod Multiplex
 pub mod Placing
 pub mod ServerState
 pub mod Placed
-pub mod Lending
 pub mod Stretch
 pub mod Datagrams
 pub mod Capture

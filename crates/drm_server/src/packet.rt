@@ -34,6 +34,7 @@ pub fn write_packet(
     ensures in_range { result ≤ most_packet plan.now.carry }
     ensures within { result ≤ longest_packet }
     ensures at_least_one { 1 ≤ result }
+    ensures room { length into.new ≡ longest_packet }
 {
     // For its clause alone: the schedule is valid.
     plan.always_valid();

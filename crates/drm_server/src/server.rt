@@ -1,7 +1,6 @@
 //! The server of a schedule.
 
 ghost use Rattle.std.specs.Prelude.{ℕ, ◌≡◌, ◌+◌, ◌<◌, ◌≤◌, length, IfOk, OnOk, OnErr, IsErr};
-ghost use Rattle.std.specs.Borrow.{sem};
 ghost use Rattle.dcp_pft.specs.Limits.{longest_packet, most_packet, most_fragments};
 ghost use Rattle.drm_timeline.specs.Numbers.{frame_count, packet_size};
 ghost use Rattle.live_streams.specs.Live.{piece_at, live_schedule};
@@ -9,42 +8,34 @@ ghost use Rattle.drm_server.specs.ServerState.{only_at};
 ghost use Rattle.drm_server.specs.Stretch.{first_in, frames_in};
 ghost use Rattle.drm_server.specs.Frames.{IsPacketAt};
 ghost use Rattle.drm_server.specs.Datagrams.{HasDatagrams, HasDatagram, IsDatagramAt};
-ghost use Rattle.drm_server.specs.Lending.{ServerStays};
 
 use crate::Stretch;
 use crate::loaded::EncodedFrame;
-use dcp_pft::{LONGEST_PACKET, most_packet};
+use dcp_sender::MOST_ROOM;
 use drm_bits::{NoMemory, zeros};
 use drm_schedule::{Live, Schedule};
 use std::alloc::Global;
 use std::marker::Model;
-
-// Room in which datagrams wait for those behind them.
-const WAITING: usize = 2 * LONGEST_PACKET;
 
 /// Gives the packets of a schedule and the datagrams that carry them, one frame at a time. Frames are counted from 0 at the
 /// schedule's start. All memory is taken when it is made.
 #[derive(Drop)]
 pub struct Server<'a> {
     pub(crate) loaded: EncodedFrame<'a>,
-    // The datagram that was asked for last stands at the front, where it isn't the packet.
-    pub(crate) datagram: Vec<u8>,
-    // Where datagrams wait until a sink is called once for many.
+    // Where the datagrams of frames wait until a sink is called once for many.
     pub(crate) waiting: Vec<u8>,
 }
 
 impl<'a> Model for Server<'a> {
-    ghost use Rattle.std.specs.Prelude.{◌≡◌, ◌≤◌, length};
-    ghost use Rattle.dcp_pft.specs.Limits.{most_packet};
+    ghost use Rattle.std.specs.Prelude.{◌≡◌, length};
+    ghost use Rattle.dcp_sender.specs.CarriesText.{most_room};
     ghost use Rattle.drm_server.specs.ServerState.{ServerState};
 
     ghost Value = { ServerState };
 
     ghost view = { λ s. s.loaded };
 
-    ghost invariant = { λ s. (s.loaded.plan.carry ≡ s.loaded.base.carry)
-        × (most_packet s.loaded.plan.carry ≤ length s.datagram.items)
-        × (most_packet s.loaded.plan.carry ≤ length s.waiting.items) };
+    ghost invariant = { λ s. length s.waiting.items ≡ most_room };
 }
 
 impl<'a> Server<'a> {
@@ -53,13 +44,8 @@ impl<'a> Server<'a> {
         ensures { IfOk result (λ server. server ≡ record { base = plan.now; plan = plan.now; frame = 0 }) }
     {
         let loaded = EncodedFrame::first(alloc, plan)?;
-        let datagram = zeros(alloc, most_packet(plan.carry()))?;
-        let waiting = zeros(alloc, WAITING)?;
-        Ok(Server {
-            loaded,
-            datagram,
-            waiting,
-        })
+        let waiting = zeros(alloc, MOST_ROOM)?;
+        Ok(Server { loaded, waiting })
     }
 
     /// The schedule itself.
@@ -131,21 +117,16 @@ impl<'a> Server<'a> {
         ensures at_least_one { 1 ≤ result }
         ensures within_limit { result ≤ most_fragments }
     {
-        self.loaded.fragments()
+        self.loaded.datagrams().count()
     }
 
     /// The datagram with this number, from 0, of the frame that is loaded.
-    pub fn datagram(&mut self, i: u32) -> &[u8]
-        requires within { HasDatagram self.old.plan self.old.frame i }
-        ensures* after { sem 𝓛 (ServerStays self.entry) }
-        ensures datagram { IsDatagramAt self.old.plan self.old.frame i result.now }
-        ensures in_range { length result.now ≤ most_packet self.old.plan.carry }
+    pub fn datagram(&self, i: u32) -> &[u8]
+        requires within { HasDatagram self.now.plan self.now.frame i }
+        ensures datagram { IsDatagramAt self.now.plan self.now.frame i result.now }
+        ensures in_range { length result.now ≤ most_packet self.now.plan.carry }
         ensures within { length result.now ≤ longest_packet }
     {
-        if self.loaded.is_whole() {
-            return self.loaded.packet();
-        }
-        let len = self.loaded.write_datagram(i, &mut self.datagram);
-        &self.datagram[..len]
+        self.loaded.datagrams().get(i)
     }
 }

@@ -1,13 +1,12 @@
 -- What a run with live streams keeps from frame to frame.
-use Rattle.std.specs.Prelude.{ℕ, ◌+◌, Bool, List, []}
+use Rattle.std.specs.Prelude.{ℕ, ◌≡◌, ◌+◌, Bool, List}
 use Rattle.std.specs.List.{concat}
 use Rattle.drm_links.specs.Known.{Known}
 use Rattle.drm_links.specs.Source.{Input}
-use Rattle.drm_links.specs.Sink.{Output}
+use Rattle.drm_links.specs.Sink.{Output, OutputsText}
 use Rattle.drm_schedule.specs.declared.live.Live.{Live}
 use Rattle.drm_schedule.specs.declared.plan.Plan.{Plan}
 use Rattle.drm_server.specs.Datagrams.{AreOfFrames}
-use Rattle.drm_server.specs.Gathering.{GathersDatagrams}
 use Rattle.live_server.specs.Feeding.{AreTaken, HasRead, OfEach}
 
 -- n frames from `first` on were made, for which these bytes were read
@@ -18,4 +17,4 @@ pub record HasMade (live : Live) (plan : Plan) (first n : ℕ) (ended : Bool) (b
 
 -- they were written
 abbrev pub WroteEach : ℕ → ℕ → Known Output → Known Output → Plan → Type 0
-WroteEach first n out out' plan = (datagrams : List (List ℕ)) × AreOfFrames plan first n datagrams × GathersDatagrams [] (concat datagrams) [] out out'
+WroteEach first n out out' plan = (datagrams : List (List ℕ)) × AreOfFrames plan first n datagrams × OutputsText out out' (λ text. text ≡ concat datagrams)

@@ -56,11 +56,10 @@ pub trait LiveFeed<I> {
         ensures same_links { links_name self.new ≡ links_name self.old };
 
     /// Sends the frame that is loaded, the one behind `n` others, over each link that hasn't failed, with its rests.
-    fn send_frame(&mut self, server: &mut Server<'_>, n: u32, pace: u32)
-        ensures made { ServesFrame server.old.plan server.old.frame pace n
+    fn send_frame(&mut self, server: &Server<'_>, n: u32, pace: u32)
+        ensures made { ServesFrame server.now.plan server.now.frame pace n
             (up self.old) (up self.new) (history self.old) (history self.new) }
         ensures same_count { length (up self.new) ≡ length (up self.old) }
-        ensures server { server.new ≡ server.old }
         ensures source { source self.new ≡ source self.old }
         ensures input { input self.new ≡ input self.old }
         ensures turns { turns self.new ≡ with_turns (Sends n ∷ []) (turns self.old) }
@@ -98,7 +97,7 @@ impl<'a, I: Source, G: Group> LiveFeed<I> for Apart<'a, I, G> {
         read_front(&mut *self.input, piece)
     }
 
-    fn send_frame(&mut self, server: &mut Server<'_>, n: u32, pace: u32) {
+    fn send_frame(&mut self, server: &Server<'_>, n: u32, pace: u32) {
         serve_frame(server, n, pace, &mut *self.group);
     }
 }

@@ -1,6 +1,5 @@
-use Rattle.std.proofs.Common.{◌≡◌, ℕ, List, length}
+use Rattle.std.proofs.Common.{◌≡◌, length}
 use Rattle.drm_links.specs.Calls.{each, GroupMakes}
-use Rattle.drm_server.specs.Datagrams.{AreOfFrame}
 use Rattle.drm_server.specs.Serving.{turn}
 use Rattle.drm_server.proofs.send.serve_frame.Given as goal
 
@@ -8,6 +7,4 @@ use Rattle.drm_server.proofs.send.serve_frame.Given as goal
 abbrev pub invariant-loop-k : goal.invariant-loop-k
 invariant-loop-k g l =
     (length (g.G.Group.up l.group) ≡ length (g.G.Group.up l.fn.group))
-    × (l.server ≡ l.fn.server)
-    × ((datagrams : List (List ℕ)) → AreOfFrame l.fn.server.plan l.fn.server.frame datagrams
-    → GroupMakes (each (turn l.fn.pace l.fn.n datagrams) l.k) (g.G.Group.up l.fn.group) (g.G.Group.up l.group) (g.G.Group.known l.fn.group) (g.G.Group.known l.group))
+    × GroupMakes (each (turn l.fn.pace l.fn.n l.datagrams) l.k) (g.G.Group.up l.fn.group) (g.G.Group.up l.group) (g.G.Group.known l.fn.group) (g.G.Group.known l.group)

@@ -6,7 +6,6 @@ use Rattle.drm_server.specs.Stretch.{first_in, frames_in}
 use Rattle.drm_server.proofs.StretchLemmas.{as_many}
 use Rattle.drm_links.specs.Sink.{OutputsText}
 use Rattle.drm_server.specs.Capture.{IsPrefixOfCapture}
-use Rattle.drm_server.specs.ServerState.{ServerState}
 use Rattle.drm_server.specs.Gathering.{WroteFrame, IsPrefixOfFrame}
 use Rattle.drm_server.proofs.SameFrame.{same_written, same_front}
 use Rattle.live_streams.specs.Input.{pieces_of}
@@ -89,7 +88,7 @@ loop-n-preserved g c =
       ),
       e.cause.same (λ failed. cc) ∙ i.1,
       c.in_ok-write_frame.ensures.cause.same (λ failed. cc) ∙ i.2,
-      ap (λ (s : ServerState). s.base) c.in_ok-write_frame.ensures.server ∙ (e.base ∙ i.3),
+      e.base ∙ i.3,
       e.room ∙ i.4,
       refl,
       refl,
@@ -120,7 +119,7 @@ returns-in_err-write_frame-clause-wrote g c =
     let more = made_more c.args.live.now plan first n c.loop-n.ended ended c.loop-n.server c.load_next.new.server i.0.0 a b d (WroteEach first n x y) (λ other. OutputsText x z (IsPrefixOfCapture other stretch)) i.3 i.0.1 next
     (λ other count has at made.
     front_written other stretch n x y z (let many = as_many stretch other plan count in omega (arith, within, many)) made
-    (subst (λ t. OutputsText y z (IsPrefixOfFrame other t [])) at (same_front c.load_next.new.server other has [] y z c.in_err-write_frame.ensures.front))) in
+    (subst (λ t. OutputsText y z (IsPrefixOfFrame other t)) at (same_front c.load_next.new.server other has y z c.in_err-write_frame.ensures.front))) in
     let next_is : first + (n + 1) ≡ first + n + 1 = omega arith in
     rw (p.1 ∙ ap Err p.2)
     (record {

@@ -164,7 +164,7 @@ loop-n-preserved g c =
         subst (λ k. HasMade live plan first (n + 1) c.load_fed.new.ended (i.0.0 ++ next.got) (g.F.LiveFeed.input c.args.feed.now) k (λ p. ServesFrames p first pace (n + 1) u w x z)) (sym c.send_frame.ensures.input) made,
       ),
       ap (λ (k : Known Input). k.faults) c.send_frame.ensures.input ∙ (e.cause.same (λ failed. cc) ∙ i.1),
-      ap (λ (s : ServerState). s.base) c.send_frame.ensures.server ∙ (e.base ∙ i.2),
+      e.base ∙ i.2,
       c.send_frame.ensures.same_count ∙ (ap (λ (l : List Bool). length l) e.up ∙ i.3),
       e.room ∙ i.4,
       (λ none.

@@ -16,10 +16,10 @@ pub returns-clause-len : goal.returns-clause-len
 returns-clause-len c =
     let s = c.self.inside in
     let given : LivePieces = only_at s.frame (take s.piece_len s.piece.items) in
-    rw (← c.self.view_is) (size c ∙ c.self.invariant.5 ∙ sym (same_packet_size s.live given s.plan.now s.frame))
+    rw (← c.self.view_is) (size c ∙ c.self.invariant.4 ∙ sym (same_packet_size s.live given s.plan.now s.frame))
 
 pub returns-clause-in_range : goal.returns-clause-in_range
 returns-clause-in_range c =
     let s = c.self.inside in
     let given : LivePieces = only_at s.frame (take s.piece_len s.piece.items) in
-    rw (← c.self.view_is) (omega (arith, size c, c.self.invariant.10, ap most_packet (same_carry s.live given s.plan.now)))
+    rw (← c.self.view_is) (omega (arith, size c, c.self.invariant.5, ap most_packet (same_carry s.live given s.plan.now)))
