@@ -1,5 +1,5 @@
 -- The first datagrams of a packet, and one more.
-use Rattle.std.proofs.Common.{◌≡◌, ◌+◌, ◌<◌, ℕ, zero, suc, List, [], ◌∷◌, ◌++◌, length, Option, None, refl, sym, subst, ap₂, ◌∙◌, inl, inr, arith, length-append}
+use Rattle.std.proofs.Common.{◌≡◌, ◌+◌, ◌<◌, ℕ, zero, suc, List, [], ◌∷◌, ◌++◌, length, Option, None, refl, sym, subst, ◌∙◌, inl, inr, arith, length-append}
 use Rattle.std.specs.Prelude.{slice_index_or}
 use Rattle.std.proofs.lemmas.Bool.{cases_lt}
 use Rattle.std.proofs.lemmas.List.{get_or_append_left, get_or_push}
@@ -23,10 +23,3 @@ one_more cut seq i packet datagrams next each many is k none below = elim (cases
 pub itself : (seq : ℕ) (packet : List ℕ) → AreFirst None seq packet (packet ∷ [])
 itself seq packet zero none below = refl
 itself seq packet (suc i) none below = absurd (omega (arith, below))
-
-pub same_lists : (xs ys : List (List ℕ)) → length xs ≡ length ys → ((i : ℕ) (none : List ℕ) → i < length xs → slice_index_or xs i none ≡ slice_index_or ys i none) → xs ≡ ys
-same_lists [] [] size same = refl
-same_lists [] (y ∷ ys) size same = absurd (omega (arith, size))
-same_lists (x ∷ xs) [] size same = absurd (omega (arith, size))
-same_lists (x ∷ xs) (y ∷ ys) size same =
-    ap₂ (λ z zs. z ∷ zs) (same 0 [] (omega arith)) (same_lists xs ys (omega (arith, size)) (λ i none below. same (suc i) none (omega (arith, below))))

@@ -1,5 +1,4 @@
 pub mod Making
-pub mod Parity
 pub mod Layout
 pub mod Sending
 pub mod Packets

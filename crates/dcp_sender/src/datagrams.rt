@@ -44,7 +44,7 @@ impl Model for Datagrams {
 
 impl Datagrams {
     /// None yet.
-    pub fn new(alloc: Global) -> Result<Datagrams, NoMemory>
+    pub fn make(alloc: Global) -> Result<Datagrams, NoMemory>
         ensures { IfOk result (λ datagrams. datagrams ≡ []) }
     {
         let parity = zeros(alloc, MOST_PARITY)?;

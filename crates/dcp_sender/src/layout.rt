@@ -1,18 +1,19 @@
 //! Datagrams one behind another in a room.
 
-ghost use Rattle.std.specs.Prelude.{ℕ, List, ◌≡◌, ◌+◌, ◌*◌, ◌<◌, ◌≤◌, ◌^◌, All, length, take, drop, None, Some};
+ghost use Rattle.std.specs.Prelude.{ℕ, List, ◌≡◌, ◌+◌, ◌<◌, ◌≤◌, ◌^◌, All, length, take, drop, None, Some};
 ghost use Rattle.std.specs.List.{concat};
 ghost use Rattle.dcp_pft.specs.Limits.{longest_packet, most_fragment, most_parity};
-ghost use Rattle.dcp_pft.specs.Cutting.{chunks_of, IsShapeOf};
+ghost use Rattle.dcp_pft.specs.Cutting.{IsShapeOf};
 ghost use Rattle.dcp_pft.specs.Coding.{IsParityOf};
 ghost use Rattle.dcp_pft.specs.Head.{IsFragmentOf};
 ghost use Rattle.dcp_sender.specs.CarriesText.{most_room};
 ghost use Rattle.dcp_sender.specs.Layout.{laid_out, IsLayout};
-ghost use Rattle.dcp_sender.specs.Parity.{IsCoded};
 ghost use Rattle.dcp_sender.specs.Sending.{AreAll};
 
-use crate::cut::{write_cut, write_parity};
-use dcp_pft::{MOST_CARRIED, MOST_FRAGMENT, MOST_FRAGMENTS, Shape, all_taken, datagram_len};
+use dcp_pft::{
+    MOST_CARRIED, MOST_FRAGMENT, MOST_FRAGMENTS, Shape, all_taken, chunks, code, datagram_len,
+    write_fragment,
+};
 
 // The most bytes of a fragment's header.
 const HEAD: usize = 16;
@@ -70,7 +71,8 @@ pub(crate) fn write_fragments(
 {
     // For its clause alone: what is cut passes no limit of a reader.
     all_taken();
-    write_parity(packet, shape, parity);
+    let parity = &mut parity[..48 * chunks(shape) as usize];
+    code(packet, shape, parity);
     Layout {
         len: write_each(packet, shape, seq, parity, into),
         count: shape.count,
@@ -81,8 +83,7 @@ pub(crate) fn write_fragments(
 // Writes the fragments one behind another, and gives their length.
 fn write_each(packet: &[u8], shape: &Shape, seq: u16, parity: &[u8], into: &mut [u8]) -> usize
     requires shaped { IsShapeOf (length packet.now) shape.now }
-    requires parity { length parity.now ≡ most_parity }
-    requires stands { IsParityOf shape.now packet.now (take (48 * chunks_of shape.now) parity.now) }
+    requires parity { IsParityOf shape.now packet.now parity.now }
     requires room { length into.old ≡ most_room }
     ensures fragments { (datagrams : List (List ℕ)) × AreAll (Some shape.now) seq packet.now datagrams
         × (take result into.new ≡ concat datagrams) }
@@ -108,14 +109,58 @@ fn write_behind(
     into: &mut [u8],
     at: usize,
 ) -> usize
-    requires coded { IsCoded shape.now packet.now parity.now i }
+    requires shaped { IsShapeOf (length packet.now) shape.now }
+    requires parity { IsParityOf shape.now packet.now parity.now }
+    requires within { i < shape.now.count }
     requires room { at + most_fragment ≤ length into.old }
     ensures before { take at into.new ≡ take at into.old }
     ensures fragment { IsFragmentOf shape.now seq packet.now i (take result (drop at into.new)) }
     ensures in_range { result ≤ most_fragment }
     ensures same_length { length into.new ≡ length into.old }
 {
-    write_cut(packet, shape, parity, seq, i, &mut into[at..])
+    write_first(packet, shape, parity, seq, i, &mut into[at..])
+}
+
+// Writes it to the front.
+fn write_first(
+    packet: &[u8],
+    shape: &Shape,
+    parity: &[u8],
+    seq: u16,
+    i: u32,
+    into: &mut [u8],
+) -> usize
+    requires shaped { IsShapeOf (length packet.now) shape.now }
+    requires parity { IsParityOf shape.now packet.now parity.now }
+    requires within { i < shape.now.count }
+    requires room { most_fragment ≤ length into.old }
+    ensures fragment { IsFragmentOf shape.now seq packet.now i (take result into.new) }
+    ensures in_range { result ≤ most_fragment }
+    ensures room { length into.new ≡ length into.old }
+{
+    match into.first_chunk_mut() {
+        Some(room) => write_in(packet, shape, parity, seq, i, room),
+        None => unreachable!(),
+    }
+}
+
+// Writes it to room for the longest one: a function of its own, since behind it the room's length is known only in a call.
+fn write_in(
+    packet: &[u8],
+    shape: &Shape,
+    parity: &[u8],
+    seq: u16,
+    i: u32,
+    room: &mut [u8; MOST_FRAGMENT],
+) -> usize
+    requires shaped { IsShapeOf (length packet.now) shape.now }
+    requires parity { IsParityOf shape.now packet.now parity.now }
+    requires within { i < shape.now.count }
+    ensures fragment { IsFragmentOf shape.now seq packet.now i (take result room.new) }
+    ensures in_range { result ≤ most_fragment }
+    ensures length { length room.new ≡ most_fragment }
+{
+    write_fragment(shape, seq, i, packet, parity, room)
 }
 
 /// So many bytes from a place on, or as many as there are.

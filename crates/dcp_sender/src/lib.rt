@@ -16,7 +16,6 @@
 //! what is sent of it over several links.
 #![tactic(auto)]
 
-mod cut;
 mod datagrams;
 mod layout;
 mod number;

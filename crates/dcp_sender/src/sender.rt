@@ -39,7 +39,7 @@ impl PacketSender {
         requires { CarryFits carry }
         ensures { IfOk result (λ sender. sender ≡ carry) }
     {
-        let datagrams = Datagrams::new(alloc)?;
+        let datagrams = Datagrams::make(alloc)?;
         Ok(PacketSender { carry, datagrams })
     }
 

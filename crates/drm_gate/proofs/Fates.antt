@@ -1,6 +1,7 @@
 -- An item has one fate, as far as datagrams go.
 use Rattle.std.proofs.Common.{◌≡◌, ◌≤◌, ℕ, List, [], ◌∷◌, ◌++◌, length, sym, ap, ap₂, ◌∙◌, refl, arith, slice_index_or}
 use Rattle.std.proofs.lemmas.Bool.{true≢false}
+use Rattle.std.proofs.lemmas.List.{same_lists}
 use Rattle.dcp_pft.specs.declared.carry.Carry.{Carry}
 use Rattle.dcp_pft.specs.declared.carry.Carry.TheVariants.{Plain, Pft}
 use Rattle.dcp_pft.specs.Carrying.{CarriesPacket}
@@ -9,7 +10,6 @@ use Rattle.dcp_af.proofs.Answered.{no_fault}
 use Rattle.dcp_collect.specs.Runs.{CollectorItem, Packet, Lost, Damaged}
 use Rattle.law_collect.proofs.SentCuts.{packet_long}
 use Rattle.dcp_sender.specs.CarriesText.{AreOf}
-use Rattle.dcp_sender.proofs.Lists.{same_lists}
 use Rattle.dcp_sender.specs.Packets.{IsAny, sequence_of}
 use Rattle.drm_gate.specs.Passing.{Outcome, Sent, Bad, Large, Missing, IsNone, OutcomeOf, OutcomesOf, datagrams_of, sent_of}
 

@@ -71,7 +71,7 @@ impl<'a> EncodedFrame<'a> {
         ensures { IfOk result (λ loaded. loaded ≡ record { base = plan.now; plan = plan.now; frame = 0 }) }
     {
         let buffer = zeros(alloc, LONGEST_PACKET)?;
-        let datagrams = Datagrams::new(alloc)?;
+        let datagrams = Datagrams::make(alloc)?;
         let piece = zeros(alloc, MOST_PIECE)?;
         let Ok(buffers) = Box::new(alloc, PayloadBuffers::new()) else {
             return Err(NoMemory);

@@ -1,12 +1,11 @@
 -- What a run with live streams keeps from frame to frame.
-use Rattle.std.specs.Prelude.{ℕ, ◌≡◌, ◌+◌, Bool, List}
-use Rattle.std.specs.List.{concat}
+use Rattle.std.specs.Prelude.{ℕ, ◌+◌, Bool, List}
 use Rattle.drm_links.specs.Known.{Known}
 use Rattle.drm_links.specs.Source.{Input}
 use Rattle.drm_links.specs.Sink.{Output, OutputsText}
 use Rattle.drm_schedule.specs.declared.live.Live.{Live}
 use Rattle.drm_schedule.specs.declared.plan.Plan.{Plan}
-use Rattle.drm_server.specs.Datagrams.{AreOfFrames}
+use Rattle.live_server.specs.Capture.{AreWritten}
 use Rattle.live_server.specs.Feeding.{AreTaken, HasRead, OfEach}
 
 -- n frames from `first` on were made, for which these bytes were read
@@ -17,4 +16,4 @@ pub record HasMade (live : Live) (plan : Plan) (first n : ℕ) (ended : Bool) (b
 
 -- they were written
 abbrev pub WroteEach : ℕ → ℕ → Known Output → Known Output → Plan → Type 0
-WroteEach first n out out' plan = (datagrams : List (List ℕ)) × AreOfFrames plan first n datagrams × OutputsText out out' (λ text. text ≡ concat datagrams)
+WroteEach first n out out' plan = OutputsText out out' (AreWritten plan first n)

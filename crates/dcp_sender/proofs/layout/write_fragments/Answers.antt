@@ -10,6 +10,9 @@ use Rattle.dcp_sender.proofs.layout.write_fragments.Goals as goal
 first : (c : goal.After-datagram_len) → c.datagram_len.result ≡ fragment_size c.args.shape.now (length c.args.packet.now) 0
 first c = longest_is c.args.shape.now (length c.args.packet.now) c.datagram_len.result c.requires.shaped c.datagram_len.ensures.size
 
+pub chunks-requires : goal.chunks-requires
+chunks-requires c = omega (arith, (taken c.all_taken.ensures (length c.args.packet.now) c.args.shape.now c.requires.shaped).bytes)
+
 pub returns-clause-all : goal.returns-clause-all
 returns-clause-all c =
     let w = c.write_each.ensures.fragments in

@@ -15,7 +15,7 @@ use Rattle.live_server.specs.Feeding.{fed, HasRead, AreTaken}
 use Rattle.live_server.specs.Loading.{LoadsNext}
 use Rattle.live_server.specs.Going.{HasMade, WroteEach}
 use Rattle.live_server.proofs.GoingLemmas.{not_not, made_none, made_more, broken_off}
-use Rattle.live_server.proofs.WritingLemmas.{wrote_none, wrote_more, front_written, frames_written, capture_written}
+use Rattle.live_server.proofs.WritingLemmas.{wrote_none, wrote_more, front_written, capture_written}
 use Rattle.live_server.proofs.live_capture.write_frames.Goals as goal
 
 pub loop-n-init : goal.loop-n-init
@@ -60,7 +60,7 @@ returns-in_err-load_next-clause-wrote g c =
     let k = broken_off c.args.live.now plan first n i.0.0 failed.0 a b d (WroteEach first n x y) made (omega (arith, cut, asked)) failed.2 in
     let kind : c.in_err-load_next.field-0.0 ≡ _ = c.in_err-load_next.ensures.fault in
     rw (p.1 ∙ ap Err (p.2 ∙ kind))
-    (record { bytes = k.bytes; read = k.read; n = n; within = within; breaks = k.breaks; written = λ more last. frames_written (fed c.args.live.now plan first (k.bytes ++ more)) first n x y (k.made more last) })
+    (record { bytes = k.bytes; read = k.read; n = n; within = within; breaks = k.breaks; written = k.made })
 
 pub loop-n-preserved : goal.loop-n-preserved
 loop-n-preserved g c =
