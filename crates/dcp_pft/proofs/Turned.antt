@@ -4,7 +4,7 @@ use Rattle.std.proofs.Math.Nat.{mul-le-mul_right}
 use Rattle.std.proofs.lemmas.Bool.{cases_lt}
 use Rattle.std.proofs.lemmas.List.{get_or_append_left, get_or-take}
 use Rattle.dcp_pft.specs.Coding.{byte_or_zero}
-use Rattle.dcp_pft.specs.Turning.{TakesRows, Halves, Turns, HoldsColumns}
+use Rattle.dcp_pft.specs.Turning.{TakesRows, HalvesBytes, TurnsRows, HoldsColumns}
 
 same_place : (xs : List ℕ) (a b : ℕ) → a ≡ b → byte_or_zero xs a ≡ byte_or_zero xs b
 same_place xs a b is = ap (byte_or_zero xs) is
@@ -47,7 +47,7 @@ sixteen_more half at from old new done kept here n below =
 -- One step of four: of 2 ^ s columns of height 2 h, made of so many rows, come twice as many of height h.
 step : (q h : ℕ) (rows from into : List ℕ)
     → ((r n : ℕ) → r < q → n < 2 * h → byte_or_zero from (r * (2 * h) + n) ≡ byte_or_zero rows (q * n + r))
-    → Halves (q * h) from into
+    → HalvesBytes (q * h) from into
     → (r n : ℕ) → r < 2 * q → n < h → byte_or_zero into (r * h + n) ≡ byte_or_zero rows (2 * q * n + r)
 step q h rows from into columns halved r n below low =
     elim (cases_lt r q) [
@@ -71,21 +71,21 @@ step q h rows from into columns halved r n below low =
         ∙ same_place rows (q * (2 * n + 1) + e) (2 * q * n + r) (let e : q * (2 * n + 1) + e ≡ 2 * q * n + (q + e) = omega arith in e ∙ ap (λ (k : ℕ). 2 * q * n + k) (sym is)))))
 
 -- four steps
-pub turned : (height : ℕ) (rows one two three four : List ℕ) → Halves (8 * height) rows one → Halves (8 * height) one two → Halves (8 * height) two three → Halves (8 * height) three four
-    → Turns height rows four
+pub turned : (height : ℕ) (rows one two three four : List ℕ) → HalvesBytes (8 * height) rows one → HalvesBytes (8 * height) one two → HalvesBytes (8 * height) two three → HalvesBytes (8 * height) three four
+    → TurnsRows height rows four
 turned height rows one two three four a b c d f p few low =
     let none : (r n : ℕ) → r < 1 → n < 2 * (8 * height) → byte_or_zero rows (r * (2 * (8 * height)) + n) ≡ byte_or_zero rows (1 * n + r) =
     λ r n first long. same_place rows (r * (2 * (8 * height)) + n) (1 * n + r) (let is : r ≡ 0 = omega (arith, first) in ap (λ (k : ℕ). k * (2 * (8 * height)) + n) is ∙ (let e : 0 * (2 * (8 * height)) + n ≡ 1 * n + 0 = omega arith in e) ∙ ap (λ (k : ℕ). 1 * n + k) (sym is)) in
-    let H : ℕ → List ℕ → List ℕ → Type 0 = λ k xs ys. Halves k xs ys in
-    let first = step 1 (8 * height) rows rows one none (subst (λ (k : ℕ). Halves k rows one) (omega arith) a) in
-    let second = step 2 (4 * height) rows one two (λ r n lt few. same_place one _ _ (omega arith) ∙ first r n lt (omega (arith, few))) (subst (λ (k : ℕ). Halves k one two) (omega arith) b) in
-    let third = step 4 (2 * height) rows two three (λ r n lt few. same_place two _ _ (omega arith) ∙ second r n lt (omega (arith, few))) (subst (λ (k : ℕ). Halves k two three) (omega arith) c) in
-    let fourth = step 8 height rows three four (λ r n lt few. same_place three _ _ (omega arith) ∙ third r n lt (omega (arith, few))) (subst (λ (k : ℕ). Halves k three four) (omega arith) d) in
+    let H : ℕ → List ℕ → List ℕ → Type 0 = λ k xs ys. HalvesBytes k xs ys in
+    let first = step 1 (8 * height) rows rows one none (subst (λ (k : ℕ). HalvesBytes k rows one) (omega arith) a) in
+    let second = step 2 (4 * height) rows one two (λ r n lt few. same_place one _ _ (omega arith) ∙ first r n lt (omega (arith, few))) (subst (λ (k : ℕ). HalvesBytes k one two) (omega arith) b) in
+    let third = step 4 (2 * height) rows two three (λ r n lt few. same_place two _ _ (omega arith) ∙ second r n lt (omega (arith, few))) (subst (λ (k : ℕ). HalvesBytes k two three) (omega arith) c) in
+    let fourth = step 8 height rows three four (λ r n lt few. same_place three _ _ (omega arith) ∙ third r n lt (omega (arith, few))) (subst (λ (k : ℕ). HalvesBytes k three four) (omega arith) d) in
     fourth f p few low
 
 -- Of the first sixteen fragments from `first` on each has its column.
 pub columns_of : (count first piece height : ℕ) (coded rows turned behind : List ℕ) → piece ≤ height → length turned ≡ 16 * height
-    → TakesRows count first piece coded rows → Turns height (take (16 * height) rows) turned
+    → TakesRows count first piece coded rows → TurnsRows height (take (16 * height) rows) turned
     → HoldsColumns count first piece height coded (turned ++ behind)
 columns_of count first piece height coded rows turned behind within long taken turns f p few low =
     let most : (f + 1) * height ≤ 16 * height = mul-le-mul_right height (omega (arith, few)) in

@@ -11,13 +11,13 @@ TakesRows count first rows coded taken =
     (p f : ℕ) → p < rows → f < 16 → byte_or_zero taken (16 * p + f) ≡ byte_or_zero coded (p * count + (first + f))
 
 -- first so many bytes at even places, then those at odd ones
-abbrev pub Halves : ℕ → List ℕ → List ℕ → Type 0
-Halves half from into =
+abbrev pub HalvesBytes : ℕ → List ℕ → List ℕ → Type 0
+HalvesBytes half from into =
     (n : ℕ) → n < half → (byte_or_zero into n ≡ byte_or_zero from (2 * n)) × (byte_or_zero into (half + n) ≡ byte_or_zero from (2 * n + 1))
 
 -- so many rows of sixteen bytes, turned into sixteen columns
-abbrev pub Turns : ℕ → List ℕ → List ℕ → Type 0
-Turns height from into =
+abbrev pub TurnsRows : ℕ → List ℕ → List ℕ → Type 0
+TurnsRows height from into =
     (f p : ℕ) → f < 16 → p < height → byte_or_zero into (f * height + p) ≡ byte_or_zero from (16 * p + f)
 
 -- sixteen columns of this height, of which each begins with what one fragment carries, from fragment `first` on

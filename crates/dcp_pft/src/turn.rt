@@ -2,7 +2,7 @@
 
 ghost use Rattle.std.specs.Prelude.{◌≡◌, ◌+◌, ◌*◌, ◌-◌, ◌%◌, ◌^◌, ◌<◌, ◌≤◌, ◌++◌, ℕ, length};
 ghost use Rattle.dcp_pft.specs.Coding.{byte_or_zero};
-ghost use Rattle.dcp_pft.specs.Turning.{TakesRows, Halves, Turns, HoldsColumns};
+ghost use Rattle.dcp_pft.specs.Turning.{TakesRows, HalvesBytes, TurnsRows, HoldsColumns};
 
 use drm_bits::put_at;
 use std::simd::prelude::*;
@@ -20,8 +20,8 @@ pub(crate) fn take_columns(
     columns: &mut [u8],
     other: &mut [u8],
 )
-    requires some { 0 < piece }
-    requires small { piece ≤ 1484 }
+    requires at_least_one { 0 < piece }
+    requires piece_in_range { piece ≤ 1484 }
     requires rows { first + (piece - 1) * count + 16 ≤ length coded.now }
     requires within_limit { length coded.now < 2 ^ 32 }
     requires columns { length columns.old ≡ 23744 }
@@ -41,7 +41,7 @@ pub(crate) fn take_columns(
 
 // Takes sixteen bytes of each of so many rows of `count` bytes.
 fn take_rows(coded: &[u8], first: usize, count: usize, rows: usize, into: &mut [u8])
-    requires some { 0 < rows }
+    requires at_least_one { 0 < rows }
     requires rows { first + (rows - 1) * count + 16 ≤ length coded.now }
     requires within_limit { length coded.now < 2 ^ 32 }
     requires room { 16 * rows ≤ length into.old }
@@ -67,10 +67,10 @@ fn take_row(coded: &[u8], from: usize, into: &mut [u8], at: usize)
 // Turns so many rows of sixteen bytes.
 fn turn(rows: &mut [u8], other: &mut [u8], height: usize)
     requires even { height % 2 ≡ 0 }
-    requires small { height ≤ 1484 }
+    requires height_in_range { height ≤ 1484 }
     requires rows { length rows.old ≡ 16 * height }
     requires other { length other.old ≡ 16 * height }
-    ensures turned { Turns height rows.old rows.new }
+    ensures turned { TurnsRows height rows.old rows.new }
     ensures same_length { length rows.new ≡ length rows.old }
     ensures same_other { length other.new ≡ length other.old }
 {
@@ -84,10 +84,10 @@ fn turn(rows: &mut [u8], other: &mut [u8], height: usize)
 // Writes the bytes at even places, and behind them those at odd ones.
 fn halve(from: &[u8], into: &mut [u8], half: usize)
     requires even { half % 16 ≡ 0 }
-    requires small { half < 2 ^ 32 }
+    requires half_in_range { half < 2 ^ 32 }
     requires from { length from.now ≡ 2 * half }
     requires into { length into.old ≡ 2 * half }
-    ensures halved { Halves half from.now into.new }
+    ensures halved { HalvesBytes half from.now into.new }
     ensures same_length { length into.new ≡ length into.old }
 {
     for i in 0..half / COLUMNS {
@@ -97,7 +97,7 @@ fn halve(from: &[u8], into: &mut [u8], half: usize)
 
 // Goes on with thirty-two bytes.
 fn halve_part(from: &[u8], into: &mut [u8], half: usize, at: usize)
-    requires small { half < 2 ^ 32 }
+    requires half_in_range { half < 2 ^ 32 }
     requires within { at + 16 ≤ half }
     requires from { length from.now ≡ 2 * half }
     requires into { length into.old ≡ 2 * half }

@@ -122,7 +122,7 @@ fn write_laid_out(
     other: &mut [u8],
     into: &mut [u8],
 )
-    requires some { 0 < shape.now.piece }
+    requires at_least_one { 0 < shape.now.piece }
     requires piece { 16 + shape.now.piece ≤ most_fragment }
     requires carried { shape.now.count * shape.now.piece ≤ most_carried }
     requires coded { length coded.now ≡ shape.now.count * shape.now.piece + 16 }
@@ -145,7 +145,7 @@ fn write_laid_out(
 // Makes the columns of sixteen fragments before the first of them.
 fn make_ready(shape: &Shape, i: u32, coded: &[u8], columns: &mut [u8], other: &mut [u8])
     requires index { i < shape.now.count }
-    requires some { 0 < shape.now.piece }
+    requires at_least_one { 0 < shape.now.piece }
     requires piece { 16 + shape.now.piece ≤ most_fragment }
     requires carried { shape.now.count * shape.now.piece ≤ most_carried }
     requires coded { length coded.now ≡ shape.now.count * shape.now.piece + 16 }

@@ -1,21 +1,22 @@
 -- Datagrams one behind another, of which all but the last have one length.
-use Rattle.std.proofs.Common.{◌≡◌, ◌+◌, ◌-◌, ◌*◌, ◌<◌, ◌≤◌, min, ℕ, zero, suc, List, [], ◌∷◌, ◌++◌, length, take, drop, All, Option, None, Some, refl, sym, subst, ap, ap₂, ◌∙◌, arith, length-append}
+use Rattle.std.proofs.Common.{◌≡◌, ◌+◌, ◌-◌, ◌*◌, ◌<◌, ◌≤◌, inl, inr, ℕ, zero, suc, List, ◌++◌, length, take, drop, All, Option, None, Some, refl, sym, subst, ap, ◌∙◌, arith}
 use Rattle.std.specs.Prelude.{slice_index_or}
 use Rattle.std.specs.List.{concat}
 use Rattle.std.specs.Simd.{first_chunks}
 use Rattle.std.proofs.Math.Nat.{mul-le-mul_right, suc-mul, zero-mul}
-use Rattle.std.proofs.lemmas.List.{append-nil, take_all, take_at, drop_at, drop-drop, length-take, length-drop, nil_from_length, take-append-drop}
+use Rattle.std.proofs.lemmas.Bool.{cases_lt}
+use Rattle.std.proofs.lemmas.List.{take_all, take-take, drop-take, drop-drop, length-take, length-drop, nil_from_length, take-append-drop}
 use Rattle.dcp_pft.specs.declared.carry.Carry.TheVariants.{Pft}
 use Rattle.dcp_pft.specs.declared.shape.Rs.{Rs}
 use Rattle.dcp_pft.specs.declared.shape.Shape.{Shape}
 use Rattle.dcp_pft.specs.Limits.{most_fragment}
-use Rattle.dcp_pft.specs.Cutting.{IsShapeOf, shape_of}
+use Rattle.dcp_pft.specs.Cutting.{IsShapeOf}
 use Rattle.dcp_pft.specs.declared.carry.Carry.{Carry}
 use Rattle.dcp_pft.specs.Carrying.{cut_of, fragment_size, datagram_size}
 use Rattle.dcp_pft.specs.Head.{IsFragmentOf}
-use Rattle.dcp_pft.proofs.DatagramSizes.{sizes}
+use Rattle.dcp_pft.specs.Writing.{fragment_at}
 use Rattle.dcp_pft.proofs.Shapes.{has_code, has_none}
-use Rattle.dcp_sender.specs.Sending.{AreFirst, AreAll}
+use Rattle.dcp_sender.specs.Sending.{AreAll}
 
 -- ---- lists
 
@@ -40,23 +41,15 @@ short_chunks n m k xs less i none below =
     let is = chunk_at n k xs i none (omega (arith, below, length-chunks n k xs)) in
     omega (arith, less, ap length is, length-take n (drop (i * n) xs))
 
--- lists that are joined and cut again
-pub cut_again : (n : ℕ) (ds : List (List ℕ)) → ((i : ℕ) (none : List ℕ) → i < length ds → length (slice_index_or ds i none) ≤ n)
-    → ((i : ℕ) (none : List ℕ) → i + 1 < length ds → length (slice_index_or ds i none) ≡ n) → first_chunks n (length ds) (concat ds) ≡ ds
-cut_again n [] short same = refl
-cut_again n (d ∷ []) short same =
-    ap (λ l. l ∷ []) (ap (take n) (append-nil d) ∙ take_all n d (short 0 [] (omega arith)))
-cut_again n (d ∷ e ∷ ds) short same =
-    let long : length d ≡ n = same 0 [] (omega arith) in
-    ap₂ (λ l ls. l ∷ ls) (take_at d (concat (e ∷ ds)) n long)
-    (ap (first_chunks n (length (e ∷ ds))) (drop_at d (concat (e ∷ ds)) n long)
-    ∙ cut_again n (e ∷ ds) (λ i none below. short (suc i) none (omega (arith, below))) (λ i none below. same (suc i) none (omega (arith, below))))
+-- a part of a list of which only the front is left: it lies in it, or reaches to its end
+whole_part : (n p len : ℕ) (xs : List ℕ) → p + n ≤ len → take n (drop p (take len xs)) ≡ take n (drop p xs)
+whole_part n p len xs within =
+    let rest : len ≡ p + (len - p) = omega (arith, within) in
+    ap (λ l. take n (drop p (take l xs))) rest ∙ ap (take n) (drop-take p (len - p) xs) ∙ take-take n (len - p) (drop p xs) (omega (arith, within))
 
-pub joined_length : (n : ℕ) (ds : List (List ℕ)) → ((i : ℕ) (none : List ℕ) → i < length ds → length (slice_index_or ds i none) ≤ n) → length (concat ds) ≤ length ds * n
-joined_length n [] short = omega arith
-joined_length n (d ∷ ds) short =
-    let rest = joined_length n ds (λ i none below. short (suc i) none (omega (arith, below))) in
-    omega (arith, rest, short 0 [] (omega arith), length-append d (concat ds), suc-mul (length ds) n)
+last_part : (n p s len : ℕ) (xs : List ℕ) → len ≡ p + s → s ≤ n → take n (drop p (take len xs)) ≡ take s (drop p xs)
+last_part n p s len xs is small =
+    ap (λ l. take n (drop p (take l xs))) is ∙ ap (take n) (drop-take p s xs) ∙ take_all n (take s (drop p xs)) (omega (arith, small, length-take s (drop p xs)))
 
 -- ---- fragments
 
@@ -87,28 +80,41 @@ module _ (shape : Shape) (len : ℕ) (is : IsShapeOf len shape) where
       by None none = let fits = has_none len shape is none in (omega (arith, fits.piece), omega arith)
       by (Some rs) some = let fits = has_code len shape rs is some in (omega (arith, fits.piece), omega arith)
 
-module _ (shape : Shape) (seq : ℕ) (packet : List ℕ) (is : IsShapeOf (length packet) shape) where
+-- Fragments that stand one after another, and nothing behind the last one.
+module _ (shape : Shape) (packet room : List ℕ) (bytes : ℕ) (is : IsShapeOf (length packet) shape) (some : 1 ≤ shape.count)
+    (end : bytes ≡ (shape.count - 1) * fragment_size shape (length packet) 0 + fragment_size shape (length packet) (shape.count - 1)) where
   abbrev longest : ℕ
   longest = fragment_size shape (length packet) 0
 
-  size_is : (i : ℕ) (datagram : List ℕ) → IsFragmentOf shape seq packet i datagram → length datagram ≡ fragment_size shape (length packet) i
-  size_is i datagram fragment =
-      let P : Shape → Type 0 = λ s. IsFragmentOf s seq packet i datagram in
-      sizes (Pft is.m is.mtu) seq i packet datagram (subst P is.is fragment) ∙ ap (λ (s : Shape). fragment_size s (length packet) i) (sym is.is)
+  -- they have no more bytes than as many of the longest
+  pub not_more : bytes ≤ shape.count * longest
+  not_more =
+      let one : (shape.count - 1) + 1 ≡ shape.count = omega (arith, some) in
+      omega (arith, end, no_longer shape (length packet) is (shape.count - 1), ap (λ k. k * longest) one, suc-mul (shape.count - 1) longest)
 
-  module _ (datagrams : List (List ℕ)) (are : AreFirst (Some shape) seq packet datagrams) where
-    short : (i : ℕ) (none : List ℕ) → i < length datagrams → length (slice_index_or datagrams i none) ≤ longest
-    short i none below = omega (arith, size_is i (slice_index_or datagrams i none) (are i none below), no_longer shape (length packet) is i)
+  at_place : (i : ℕ) → i < shape.count → take longest (drop (i * longest) (take bytes room)) ≡ fragment_at shape (length packet) i room
+  at_place i below =
+      elim (cases_lt (i + 1) shape.count) [
+        | inl more ↦
+            let fits : (i + 1) * longest ≤ (shape.count - 1) * longest = mul-le-mul_right longest (omega (arith, more)) in
+            whole_part longest (i * longest) bytes room (omega (arith, fits, end, suc-mul i longest))
+            ∙ ap (λ (k : ℕ). take k (drop (i * longest) room)) (sym (as_long shape (length packet) is i more))
+        | inr last ↦
+            let i_is : shape.count - 1 ≡ i = omega (arith, last, below) in
+            let to_end : bytes ≡ i * longest + fragment_size shape (length packet) i =
+            end ∙ ap (λ (k : ℕ). k * longest + fragment_size shape (length packet) k) i_is in
+            last_part longest (i * longest) (fragment_size shape (length packet) i) bytes room to_end (no_longer shape (length packet) is i)
+      ]
 
-    pub fragments_length : length (concat datagrams) ≤ length datagrams * longest
-    fragments_length = joined_length longest datagrams short
-
-    pub fragments_again : length datagrams ≡ shape.count → first_chunks longest shape.count (concat datagrams) ≡ datagrams
-    fragments_again all =
-        ap (λ k. first_chunks longest k (concat datagrams)) (sym all)
-        ∙ cut_again longest datagrams short
+  pub stand_so : (seq : ℕ) → ((i : ℕ) → i < shape.count → IsFragmentOf shape seq packet i (fragment_at shape (length packet) i room))
+      → AreAll (Some shape) seq packet (first_chunks longest shape.count (take bytes room))
+  stand_so seq each =
+      let many = length-chunks longest shape.count (take bytes room) in (
         (λ i none below.
-        size_is i (slice_index_or datagrams i none) (are i none (omega (arith, below))) ∙ as_long shape (length packet) is i (omega (arith, below, all)))
+            let within : i < shape.count = omega (arith, below, many) in
+            subst (IsFragmentOf shape seq packet i) (sym (chunk_at longest shape.count (take bytes room) i none within ∙ at_place i within)) (each i within)),
+        many,
+      )
 
 -- the first one has the length that is given for a cut
 pub longest_is : (shape : Shape) (len n : ℕ) → IsShapeOf len shape → ((carry : Carry) → Some shape ≡ cut_of carry len → n ≡ datagram_size carry len 0) → n ≡ fragment_size shape len 0

@@ -2,5 +2,4 @@ pub mod MakingLemmas
 pub mod Taken
 pub mod Lists
 pub mod Layouts
-pub mod Gathering
 pub mod OverLinks

@@ -10,9 +10,9 @@ ghost use Rattle.dcp_sender.specs.Making.{CallsMake};
 ghost use Rattle.dcp_sender.specs.Sending.{AreAll};
 
 use crate::Outlets;
-use crate::layout::{Layout, MOST_ROOM, part, write_fragments, write_whole};
+use crate::layout::{Layout, MOST_ROOM, part, write_all_fragments, write_whole};
 use crate::send::send_datagram;
-use dcp_pft::{MOST_PARITY, Shape};
+use dcp_pft::{FRAGMENTS_ROOM, MOST_PARITY, Shape};
 use drm_bits::{NoMemory, zeros};
 use std::alloc::Global;
 use std::marker::Model;
@@ -20,16 +20,17 @@ use std::marker::Model;
 /// The datagrams of one packet, one behind another in a room, however many links they are sent over. All memory is taken where it
 /// is made.
 #[derive(Drop)]
-pub struct Datagrams {
-    // Where the parity of a packet is made.
+pub struct CutPacket {
+    // Where the parity of a packet is made, and what its fragments carry.
     parity: Vec<u8>,
+    coded: Vec<u8>,
     room: Vec<u8>,
     layout: Layout,
 }
 
-impl Model for Datagrams {
+impl Model for CutPacket {
     ghost use Rattle.std.specs.Prelude.{ℕ, List, ◌≡◌, length};
-    ghost use Rattle.dcp_pft.specs.Limits.{most_parity};
+    ghost use Rattle.dcp_pft.specs.Limits.{fragments_room, most_parity};
     ghost use Rattle.dcp_sender.specs.CarriesText.{most_room};
     ghost use Rattle.dcp_sender.specs.Layout.{laid_out, IsLayout};
 
@@ -39,18 +40,21 @@ impl Model for Datagrams {
 
     ghost invariant = { λ s. IsLayout s.layout
         × (length s.parity.items ≡ most_parity)
+        × (length s.coded.items ≡ fragments_room)
         × (length s.room.items ≡ most_room) };
 }
 
-impl Datagrams {
+impl CutPacket {
     /// None yet.
-    pub fn make(alloc: Global) -> Result<Datagrams, NoMemory>
+    pub fn make(alloc: Global) -> Result<CutPacket, NoMemory>
         ensures { IfOk result (λ datagrams. datagrams ≡ []) }
     {
         let parity = zeros(alloc, MOST_PARITY)?;
+        let coded = zeros(alloc, FRAGMENTS_ROOM)?;
         let room = zeros(alloc, MOST_ROOM)?;
-        Ok(Datagrams {
+        Ok(CutPacket {
             parity,
+            coded,
             room,
             layout: Layout {
                 len: 0,
@@ -64,18 +68,19 @@ impl Datagrams {
     pub fn fill(&mut self, packet: &[u8], cut: Option<Shape>, seq: u16)
         requires shaped { IfSome cut (IsShapeOf (length packet.now)) }
         requires in_range { length packet.now ≤ longest_packet }
-        ensures all { AreAll cut seq packet.now self.new }
+        ensures datagrams { AreAll cut seq packet.now self.new }
         ensures at_least_one { 1 ≤ length self.new }
         ensures in_range { (n : ℕ) → most_fragment ≤ n → length packet.now ≤ n → All (λ d. length d ≤ n) self.new }
     {
         match cut {
             None => self.layout = write_whole(packet, &mut self.room),
             Some(shape) => {
-                self.layout = write_fragments(
+                self.layout = write_all_fragments(
                     packet,
                     &shape,
                     seq,
                     &mut self.parity,
+                    &mut self.coded,
                     &mut self.room,
                 );
             }

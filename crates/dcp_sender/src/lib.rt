@@ -10,7 +10,7 @@
 //! It makes no packets (`drm_server` with `mdi_items` and `dcp_af`) and doesn't wait between frames
 //! (`drm_server`; `drm_adapt`). Fragments are put together again by `dcp_collect`.
 //!
-//! Begin with `PacketSender` (`src/sender.rt`), then `Datagrams` (`src/datagrams.rt`): what a packet
+//! Begin with `PacketSender` (`src/sender.rt`), then `CutPacket` (`src/datagrams.rt`): what a packet
 //! is cut into, one datagram behind another, for any number of links. `CarriesText`
 //! (`specs/CarriesText.antt`) says what is written of a packet, `SendsPacket` (`specs/OverLinks.antt`)
 //! what is sent of it over several links.
@@ -23,7 +23,7 @@ mod outlets;
 mod send;
 mod sender;
 
-pub use datagrams::Datagrams;
+pub use datagrams::CutPacket;
 pub use layout::MOST_ROOM;
 pub use number::sequence;
 pub use outlets::Outlets;

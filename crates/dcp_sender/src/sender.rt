@@ -8,7 +8,7 @@ ghost use Rattle.dcp_sender.specs.Making.{CallsMake};
 ghost use Rattle.dcp_sender.specs.CarriesText.{CarriesText, is_too_long};
 ghost use Rattle.dcp_sender.specs.OverLinks.{is_large, over_each, SendsPacket};
 
-use crate::{Datagrams, Outlets};
+use crate::{CutPacket, Outlets};
 use dcp_pft::{Carry, cut_for, most_packet};
 use drm_bits::NoMemory;
 use drm_links::{Sink, WriteFault, write_all};
@@ -19,7 +19,7 @@ use std::marker::Model;
 #[derive(Drop)]
 pub struct PacketSender {
     carry: Carry,
-    datagrams: Datagrams,
+    datagrams: CutPacket,
 }
 
 impl Model for PacketSender {
@@ -39,7 +39,7 @@ impl PacketSender {
         requires { CarryFits carry }
         ensures { IfOk result (λ sender. sender ≡ carry) }
     {
-        let datagrams = Datagrams::make(alloc)?;
+        let datagrams = CutPacket::make(alloc)?;
         Ok(PacketSender { carry, datagrams })
     }
 
@@ -96,7 +96,7 @@ impl PacketSender {
 }
 
 // Sends them over each link.
-fn send_each<O: Outlets>(datagrams: &Datagrams, outlets: &mut O)
+fn send_each<O: Outlets>(datagrams: &CutPacket, outlets: &mut O)
     ensures made { CallsMake (over_each (length (O.up outlets.old)) datagrams.now) (O.up outlets.old) (O.up outlets.new) (λ events. O.happened events outlets.old outlets.new) }
     ensures same_count { length (O.up outlets.new) ≡ length (O.up outlets.old) }
 {

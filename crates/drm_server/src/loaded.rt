@@ -14,7 +14,7 @@ use crate::Stretch;
 use crate::packet::write_packet;
 use crate::payload::PayloadBuffers;
 use dcp_pft::{LONGEST_PACKET, cut_for};
-use dcp_sender::Datagrams;
+use dcp_sender::CutPacket;
 use drm_bits::{NoMemory, zeros};
 use drm_schedule::{Live, Schedule};
 use drm_timeline::{frame_count, sequence_number};
@@ -34,7 +34,7 @@ pub struct EncodedFrame<'a> {
     // The packet stands at the front.
     buffer: Vec<u8>,
     len: usize,
-    datagrams: Datagrams,
+    datagrams: CutPacket,
     buffers: Box<PayloadBuffers>,
 }
 
@@ -71,7 +71,7 @@ impl<'a> EncodedFrame<'a> {
         ensures { IfOk result (λ loaded. loaded ≡ record { base = plan.now; plan = plan.now; frame = 0 }) }
     {
         let buffer = zeros(alloc, LONGEST_PACKET)?;
-        let datagrams = Datagrams::make(alloc)?;
+        let datagrams = CutPacket::make(alloc)?;
         let piece = zeros(alloc, MOST_PIECE)?;
         let Ok(buffers) = Box::new(alloc, PayloadBuffers::new()) else {
             return Err(NoMemory);
@@ -83,7 +83,7 @@ impl<'a> EncodedFrame<'a> {
     fn in_room(
         plan: &'a Schedule,
         mut buffer: Vec<u8>,
-        mut datagrams: Datagrams,
+        mut datagrams: CutPacket,
         piece: Vec<u8>,
         mut buffers: Box<PayloadBuffers>,
     ) -> EncodedFrame<'a>
@@ -195,7 +195,7 @@ impl<'a> EncodedFrame<'a> {
     }
 
     /// The datagrams that carry the packet.
-    pub fn datagrams(&self) -> &Datagrams
+    pub fn datagrams(&self) -> &CutPacket
         ensures { CarriesFrame self.now.plan self.now.frame result.now }
     {
         &self.datagrams
@@ -209,7 +209,7 @@ fn encode(
     live: &Live,
     piece: &[u8],
     into: &mut [u8],
-    datagrams: &mut Datagrams,
+    datagrams: &mut CutPacket,
     buffers: &mut PayloadBuffers,
 ) -> usize
     requires frame { t < numbers.frame_count plan.now }

@@ -5,7 +5,7 @@ ghost use Rattle.drm_links.specs.Calls.{GroupMakes};
 ghost use Rattle.drm_server.specs.Serving.{pause, turn, ServesFrame};
 
 use crate::Server;
-use dcp_sender::Datagrams;
+use dcp_sender::CutPacket;
 use drm_links::Group;
 
 /// Sends the datagrams of the frame that is loaded, the one behind `n` others, over one link of the group after another, unless it
@@ -22,7 +22,7 @@ pub fn serve_frame<G: Group>(server: &Server<'_>, n: u32, pace: u32, group: &mut
 }
 
 // The same over the k-th link.
-fn serve_turn<G: Group>(datagrams: &Datagrams, n: u32, k: usize, pace: u32, group: &mut G)
+fn serve_turn<G: Group>(datagrams: &CutPacket, n: u32, k: usize, pace: u32, group: &mut G)
     ensures made { GroupMakes (turn pace n datagrams.now k)
         (G.up group.old) (G.up group.new) (G.known group.old) (G.known group.new) }
     ensures same_count { length (G.up group.new) ≡ length (G.up group.old) }

@@ -86,7 +86,7 @@ fn gather<O: Sink>(
     ensures gathered { IfOk result (λ n. GathersDatagrams (take waiting scratch.old) bytes.now (take n scratch.new)
         (O.known out.old) (O.known out.new)) }
     ensures front { OnErr result (OutputsText (O.known out.old) (O.known out.new) (IsPrefix (take waiting scratch.old))) }
-    ensures some { OnErr result (0 < waiting) }
+    ensures at_least_one { OnErr result (0 < waiting) }
     ensures within { IfOk result (λ n. n ≤ length scratch.new) }
     ensures same_length { length scratch.new ≡ length scratch.old }
     ensures cause { HasCause (O.known out.old) (O.known out.new) (IsErr result) }
@@ -107,7 +107,7 @@ fn pass_on<O: Sink>(
     ensures whole { IfOk result (λ n. OutputsText (O.known out.old) (O.known out.new)
         (λ text. take waiting scratch.now ≡ text ++ take n scratch.now)) }
     ensures front { OnErr result (OutputsText (O.known out.old) (O.known out.new) (IsPrefix (take waiting scratch.now))) }
-    ensures some { OnErr result (0 < waiting) }
+    ensures at_least_one { OnErr result (0 < waiting) }
     ensures remaining { IfOk result (λ n. n + more ≤ length scratch.now) }
     ensures cause { HasCause (O.known out.old) (O.known out.new) (IsErr result) }
 {

@@ -11,6 +11,7 @@ use Rattle.rs_erase.specs.Equations.{nth_power, word_value}
 use Rattle.rs_erase.specs.Polynomial.{add, scale}
 use Rattle.rs_erase.specs.Register.{HasFirstRemainder, IsMultipleRemainder, IsRemainder}
 use Rattle.rs_erase.specs.declared.first_remainders.TheConstants.{FIRST_REMAINDERS}
+use Rattle.rs_erase.proofs.LaneRows.{zero_multiple}
 use Rattle.rs_erase.proofs.PolynomialLaws.{length-scale}
 use Rattle.rs_erase.proofs.RemainderTable.{length-nexts, next, nexts, nexts_value, same, same_is}
 use Rattle.rs_erase.proofs.WordValues.{length-add_same, more_symbols, nth_power-lt, nth_power_add, word_value_add, word_value_append, word_value_scale, word_value_zeros}
@@ -79,6 +80,13 @@ one_first w r row new f k lt lw hf hrow is h =
           ∙ more_symbols i f k (254 - k) w (omega (arith, lt, lw)) hf
           ∙ ap (λ (p : ℕ). times (word_value i (take (k + 1) w)) (nth_power i p)) (let e : 254 - k ≡ 255 - (k + 1) = omega (arith, lt) in e);
     }
+
+-- an element that is 0
+pub zero_first : (w r : List ℕ) (k : ℕ) → k < 16 → length w ≡ 255 → 0 ≡ get_or w k 0 → HasFirstRemainder w r k → HasFirstRemainder w r (k + 1)
+zero_first w r k lt lw hf h =
+    let row = chunk (48 * k) 48 FIRST_REMAINDERS in
+    let is = row_is k row lt refl in
+    one_first w r row r 0 k lt lw hf is (zero_multiple r row (h.long ∙ sym is.long)) h
 
 pub few_remainder : (w r : List ℕ) → take 191 (drop 16 w) ≡ replicate 191 0 → HasFirstRemainder w r 16 → IsRemainder (take 207 w) r
 few_remainder w r zeros h = record {

@@ -1,6 +1,6 @@
 //! The values of a word at the roots of the generator.
 
-ghost use Rattle.std.specs.Prelude.{◌≡◌, ◌<◌, ◌≤◌, ◌+◌, ◌-◌, ◌*◌, ◌↔◌, ℕ, true, drop, replicate, slice_index, take};
+ghost use Rattle.std.specs.Prelude.{◌≡◌, ◌<◌, ◌≤◌, ◌+◌, ◌-◌, ◌*◌, ◌↔◌, ℕ, List, true, drop, length, replicate, slice_index, take};
 ghost use Rattle.std.specs.List.{All};
 ghost use Rattle.std.specs.Simd.Lanes.{chunk as elements_from};
 ghost use Rattle.gf_field.specs.Field.{power};
@@ -12,8 +12,8 @@ ghost use Rattle.rs_erase.specs.Rows.{listed};
 use crate::first_remainders::FIRST_REMAINDERS;
 use crate::parity::remainder_of;
 use crate::root_powers::ROOT_POWERS;
-use crate::row::{Row, lanes_from, plus_multiple};
-use gf_field::Gf;
+use crate::row::{Row, lanes_from};
+use gf_field::{Gf, scaled};
 use std::simd::prelude::*;
 
 /// A message with so many elements and zeros is summed by what remains of each.
@@ -62,7 +62,7 @@ fn message_remainder(word: &[u8; 255]) -> Row
     remainder_of(&word[..207])
 }
 
-/// Whether the message has zeros from its sixteenth element on, as that of a chunk of few bytes.
+/// Whether the message has zeros behind its first sixteen elements, as that of a chunk of few bytes.
 fn has_few(word: &[u8; 255]) -> bool
     ensures { result ≡ true → take 191 (drop 16 word.now) ≡ replicate 191 0 }
 {
@@ -75,9 +75,22 @@ fn first_remainder(word: &[u8; 255]) -> Row
 {
     let mut remainder = Row::zeros();
     for j in 0..FEW {
-        remainder = remainder.plus_multiple(word[j], power_remainder(j));
+        remainder = with_element(remainder, word[j], j);
     }
     remainder
+}
+
+/// Adds what remains of this element at the place j of a message.
+fn with_element(remainder: Row, element: u8, j: usize) -> Row
+    requires { j < 16 }
+    ensures { (word : List ℕ) → length word ≡ 255 → element ≡ slice_index word j
+        → HasFirstRemainder word (listed remainder) j → HasFirstRemainder word (listed result) (j + 1) }
+{
+    // Most are 0, where a chunk has few bytes.
+    if element == 0 {
+        return remainder;
+    }
+    remainder.plus_multiple(element, power_remainder(j))
 }
 
 /// What remains of x to the 254 - j.
@@ -105,7 +118,7 @@ pub fn first_values_of(symbols: &[u8; 48]) -> u8x16
 {
     let mut values = u8x16::splat(0);
     for p in 0..48usize {
-        values = plus_multiple(values, symbols[p], lanes_from(&ROOT_POWERS, 16 * (3 * p)));
+        values = values ^ scaled(lanes_from(&ROOT_POWERS, 16 * (3 * p)), symbols[p]);
     }
     values
 }

@@ -54,13 +54,10 @@ impl Row {
         }
     }
 
-    /// The elements with this multiple of the others added. Many a multiple is that by 0, where a chunk has few bytes.
+    /// The elements with this multiple of the others added.
     pub fn plus_multiple(self, factor: u8, other: Row) -> Row
         ensures { listed result ≡ add (listed self) (scale factor (listed other)) }
     {
-        if factor == 0 {
-            return self;
-        }
         self.plus(Row {
             first: scaled(other.first, factor),
             second: scaled(other.second, factor),
@@ -105,11 +102,12 @@ pub fn lanes_from(bytes: &[u8], place: usize) -> u8x16
     u8x16::from_slice(&bytes[place..])
 }
 
-/// The lanes with this multiple of the others added.
-pub fn plus_multiple(lanes: u8x16, factor: u8, others: u8x16) -> u8x16
+/// The lanes with this multiple of the others added. Where few factors aren't 0, a multiple by 0 is left out; where many
+/// aren't, asking for it costs more than it saves.
+pub fn plus_multiple(lanes: u8x16, factor: u8, others: u8x16, few: bool) -> u8x16
     ensures { result ≡ zip2 bit_xor lanes (map (times factor) others) }
 {
-    if factor == 0 {
+    if few && factor == 0 {
         return lanes;
     }
     lanes ^ scaled(others, factor)

@@ -26,6 +26,8 @@ pub struct SpacedPattern {
     places: [u8; 48],
     // How many of them are in the message.
     message: usize,
+    // Whether few symbols of the parity are known, as where a chunk has few bytes.
+    few: bool,
     // For each symbol of a parity the product of the sums of its locator and those of the places.
     factors: [u8; 48],
     // For each place what makes the value of what its lane comes to.
@@ -76,6 +78,7 @@ impl SpacedPattern {
             count,
             places,
             message,
+            few: count - message > 32,
             factors,
             weights,
             starts: runs.starts,
@@ -114,32 +117,38 @@ pub fn solve_spaced(
     ensures unchanged { OnErr result (word.new ≡ word.old) }
 {
     let remainder = word_remainder(word).to_bytes();
-    let symbols = multiplied(&pattern.factors, &remainder);
+    let symbols = multiplied(&pattern.factors, &remainder, pattern.few);
     if !leaves_nothing(&symbols, pattern.count) {
         return Err(SolveFault::NoCodeWord);
     }
-    let sums = sums_of_runs(&spacing.table, &pattern.starts, pattern.used, &symbols);
+    let sums = sums_of_runs(
+        &spacing.table,
+        &pattern.starts,
+        pattern.used,
+        &symbols,
+        pattern.few,
+    );
     let places = &pattern.places[..pattern.message];
     add_found(word, places, &sums, &pattern.lanes, &pattern.weights);
     Ok(())
 }
 
 /// Each symbol times its factor.
-fn multiplied(factors: &[u8; 48], symbols: &[u8; 48]) -> [u8; 48]
+fn multiplied(factors: &[u8; 48], symbols: &[u8; 48], few: bool) -> [u8; 48]
     ensures { (p : ℕ) → p < 48 → slice_index result p ≡ times (slice_index factors.now p) (slice_index symbols.now p) }
 {
     let mut products = [0; 48];
     for p in 0..48usize {
-        products[p] = product(factors[p], symbols[p]);
+        products[p] = product(factors[p], symbols[p], few);
     }
     products
 }
 
-/// The factor times the symbol. Many a factor is 0, where a chunk has few bytes.
-fn product(factor: u8, symbol: u8) -> u8
+/// The factor times the symbol. Where few symbols are known, most factors are 0.
+fn product(factor: u8, symbol: u8, few: bool) -> u8
     ensures { result ≡ times factor symbol }
 {
-    if factor == 0 {
+    if few && factor == 0 {
         return 0;
     }
     Gf(factor).mul(Gf(symbol)).0
@@ -178,6 +187,7 @@ fn sums_of_runs(
     starts: &[u8; RUNS],
     used: usize,
     symbols: &[u8; 48],
+    few: bool,
 ) -> [u8; 208]
     ensures { (run i : ℕ) → run < used → run < 13 → i < 16 → slice_index starts.now run < 207
         → slice_index result (16 * run + i) ≡ spaced_sum table.now symbols.now (207 - slice_index starts.now run) i 48 }
@@ -187,14 +197,14 @@ fn sums_of_runs(
         write_lanes(
             &mut sums,
             16 * run,
-            sums_of_run(table, starts[run], symbols),
+            sums_of_run(table, starts[run], symbols, few),
         );
     }
     sums
 }
 
 /// What the lanes of the run with this start come to.
-fn sums_of_run(table: &[u8; 4096], start: u8, symbols: &[u8; 48]) -> u8x16
+fn sums_of_run(table: &[u8; 4096], start: u8, symbols: &[u8; 48], few: bool) -> u8x16
     ensures { start < 207 → (i : ℕ) → i < 16 → slice_index result i ≡ spaced_sum table.now symbols.now (207 - start) i 48 }
 {
     let mut sums = u8x16::splat(0);
@@ -203,7 +213,7 @@ fn sums_of_run(table: &[u8; 4096], start: u8, symbols: &[u8; 48]) -> u8x16
     }
     let first = 207 - usize::from(start);
     for p in 0..48usize {
-        sums = plus_multiple(sums, symbols[p], lanes_from(table, 16 * (first + p)));
+        sums = plus_multiple(sums, symbols[p], lanes_from(table, 16 * (first + p)), few);
     }
     sums
 }

@@ -30,8 +30,8 @@ slice_bounds-write_laid_out-end c =
 pub slice_bounds-write_laid_out-end-2 : goal.slice_bounds-write_laid_out-end-2
 slice_bounds-write_laid_out-end-2 c = sym (length-take-le (c.args.shape.now.count * c.from-piece.result + 16) _ (slice_bounds-write_laid_out-end c))
 
-pub write_laid_out-requires-clause-some : goal.write_laid_out-requires-clause-some
-write_laid_out-requires-clause-some c = (has_code (length c.args.packet.now) c.args.shape.now c.args.rs c.requires.shape c.requires.code).byte
+pub write_laid_out-requires-clause-at_least_one : goal.write_laid_out-requires-clause-at_least_one
+write_laid_out-requires-clause-at_least_one c = (has_code (length c.args.packet.now) c.args.shape.now c.args.rs c.requires.shape c.requires.code).byte
 
 pub write_laid_out-requires-clause-piece : goal.write_laid_out-requires-clause-piece
 write_laid_out-requires-clause-piece c = let most = (has_code (length c.args.packet.now) c.args.shape.now c.args.rs c.requires.shape c.requires.code).piece in omega (arith, most)

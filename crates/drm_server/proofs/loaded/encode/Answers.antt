@@ -24,7 +24,7 @@ returns-clause-datagrams c =
     let carry : plan.carry ≡ base.carry = same_carry c.args.live.now given base in
     let cut : cut_of plan.carry (length packet) ≡ c.cut_for-cut.result = rw (carry, long, ← c.carry.ensures) (sym c.cut_for-cut.ensures.cut) in
     let number : c.sequence_number.result ≡ sequence_number plan c.args.t = c.sequence_number.ensures ∙ sym (same_sequence_number c.args.live.now given base c.args.t) in
-    let all = c.fill.ensures.all in
+    let all = c.fill.ensures.datagrams in
     let each : AreFirst c.cut_for-cut.result (sequence_number plan c.args.t) packet c.fill.new.self = rw (← number) all.0 in
     record {
       are = of_frame plan c.args.t packet c.fill.new.self w.ensures.packet (all_of plan.carry (sequence_number plan c.args.t) packet c.cut_for-cut.result c.fill.new.self cut (each, all.1));

@@ -16,7 +16,7 @@ returns-in_err-waiting-clause-front g c =
     let plan : Plan = c.args.loaded.now.base in
     let p = err_from_is_err_and c.from_residual.result c.from_residual.ensures.1 in
     rw p.1 (end_written plan c.args.stretch c.loop-n.n i.0 (take c.loop-n.waiting c.loop-n.scratch) (g.O.Sink.known c.args.out.now) (g.O.Sink.known c.loop-n.out) (g.O.Sink.known c.gather.new.out)
-    (omega (arith, c.loop-n-test.true, c.frames_in-n-end.ensures.frames)) i.1 (i.3 c.in_err-waiting.ensures.some) i.2 c.in_err-waiting.ensures.front)
+    (omega (arith, c.loop-n-test.true, c.frames_in-n-end.ensures.frames)) i.1 (i.3 c.in_err-waiting.ensures.at_least_one) i.2 c.in_err-waiting.ensures.front)
 
 pub loop-n-preserved : goal.loop-n-preserved
 loop-n-preserved g c =

@@ -1,4 +1,4 @@
-use Rattle.std.proofs.Common.{◌≡◌, ◌+◌, ap, arith, get_or, map, refl, rules, subst, sym, List, ℕ}
+use Rattle.std.proofs.Common.{◌≡◌, ◌∙◌, ap, arith, get_or, map, refl, rules, subst, ℕ}
 use Rattle.gf_field.specs.Field.{times}
 use Rattle.rs_erase.proofs.FirstValues.{HasFirst, all_first, none_first, one_first}
 use Rattle.rs_erase.proofs.roots.first_values_of.Goals as goal
@@ -10,10 +10,8 @@ pub loop-p-preserved : goal.loop-p-preserved
 loop-p-preserved c =
     let p = c.loop-p.p in
     let f = get_or c.args.symbols.now p 0 in
-    let row = map (times f) c.lanes_from.result in
-    subst (λ (v : List ℕ). HasFirst c.args.symbols.now v (p + 1)) (sym c.plus_multiple-values.ensures)
-    (one_first c.args.symbols.now c.loop-p.values row f p c.loop-p-test.true c.told-symbols refl
-    (search rules) (ap (map (times f)) c.lanes_from.ensures) c.loop-p.invariant)
+    one_first c.args.symbols.now c.loop-p.values c.scaled-values.result f p c.loop-p-test.true c.told-symbols refl
+    (search rules) (c.scaled-values.ensures ∙ ap (map (times f)) c.lanes_from.ensures) c.loop-p.invariant
 
 pub returns : goal.returns
 returns c = λ j lt.

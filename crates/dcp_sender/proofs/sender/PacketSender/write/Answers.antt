@@ -1,5 +1,5 @@
 use Rattle.std.proofs.Common.{sym, ◌∙◌}
-use Rattle.dcp_sender.proofs.OverLinks.{whole_carried, all_of}
+use Rattle.dcp_sender.proofs.OverLinks.{whole_carried}
 use Rattle.dcp_sender.proofs.sender.PacketSender.write.Goals as goal
 
 pub returns-in-Plain-clause-written : goal.returns-in-Plain-clause-written

@@ -1,10 +1,9 @@
-use Rattle.std.proofs.Common.{◌≡◌, ◌<◌, ◌≤◌, ◌*◌, ◌^◌, ◌∙◌, ℕ, List, sym, ap, subst, take, drop, length, arith}
+use Rattle.std.proofs.Common.{◌≡◌, ◌<◌, ◌*◌, ◌∙◌, ℕ, List, sym, ap, subst, take, drop, length, arith}
 use Rattle.std.specs.List.{concat}
-use Rattle.std.proofs.Math.Nat.{mul-le-mul_right}
 use Rattle.std.proofs.lemmas.List.{length-take}
 use Rattle.dcp_sender.specs.Layout.{laid_out}
 use Rattle.dcp_sender.proofs.Layouts.{length-chunks, concat-chunks, chunk_at}
-use Rattle.dcp_sender.proofs.datagrams.Datagrams.get.Goals as goal
+use Rattle.dcp_sender.proofs.datagrams.CutPacket.get.Goals as goal
 
 pub returns-clause-datagram : goal.returns-clause-datagram
 returns-clause-datagram c none =

@@ -1,7 +1,7 @@
 use Rattle.std.proofs.Common.{sym, ap, ◌∙◌, take, arith}
 use Rattle.std.proofs.lemmas.List.{length-take}
 use Rattle.dcp_sender.proofs.Layouts.{concat-chunks}
-use Rattle.dcp_sender.proofs.datagrams.Datagrams.bytes.Goals as goal
+use Rattle.dcp_sender.proofs.datagrams.CutPacket.bytes.Goals as goal
 
 pub returns-clause-bytes : goal.returns-clause-bytes
 returns-clause-bytes c =

@@ -1,11 +1,11 @@
-use Rattle.std.proofs.Common.{◌≡◌, ◌∙◌, ◌+◌, ℕ, List, [], ◌∷◌, ◌++◌, refl, sym, subst, ap, length, take, arith}
+use Rattle.std.proofs.Common.{◌≡◌, ◌∙◌, ◌+◌, ℕ, List, [], ◌∷◌, ◌++◌, refl, sym, subst, ap, take, arith}
 use Rattle.std.proofs.lemmas.Grind.{take_at_read}
 use Rattle.std.proofs.lemmas.List.{map-append, take_all}
 use Rattle.drm_links.specs.History.{GroupEvent}
 use Rattle.drm_links.specs.Calls.{Call, Send, sends}
 use Rattle.dcp_sender.specs.Making.{CallsMake}
 use Rattle.dcp_sender.proofs.MakingLemmas.{Make-none, Make-then}
-use Rattle.dcp_sender.proofs.datagrams.Datagrams.send.Goals as goal
+use Rattle.dcp_sender.proofs.datagrams.CutPacket.send.Goals as goal
 
 pub loop-i-init : goal.loop-i-init
 loop-i-init g c = (refl, Make-none [] (g.O.Outlets.up c.args.outlets.now) (λ events. g.O.Outlets.happened events c.args.outlets.now c.args.outlets.now) (refl, refl) (g.met.O.Outlets.nothing c.args.outlets.now))

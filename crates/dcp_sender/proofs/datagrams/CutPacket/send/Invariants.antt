@@ -1,7 +1,7 @@
 use Rattle.std.proofs.Common.{◌≡◌, length, take}
 use Rattle.drm_links.specs.Calls.{sends}
 use Rattle.dcp_sender.specs.Making.{CallsMake}
-use Rattle.dcp_sender.proofs.datagrams.Datagrams.send.Given as goal
+use Rattle.dcp_sender.proofs.datagrams.CutPacket.send.Given as goal
 
 -- the datagrams before this one were called for
 abbrev pub invariant-loop-i : goal.invariant-loop-i

@@ -1,6 +1,6 @@
 use Rattle.std.proofs.Common.{sym, take}
 use Rattle.dcp_sender.proofs.Layouts.{length-chunks}
-use Rattle.dcp_sender.proofs.datagrams.Datagrams.count.Goals as goal
+use Rattle.dcp_sender.proofs.datagrams.CutPacket.count.Goals as goal
 
 pub returns-clause-number : goal.returns-clause-number
 returns-clause-number c =
