@@ -10,7 +10,7 @@ from typing import NamedTuple
 import turns
 from costs import MOST_RECEIVED
 from datagrams import datagrams
-from fragments import PARITY_BYTES, code_word, fragment, places_enough
+from fragments import LENGTH_BITS, PARITY_BYTES, code_word, fragment, places_enough
 from speeds import schedule
 
 MOST_COUNT, MOST_CHUNK = 4096, 207
@@ -68,10 +68,10 @@ def packet(shape, count):
 
 
 def is_taken(shape):
-    """Whether a receiver takes such fragments: it refuses packets that are too long, and those without a chunk."""
+    """Whether a receiver takes such fragments: it refuses packets that are too long, and those without a chunk; a length has 14 bits."""
     return all(
         shape.chunk + PARITY_BYTES <= count * shape.size <= MOST_RECEIVED and 1 <= count <= MOST_COUNT for count in shape.counts
-    ) and 1 <= shape.chunk <= MOST_CHUNK
+    ) and 1 <= shape.chunk <= MOST_CHUNK and shape.size <= LENGTH_BITS
 
 
 def capture(shape):
@@ -151,9 +151,11 @@ def search(program, seed, tries):
         for number in range(tries):
             known = number < len(KNOWN)
             shape = KNOWN[number] if known else varied(draw, draw.choice(list(kept))) if kept and draw.random() < 0.6 else drawn(draw)
-            if shape in tried or not is_taken(shape):
+            # Runs and gaps can say the same in several ways.
+            sent = (shape.chunk, shape.size, *((count, *enough(shape, count)) for count in shape.counts))
+            if sent in tried:
                 continue
-            tried.add(shape)
+            tried.add(sent)
             kept[shape] = measure.of(shape, TRIES)[0]
             for cheap in sorted(kept, key=kept.get)[:-KEPT]:
                 del kept[cheap]
