@@ -1,20 +1,18 @@
 -- All fragments of a packet, written one after another.
-use Rattle.std.proofs.Common.{ℕ, zero, suc, ◌≡◌, ◌+◌, ◌-◌, ◌*◌, ◌/◌, ◌%◌, ◌<◌, ◌≤◌, min, inl, inr, Option, None, Some, List, [], ◌∷◌, ◌++◌, length, take, drop, get_or, replicate, refl, sym, subst, ap, ap₂, ◌∙◌, arith, length-append, length-drop}
+use Rattle.std.proofs.Common.{ℕ, ◌≡◌, ◌+◌, ◌-◌, ◌*◌, ◌/◌, ◌%◌, ◌<◌, ◌≤◌, Some, List, [], ◌∷◌, ◌++◌, length, take, drop, replicate, refl, sym, subst, ap, ◌∙◌, arith, length-append, length-drop}
 use Rattle.std.specs.Int.{w16, to_be_bytes}
 use Rattle.std.proofs.Math.Nat.{mul-le-mul_right, div-mul-le_self}
-use Rattle.std.proofs.lemmas.Bool.{cases_lt}
 use Rattle.std.proofs.lemmas.List.{ext_get_or, get_or-take, get_or-drop, length-take-le, take_at}
 use Rattle.drm_bits.specs.Bits.{IsBytes}
 use Rattle.dcp_pft.specs.declared.shape.Rs.{Rs}
 use Rattle.dcp_pft.specs.declared.shape.Shape.{Shape}
 use Rattle.dcp_pft.specs.Coding.{byte_or_zero, coded, every, filled, IsParityOf}
-use Rattle.dcp_pft.specs.Carrying.{fragment_size}
 use Rattle.dcp_pft.specs.Cutting.{IsShapeOf}
-use Rattle.dcp_pft.specs.Head.{PftFragment, SpellsHead, IsFragmentOf, fragment_of, sync, three_bytes}
-use Rattle.dcp_pft.specs.Writing.{PutsHead, WritesFragment, fragment_at}
+use Rattle.dcp_pft.specs.Head.{fragment_of, sync, three_bytes}
+use Rattle.dcp_pft.specs.Writing.{PutsHead, WritesFragment}
 use Rattle.dcp_pft.specs.Turning.{HoldsColumns, with_payload, laid_fragment}
 use Rattle.dcp_pft.proofs.Coming.{every_at, length-every}
-use Rattle.dcp_pft.proofs.Fragments.{with_rs, chunks_by, chunks_with, parities_with, parities_long, fragment_with, head_with}
+use Rattle.dcp_pft.proofs.Fragments.{chunks_by, chunks_with, parities_with, parities_long, fragment_with, head_with}
 use Rattle.dcp_pft.proofs.Interleaved.{filled_at}
 use Rattle.dcp_pft.proofs.Payloads.{shape_is_taken}
 use Rattle.dcp_pft.proofs.Shapes.{HasCode, has_code}

@@ -1,5 +1,5 @@
 -- Fragments at their places.
-use Rattle.std.proofs.Common.{ℕ, zero, suc, ◌≡◌, ◌+◌, ◌-◌, ◌*◌, ◌<◌, ◌≤◌, min, Option, None, Some, List, ◌++◌, length, take, drop, refl, sym, subst, ap, ap₂, ◌∙◌, inl, inr, arith, length-drop, length-take}
+use Rattle.std.proofs.Common.{ℕ, zero, suc, ◌≡◌, ◌+◌, ◌-◌, ◌*◌, ◌<◌, ◌≤◌, min, Option, None, Some, List, ◌++◌, length, take, drop, sym, subst, ap, ap₂, ◌∙◌, inl, inr, arith, length-drop, length-take}
 use Rattle.std.proofs.Math.Nat.{mul-le-mul, mul-le-mul_right}
 use Rattle.std.proofs.lemmas.Bool.{cases_lt}
 use Rattle.std.proofs.lemmas.List.{drop_at, length-take-le, take-take, drop-take, take-append-le}
@@ -8,8 +8,6 @@ use Rattle.dcp_pft.specs.declared.shape.Rs.{Rs}
 use Rattle.dcp_pft.specs.declared.shape.Shape.{Shape}
 use Rattle.dcp_pft.specs.Carrying.{fragment_size}
 use Rattle.dcp_pft.specs.Cutting.{IsShapeOf}
-use Rattle.dcp_pft.specs.Head.{PftFragment, SpellsHead}
-use Rattle.dcp_pft.specs.Writing.{fragment_at}
 use Rattle.dcp_pft.proofs.Fragments.{with_rs}
 use Rattle.dcp_pft.proofs.Payloads.{shape_is_taken}
 use Rattle.dcp_pft.proofs.Shapes.{HasNone, has_none}

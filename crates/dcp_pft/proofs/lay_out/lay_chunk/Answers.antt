@@ -1,4 +1,4 @@
-use Rattle.std.proofs.Common.{ℕ, ◌+◌, ◌-◌, ◌≡◌, length, take, drop, arith, refl, length-take, length-drop}
+use Rattle.std.proofs.Common.{arith, refl}
 use Rattle.dcp_pft.proofs.LaidOut.{chunk_laid}
 use Rattle.dcp_pft.proofs.lay_out.lay_chunk.Goals as goal
 

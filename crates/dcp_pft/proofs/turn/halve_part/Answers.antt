@@ -1,4 +1,4 @@
-use Rattle.std.proofs.Common.{rules, arith}
+use Rattle.std.proofs.Common.{rules}
 use Rattle.dcp_pft.proofs.Halved.{halves_here, halves_before}
 use Rattle.dcp_pft.proofs.turn.halve_part.Goals as goal
 

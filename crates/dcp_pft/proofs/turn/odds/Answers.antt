@@ -1,4 +1,4 @@
-use Rattle.std.proofs.Common.{ℕ, ◌++◌, ◌+◌, ◌*◌, List, length, get_or, refl, arith}
+use Rattle.std.proofs.Common.{ℕ, ◌++◌, ◌+◌, ◌*◌, get_or, arith}
 use Rattle.std.proofs.lemmas.List.FromFn.{get_or-map-range_with_len}
 use Rattle.dcp_pft.proofs.turn.odds.Goals as goal
 

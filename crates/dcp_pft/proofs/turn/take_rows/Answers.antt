@@ -1,4 +1,3 @@
-use Rattle.std.proofs.Common.{arith}
 use Rattle.dcp_pft.proofs.Turned.{one_row}
 use Rattle.dcp_pft.proofs.turn.take_rows.Goals as goal
 

@@ -1,4 +1,3 @@
-use Rattle.std.proofs.Common.{arith}
 use Rattle.dcp_pft.proofs.AllWritten.{payload_writes}
 use Rattle.dcp_pft.proofs.write.write_payload.Goals as goal
 

@@ -1,5 +1,5 @@
-use Rattle.std.proofs.Common.{ℕ, ◌≡◌, ◌+◌, ◌*◌, ◌≤◌, ◌∙◌, List, ◌++◌, length, take, drop, sym, subst, ap, arith, length-append}
-use Rattle.std.proofs.lemmas.List.{length-take-le, take_at}
+use Rattle.std.proofs.Common.{ℕ, ◌≡◌, ◌+◌, ◌*◌, ◌∙◌, List, ◌++◌, length, take, drop, sym, subst, ap, arith}
+use Rattle.std.proofs.lemmas.List.{length-take-le}
 use Rattle.dcp_pft.specs.Head.{SpellsHead, PftFragment}
 use Rattle.dcp_pft.proofs.AllWritten.{laid_is, room_for, coded_fits, front_within, front_is}
 use Rattle.dcp_pft.proofs.Fragments.{parity_few}

@@ -1,4 +1,4 @@
-use Rattle.std.proofs.Common.{ℕ, ◌≡◌, ◌+◌, ◌-◌, ◌*◌, ◌%◌, ◌≤◌, ◌∙◌, List, length, take, drop, sym, subst, ap, arith, length-drop}
+use Rattle.std.proofs.Common.{ℕ, ◌≡◌, ◌+◌, ◌-◌, ◌*◌, ◌%◌, ◌∙◌, List, length, take, drop, sym, subst, ap, arith, length-drop}
 use borrow.Rule.Slice.PartMut.{put_mid}
 use Rattle.dcp_pft.specs.Coding.{every}
 use Rattle.dcp_pft.specs.Head.{SpellsHead}

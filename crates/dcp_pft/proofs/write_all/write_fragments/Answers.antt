@@ -1,4 +1,4 @@
-use Rattle.std.proofs.Common.{ℕ, ◌+◌, ◌*◌, ◌∙◌, List, length, take, drop, sym, subst, ap₂}
+use Rattle.std.proofs.Common.{ℕ, ◌*◌, ◌∙◌, List, length, take, drop, sym, subst, ap₂}
 use Rattle.dcp_pft.specs.Head.{SpellsHead, fragment_of}
 use Rattle.dcp_pft.proofs.FragmentPlaces.{size_coded, end_coded, end_plain}
 use Rattle.dcp_pft.proofs.write_all.write_fragments.Goals as goal

@@ -1,4 +1,4 @@
-use Rattle.std.proofs.Common.{ℕ, ◌≡◌, ◌+◌, ◌*◌, ◌%◌, ◌∙◌, List, refl, sym, subst, ap, arith}
+use Rattle.std.proofs.Common.{ℕ, ◌≡◌, ◌+◌, ◌*◌, ◌%◌, List, ap, arith}
 use Rattle.dcp_pft.specs.Head.{SpellsHead}
 use Rattle.dcp_pft.specs.Turning.{laid_fragment}
 use Rattle.dcp_pft.proofs.AllWritten.{still_stand}
