@@ -7,6 +7,7 @@ from typing import NamedTuple
 
 import turns
 from datagrams import check_value, datagrams
+from fragments import PARITY_BYTES, fragment
 from speeds import schedule
 
 HALF = 32_768
@@ -18,7 +19,6 @@ HEAD_BYTES, CHECK_BYTES, ITEM_BYTES = 10, 2, 8
 # So many items have as much text as is written at once, and some less.
 FEW_ITEMS = 2_000
 # A fragment that suffices has as many bytes as a packet may have chunks of one byte and its parity.
-PARITY_BYTES = 48
 FRAGMENT_BYTES = MOST_RECEIVED // (1 + PARITY_BYTES)
 HEAD = (
     "| what | bytes of a datagram | usual before, µs | hostile before, µs | times | usual now, µs | hostile now, µs | times "
@@ -65,12 +65,10 @@ def far_ahead(words, count):
     return Case(f"`{' '.join(words)}`, {count} datagram{'s' if count > 1 else ''} with a number far ahead", words, [packet(0)], hostile, usual, lined)
 
 
-def fragment(number, k):
+def sufficient(number, k):
     """A fragment with k bytes of each chunk of a packet, where a chunk has k bytes and its parity; k divides 48."""
     count, size = 1 + PARITY_BYTES // k, k * (FRAGMENT_BYTES // k)
-    head = b"PF" + number.to_bytes(2, "big") + (number % count).to_bytes(3, "big") + count.to_bytes(3, "big")
-    head += (1 << 15 | size).to_bytes(2, "big") + bytes([k, 0])
-    return head + check_value(head) + bytes((number + 7 * i) % 256 for i in range(size))
+    return fragment(number, number % count, count, k, bytes((number + 7 * i) % 256 for i in range(size)))
 
 
 def small_chunks(program, folder, k):
@@ -80,7 +78,7 @@ def small_chunks(program, folder, k):
     usual = [part for part, _, _ in datagrams(served)]
     words = ("receive", "--first", "0")
     what = f"`receive` of one fragment with {'one byte' if k == 1 else f'{k} bytes'} a chunk"
-    return Case(what, words, [], [fragment(i, k) for i in range(FRAGMENTS)], usual, [])
+    return Case(what, words, [], [sufficient(i, k) for i in range(FRAGMENTS)], usual, [])
 
 
 def cases(program, folder):

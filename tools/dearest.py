@@ -10,8 +10,9 @@ from typing import NamedTuple
 import turns
 from costs import MOST_RECEIVED
 from datagrams import datagrams
-from fragments import LENGTH_BITS, PARITY_BYTES, code_word, fragment, places_enough
+from fragments import LENGTH_BITS, PARITY_BYTES, fragment, places_enough
 from speeds import schedule
+from standards import parity
 
 MOST_COUNT, MOST_CHUNK = 4096, 207
 # A usual datagram's fragments come from packets like these, so many of them.
@@ -57,13 +58,19 @@ def enough(shape, count):
     return come[:places_enough(shape.chunk, count, shape.size, come)]
 
 
+@functools.lru_cache(maxsize=None)
+def code_word(chunk):
+    """So many bytes at random, and their parity."""
+    message = random.Random(chunk).randbytes(chunk)
+    return message + parity(message)
+
+
 @functools.lru_cache(maxsize=64)
 def packet(shape, count):
     """The number and the payload of each fragment that comes of a packet, all chunks of which are one code word."""
     length = shape.chunk + PARITY_BYTES
     chunks = count * shape.size // length
-    word = code_word(random.Random(shape.chunk).randbytes(shape.chunk))
-    coded = (word * chunks).ljust(count * shape.size, b"\0")
+    coded = (code_word(shape.chunk) * chunks).ljust(count * shape.size, b"\0")
     return [(index, coded[index::count]) for index in enough(shape, count)]
 
 

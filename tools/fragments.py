@@ -1,47 +1,8 @@
-"""Fragments of packets with a code (TS 102 821): code words, fragments, and which of them are enough."""
-import functools
-
+"""Fragments of packets with a code (TS 102 821), quickly made, and how many of them are enough. The code itself is in `standards.py`."""
 from datagrams import check_value
 
 PARITY_BYTES = 48
-FIELD = 0x11D
 WITH_CODE, LENGTH_BITS = 1 << 15, 0x3FFF
-
-
-@functools.lru_cache(maxsize=None)
-def powers():
-    """The powers of 2 in the field, and their logarithms."""
-    found, logarithms, value = [], {}, 1
-    for exponent in range(255):
-        found.append(value)
-        logarithms[value] = exponent
-        value = value << 1 ^ (FIELD if value & 128 else 0)
-    return found, logarithms
-
-
-def product(a, b):
-    found, logarithms = powers()
-    return found[(logarithms[a] + logarithms[b]) % 255] if a and b else 0
-
-
-@functools.lru_cache(maxsize=None)
-def generator():
-    """The product of x + 2^i for i below 48, the highest power first."""
-    found = [1]
-    for root in powers()[0][:PARITY_BYTES]:
-        found = [a ^ product(root, b) for a, b in zip([*found, 0], [0, *found])]
-    return found
-
-
-def code_word(message):
-    """The message and its 48 bytes of parity."""
-    rest = [*message, *[0] * PARITY_BYTES]
-    for at in range(len(message)):
-        if rest[at]:
-            factor = rest[at]
-            for k, coefficient in enumerate(generator()):
-                rest[at + k] ^= product(factor, coefficient)
-    return bytes(message) + bytes(rest[len(message):])
 
 
 def fragment(number, index, count, chunk, payload):

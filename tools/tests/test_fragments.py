@@ -9,22 +9,16 @@ import bars
 import datagrams
 import dearest
 import fragments
-
-
-def value_at(word, locator):
-    """The word as a polynomial, its first byte the coefficient of the highest power, at this element of the field."""
-    value = 0
-    for byte in word:
-        value = fragments.product(value, locator) ^ byte
-    return value
+import standards
 
 
 class Code(unittest.TestCase):
-    def test_a_code_word_has_the_48_roots(self):
-        roots = fragments.powers()[0][:fragments.PARITY_BYTES]
-        for length in (1, 2, 207):
-            word = fragments.code_word(random.Random(length).randbytes(length))
-            self.assertEqual((len(word), {value_at(word, root) for root in roots}), (length + 48, {0}))
+    def test_a_fragment_is_that_of_the_standards_words(self):
+        packet = bytes(range(250))
+        count, length, (chunk, _), _ = standards.shape(len(packet), 2, 200)
+        for index in range(count):
+            wanted = standards.fragment(packet, 2, 200, 7, index)
+            self.assertEqual(fragments.fragment(7, index, count, chunk, wanted[-length:]), wanted)
 
     def test_enough_is_where_each_chunk_lacks_48_bytes(self):
         # Two chunks of 2 and 48 bytes over ten fragments of ten bytes: each fragment has five bytes of each chunk.

@@ -59,7 +59,7 @@ class Costs(unittest.TestCase):
         for case in (costs.far_ahead(("receive",), 60), costs.many_items(("show",), costs.MOST_PACKET)):
             for packet in (*case.first, *case.hostile, *case.usual[:9], *case.lined[:9]):
                 self.assertTrue(datagrams.is_packet(packet), packet[:20])
-        self.assertTrue(all(datagrams.is_packet(costs.fragment(number, k)) for k in (1, 2, 8) for number in range(costs.FRAGMENTS)))
+        self.assertTrue(all(datagrams.is_packet(costs.sufficient(number, k)) for k in (1, 2, 8) for number in range(costs.FRAGMENTS)))
 
     def test_lines_are_told_apart_from_the_rest(self):
         case = costs.Case("it", ("receive",), [], [b"12"], [b"12"] * 10, [b"12"] * 10)
