@@ -24,3 +24,4 @@ pub mod FirstValues
 pub mod SpacedWords
 pub mod ZechSums
 pub mod FirstRemainders
+pub mod SpacingRows

@@ -102,12 +102,11 @@ pub fn lanes_from(bytes: &[u8], place: usize) -> u8x16
     u8x16::from_slice(&bytes[place..])
 }
 
-/// The lanes with this multiple of the others added. Where few factors aren't 0, a multiple by 0 is left out; where many
-/// aren't, asking for it costs more than it saves.
-pub fn plus_multiple(lanes: u8x16, factor: u8, others: u8x16, few: bool) -> u8x16
+/// The lanes with this multiple of the others added. A multiple by 0 costs nothing.
+pub fn plus_multiple(lanes: u8x16, factor: u8, others: u8x16) -> u8x16
     ensures { result ≡ zip2 bit_xor lanes (map (times factor) others) }
 {
-    if few && factor == 0 {
+    if factor == 0 {
         return lanes;
     }
     lanes ^ scaled(others, factor)

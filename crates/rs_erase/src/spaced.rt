@@ -13,7 +13,7 @@ use crate::row::{lanes_from, plus_multiple, write_lanes};
 use crate::runs::{RUNS, runs_of};
 use crate::spacing::Spacing;
 use crate::zech_sums::{factors_by, sums_at, write_weights_by};
-use gf_field::Gf;
+use gf_field::{Gf, scaled};
 use std::marker::Model;
 use std::simd::prelude::*;
 
@@ -121,7 +121,9 @@ pub fn solve_spaced(
     if !leaves_nothing(&symbols, pattern.count) {
         return Err(SolveFault::NoCodeWord);
     }
-    let sums = sums_of_runs(
+    let mut sums = [0; 208];
+    write_sums(
+        &mut sums,
         &spacing.table,
         &pattern.starts,
         pattern.used,
@@ -181,30 +183,36 @@ fn begin_with_few_zeros(symbols: &[u8; 48], count: usize) -> bool
     are_zero(&first_values_of(symbols).to_array()[..count])
 }
 
-/// What the lanes of each run come to, sixteen after sixteen.
-fn sums_of_runs(
+/// Writes what the lanes of each run come to, sixteen after sixteen.
+fn write_sums(
+    sums: &mut [u8; 208],
     table: &[u8; 4096],
     starts: &[u8; RUNS],
     used: usize,
     symbols: &[u8; 48],
     few: bool,
-) -> [u8; 208]
+)
     ensures { (run i : ℕ) → run < used → run < 13 → i < 16 → slice_index starts.now run < 207
-        → slice_index result (16 * run + i) ≡ spaced_sum table.now symbols.now (207 - slice_index starts.now run) i 48 }
+        → slice_index sums.new (16 * run + i) ≡ spaced_sum table.now symbols.now (207 - slice_index starts.now run) i 48 }
 {
-    let mut sums = [0; 208];
     for run in 0..used.min(RUNS) {
-        write_lanes(
-            &mut sums,
-            16 * run,
-            sums_of_run(table, starts[run], symbols, few),
-        );
+        write_lanes(sums, 16 * run, run_sums(table, starts[run], symbols, few));
     }
-    sums
+}
+
+/// What the lanes of the run with this start come to, where few symbols are known or many.
+fn run_sums(table: &[u8; 4096], start: u8, symbols: &[u8; 48], few: bool) -> u8x16
+    ensures { start < 207 → (i : ℕ) → i < 16 → slice_index result i ≡ spaced_sum table.now symbols.now (207 - start) i 48 }
+{
+    if few {
+        sums_of_known(table, start, symbols)
+    } else {
+        sums_of_run(table, start, symbols)
+    }
 }
 
 /// What the lanes of the run with this start come to.
-fn sums_of_run(table: &[u8; 4096], start: u8, symbols: &[u8; 48], few: bool) -> u8x16
+fn sums_of_run(table: &[u8; 4096], start: u8, symbols: &[u8; 48]) -> u8x16
     ensures { start < 207 → (i : ℕ) → i < 16 → slice_index result i ≡ spaced_sum table.now symbols.now (207 - start) i 48 }
 {
     let mut sums = u8x16::splat(0);
@@ -213,7 +221,22 @@ fn sums_of_run(table: &[u8; 4096], start: u8, symbols: &[u8; 48], few: bool) -> 
     }
     let first = 207 - usize::from(start);
     for p in 0..48usize {
-        sums = plus_multiple(sums, symbols[p], lanes_from(table, 16 * (first + p)), few);
+        sums = sums ^ scaled(lanes_from(table, 16 * (first + p)), symbols[p]);
+    }
+    sums
+}
+
+/// The same where few symbols are known, and most are 0. Elsewhere that branch costs more than it saves.
+fn sums_of_known(table: &[u8; 4096], start: u8, symbols: &[u8; 48]) -> u8x16
+    ensures { start < 207 → (i : ℕ) → i < 16 → slice_index result i ≡ spaced_sum table.now symbols.now (207 - start) i 48 }
+{
+    let mut sums = u8x16::splat(0);
+    if start >= 207 {
+        return sums;
+    }
+    let first = 207 - usize::from(start);
+    for p in 0..48usize {
+        sums = plus_multiple(sums, symbols[p], lanes_from(table, 16 * (first + p)));
     }
     sums
 }

@@ -3,12 +3,16 @@
 //! The sum of the locators of two places, divided by one of them, depends only on how far they stand apart. So for places at
 //! the same distance one row of a table has what sixteen of them need, wherever they begin.
 
-ghost use Rattle.std.specs.Prelude.{◌≡◌, ◌<◌, ◌+◌, ◌*◌, ◌-◌, ℕ, bit_xor, slice_index};
+ghost use Rattle.std.specs.Prelude.{◌≡◌, ◌<◌, ◌+◌, ◌*◌, ◌-◌, ◌++◌, ℕ, bit_xor, slice_index};
+ghost use Rattle.std.specs.Simd.Lanes.{chunk};
 ghost use Rattle.gf_field.specs.Field.{power, times};
+ghost use Rattle.rs_erase.specs.Spaced.{HasRows};
 
+use crate::row::{lanes_from, write_lanes};
 use crate::zech_sums::running_sums;
 use gf_field::Gf;
 use std::marker::Model;
+use std::simd::prelude::*;
 
 /// A distance between places, prepared for all patterns in which it is that of places of the message.
 #[derive(Drop)]
@@ -68,14 +72,34 @@ fn quotients_of_one() -> [u8; 255]
 /// Writes a row: from its own place on each one that stands a distance before the last.
 fn write_row(table: &mut [u8; 4096], row: usize, distance: usize, quotients: &[u8; 255])
     requires row { row < 255 }
-    requires distance { distance < 256 }
-    ensures there { (i : ℕ) → i < 16 → distance * i < row → slice_index table.new (16 * row + i)
-        ≡ slice_index quotients.now (row - distance * i) }
-    ensures before { (q : ℕ) → q < 16 * row → slice_index table.new q ≡ slice_index table.old q }
+    requires earlier { HasRows distance quotients.now table.old row }
+    ensures { HasRows distance quotients.now table.new (row + 1) }
 {
-    for i in 0..16usize {
-        if distance * i < row {
-            table[16 * row + i] = quotients[row - distance * i];
-        }
+    let lanes = row_of(table, row, distance, quotients);
+    write_lanes(table, 16 * row, lanes);
+}
+
+/// The row: what is first, and what the row a distance before it has, one lane further on.
+fn row_of(table: &[u8; 4096], row: usize, distance: usize, quotients: &[u8; 255]) -> u8x16
+    requires row { row < 255 }
+    requires earlier { HasRows distance quotients.now table.now row }
+    ensures { (i : ℕ) → i < 16 → distance * i < row → slice_index result i ≡ slice_index quotients.now (row - distance * i) }
+{
+    let first = u8x16::splat(quotients[row]);
+    if distance == 0 || row <= distance {
+        return first;
     }
+    one_back(first, lanes_from(table, 16 * (row - distance)))
+}
+
+/// The last of the first lanes, and the others behind it but for their last.
+fn one_back(first: u8x16, others: u8x16) -> u8x16
+    ensures { result ≡ chunk 15 16 (first ++ others) }
+{
+    first.shuffle(
+        others,
+        [
+            15, 16, 17, 18, 19, 20, 21, 22, 23, 24, 25, 26, 27, 28, 29, 30,
+        ],
+    )
 }

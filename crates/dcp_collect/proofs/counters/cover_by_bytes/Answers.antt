@@ -1,12 +1,10 @@
-use Rattle.std.proofs.Common.{ℕ, ◌≡◌, ◌+◌, ◌*◌, ◌/◌, ◌<◌, ◌≤◌, inl, inr, List, length, length-set, get_or, slice_set, refl, sym, ap, ap₂, ◌∙◌, arith, rules}
-use Rattle.std.specs.Prelude.{slice_index}
+use Rattle.std.proofs.Common.{ℕ, ◌≡◌, ◌+◌, ◌*◌, ◌/◌, ◌<◌, ◌≤◌, inl, inr, List, length, length-set, get_or, slice_set, refl, sym, ap, ap₂, ◌∙◌, arith}
 use Rattle.std.proofs.lemmas.Bool.{cases_eq}
 use Rattle.std.proofs.lemmas.List.{get_or-set_same, get_or-set_other}
 use Rattle.std.proofs.lemmas.Nat.{div-add-mod'}
 use Rattle.std.proofs.Math.Nat.{mul-le-mul_left}
 use Rattle.dcp_pft.specs.Loss.{size}
 use Rattle.dcp_collect.specs.Counters.{has_enough, becomes_full}
-use Rattle.dcp_collect.specs.Sizes.{most_bytes}
 use Rattle.dcp_collect.proofs.Covering.{few_chunks, row_counted, row_skipped, rows_begin, rows_end, size_few}
 use Rattle.dcp_collect.proofs.CoveringRows.{more_full}
 use Rattle.dcp_collect.proofs.counters.cover_by_bytes.Goals.{then-chunk-chunks, else-chunk-chunks}

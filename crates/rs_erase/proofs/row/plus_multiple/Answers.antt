@@ -1,4 +1,4 @@
-use Rattle.std.proofs.Common.{map, rules, subst, sym, List, ℕ, ◌≡◌, bit_xor}
+use Rattle.std.proofs.Common.{map, rules, subst, sym, ℕ, ◌≡◌, bit_xor}
 use lib.Lanes.{zip2}
 use Rattle.gf_field.specs.Field.{times}
 use Rattle.rs_erase.proofs.LaneRows.{zero_lanes}

@@ -86,10 +86,10 @@ returns c =
     let has' : HasCodeWord c.args.pattern.now.places w = subst (λ (ds : List ℕ). HasCodeWord ds w) seen has in
     let same : take p.message es ≡ take p.message p.places = take-take p.message p.count p.places (omega arith) in
     let distance : c.spacing.inside.distance ≡ p.distance = c.spacing.view_is ∙ sym (ap (λ (v : SpacedPlaces). v.distance) c.pattern.view_is ∙ c.requires) in
-    let made = word_found es w r s p.factors p.weights p.starts p.lanes c.sums_of_runs-sums.result c.spacing.inside.table c.add_found.new.word p.distance p.message p.used
+    let made = word_found es w r s p.factors p.weights p.starts p.lanes c.write_sums.new.sums c.spacing.inside.table c.add_found.new.word p.distance p.message p.used
     (omega arith) c.pattern.invariant.are_places c.pattern.invariant.in_message c.told-word hw sy c.pattern.invariant.have_factors c.multiplied-symbols.ensures lr
     (λ j lt. ap (λ (z : ℕ). times z (scale_of (locators_of es) j)) (sym (get_or-take p.count p.weights j 0 (omega arith))) ∙ c.pattern.invariant.have_weights j (omega (arith, lt, length-locators_of es)))
-    c.pattern.invariant.have_lanes (subst (λ (d : ℕ). IsSpacing d c.spacing.inside.table) distance c.spacing.invariant.spacing) c.sums_of_runs-sums.ensures
+    c.pattern.invariant.have_lanes (subst (λ (d : ℕ). IsSpacing d c.spacing.inside.table) distance c.spacing.invariant.spacing) c.write_sums.ensures
     (λ vs lv each. c.add_found.ensures vs (lv ∙ ap (λ (zs : List ℕ). length zs) same)
     (λ j lt. each j (subst (λ (zs : List ℕ). j < length zs) (sym same) lt))
     ∙ ap (λ (zs : List ℕ). word_with zs vs w) (sym same)) in

@@ -2,7 +2,6 @@ use Rattle.std.proofs.Common.{arith, ap, length, subst, sym, List, ℕ, ◌+◌,
 use Rattle.std.specs.Option.{IfSome}
 use Rattle.rs_erase.specs.Code.{ArePlaces}
 use Rattle.rs_patterns.specs.Marks.{is_marked}
-use Rattle.rs_patterns.specs.Positions.{erased_positions}
 use Rattle.rs_patterns.proofs.Positions.{are_places, erased_length}
 use Rattle.rs_patterns.proofs.patterns.prepare.Goals as goal
 

@@ -1,10 +1,7 @@
-use Rattle.std.proofs.Common.{List, ap, subst, sym, ℕ, ◌≡◌, ◌+◌, Some, Option}
-use Rattle.std.specs.Option.{IfSome}
+use Rattle.std.proofs.Common.{List, subst, sym, ℕ}
 use Rattle.std.specs.Result.{OnOk}
 use Rattle.rs_erase.specs.Code.{HasCodeWord}
-use Rattle.rs_erase.specs.Spaced.{HasMessage, SpacedPlaces}
-use Rattle.rs_patterns.specs.Marks.{is_marked}
-use Rattle.rs_patterns.specs.Positions.{erased_positions}
+use Rattle.rs_erase.specs.Spaced.{HasMessage}
 use Rattle.rs_patterns.proofs.PatternPlaces.{pattern_in}
 use Rattle.rs_patterns.proofs.patterns.solve_once.Goals as goal
 

@@ -2,13 +2,13 @@ use Rattle.std.proofs.Common.{◌≡◌, ◌+◌, ◌-◌, ◌*◌, ◌<◌, ◌
 use Rattle.std.proofs.lemmas.Bool.{cases_lt}
 use Rattle.std.proofs.lemmas.Simd.{get_or-put_chunk_at, get_or-put_chunk_below, length-put_chunk}
 use Rattle.rs_erase.specs.Spaced.{spaced_sum}
-use Rattle.rs_erase.proofs.spaced.sums_of_runs.Goals as goal
+use Rattle.rs_erase.proofs.spaced.write_sums.Goals as goal
 
 pub loop-run-preserved : goal.loop-run-preserved
 loop-run-preserved c =
     let run = c.loop-run.run in
     let old = c.loop-run.sums in
-    let row = c.sums_of_run.result in
+    let row = c.run_sums.result in
     let new = c.write_lanes.new.bytes in
     let starts = c.args.starts.now in
     let is = c.write_lanes.ensures in
@@ -29,7 +29,7 @@ loop-run-preserved c =
             ap (λ (q : ℕ). get_or new (16 * q + i) 0) same
             ∙ ap (λ (zs : List ℕ). get_or zs (16 * run + i) 0) is
             ∙ get_or-put_chunk_at (16 * run) old row i 0 (omega arith) (omega arith)
-            ∙ c.sums_of_run.ensures small' i li
+            ∙ c.run_sums.ensures small' i li
             ∙ ap (λ (q : ℕ). spaced_sum c.args.table.now c.args.symbols.now (207 - get_or starts q 0) i 48) (sym same)
       ];
     }

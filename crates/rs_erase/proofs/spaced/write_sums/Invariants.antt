@@ -1,6 +1,6 @@
 use Rattle.std.proofs.Common.{ℕ, ◌≡◌, ◌+◌, ◌-◌, ◌*◌, ◌<◌, get_or, length}
 use Rattle.rs_erase.specs.Spaced.{spaced_sum}
-use Rattle.rs_erase.proofs.spaced.sums_of_runs.Given as goal
+use Rattle.rs_erase.proofs.spaced.write_sums.Given as goal
 
 abbrev pub invariant-loop-run : goal.invariant-loop-run
 invariant-loop-run l = record {
