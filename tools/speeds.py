@@ -170,7 +170,7 @@ def lossy(folder, name, lost, way, seed):
     """Writes what comes of a capture, also for tshark; answers the file's name."""
     packets = packets_of(pathlib.Path(folder, f"{name}.capture").read_bytes())
     left = [packets[number][index] for number, index in arriving(packets, lost, way, seed)[1]]
-    path = f"{name}.{lost}.{way[:6]}.capture"
+    path = f"{name}.{lost}.{way}.capture"
     pathlib.Path(folder, path).write_bytes(b"".join(left))
     pcap(f"{folder}/{path}.pcap", left)
     return path
