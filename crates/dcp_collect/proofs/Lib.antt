@@ -23,5 +23,5 @@ pub mod Joining
 pub mod SlotHeld
 pub mod Alone
 pub mod StoredWords
-pub mod OneByteChunks
+pub mod ShortChunks
 pub mod Ascending

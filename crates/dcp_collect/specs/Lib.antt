@@ -12,6 +12,6 @@ pub mod Counters
 pub mod Slots
 pub mod Row
 pub mod Made
-pub mod Multiples
+pub mod Short
 pub mod WholePackets
 pub mod Sizes

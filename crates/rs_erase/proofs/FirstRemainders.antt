@@ -64,9 +64,9 @@ none_first w = record {
   values = λ j pos le. word_value_zeros (power j) 48 ∙ sym (zero_times (nth_power (power j) 255));
 }
 
-pub one_first : (w r row new : List ℕ) (f k : ℕ) → k < 16 → length w ≡ 255 → f ≡ get_or w k 0
+pub next_first : (w r row new : List ℕ) (f k : ℕ) → k < 16 → k < length w → f ≡ get_or w k 0
     → IsMultipleRemainder 1 (254 - k) row → new ≡ add r (scale f row) → HasFirstRemainder w r k → HasFirstRemainder w new (k + 1)
-one_first w r row new f k lt lw hf hrow is h =
+next_first w r row new f k lt lw hf hrow is h =
     let lscale : length (scale f row) ≡ 48 = length-scale f row ∙ hrow.long in
     record {
       long = ap (λ (q : List ℕ). length q) is ∙ length-add_same r (scale f row) (h.long ∙ sym lscale) ∙ lscale;
@@ -77,9 +77,13 @@ one_first w r row new f k lt lw hf hrow is h =
           ∙ ap₂ bit_xor
           (h.values j pos le ∙ ap (λ (p : ℕ). times (word_value i (take k w)) (nth_power i p)) (let e : 255 - k ≡ 254 - k + 1 = omega (arith, lt) in e))
           (word_value_scale i f row ∙ ap (times f) (hrow.values j pos le ∙ one_times (nth_power i (254 - k)) (nth_power-lt i (254 - k))))
-          ∙ more_symbols i f k (254 - k) w (omega (arith, lt, lw)) hf
+          ∙ more_symbols i f k (254 - k) w lw hf
           ∙ ap (λ (p : ℕ). times (word_value i (take (k + 1) w)) (nth_power i p)) (let e : 254 - k ≡ 255 - (k + 1) = omega (arith, lt) in e);
     }
+
+pub one_first : (w r row new : List ℕ) (f k : ℕ) → k < 16 → length w ≡ 255 → f ≡ get_or w k 0
+    → IsMultipleRemainder 1 (254 - k) row → new ≡ add r (scale f row) → HasFirstRemainder w r k → HasFirstRemainder w new (k + 1)
+one_first w r row new f k lt lw = next_first w r row new f k lt (omega (arith, lt, lw))
 
 -- an element that is 0
 pub zero_first : (w r : List ℕ) (k : ℕ) → k < 16 → length w ≡ 255 → 0 ≡ get_or w k 0 → HasFirstRemainder w r k → HasFirstRemainder w r (k + 1)

@@ -25,3 +25,4 @@ pub mod SpacedWords
 pub mod ZechSums
 pub mod FirstRemainders
 pub mod SpacingRows
+pub mod ShortChunks

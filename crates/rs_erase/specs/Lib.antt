@@ -8,3 +8,4 @@ pub mod Rows
 pub mod Prepared
 pub mod Zech
 pub mod Spaced
+pub mod Short

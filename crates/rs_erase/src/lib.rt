@@ -29,6 +29,7 @@ mod root_powers;
 mod roots;
 mod row;
 mod runs;
+mod short_chunks;
 mod spaced;
 mod spacing;
 mod zech_logarithms;
@@ -39,5 +40,6 @@ pub use laws::{code_word_or_none, code_words_have_the_roots, one_code_word, one_
 pub use parity::encode;
 pub use places::solve;
 pub use roots::syndromes;
+pub use short_chunks::find_chunk;
 pub use spaced::{SpacedPattern, solve_spaced};
 pub use spacing::Spacing;

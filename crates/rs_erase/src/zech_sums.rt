@@ -80,7 +80,9 @@ fn run_before(starts: &[u8; 48], lens: &[u8; 48], used: usize, distance: usize, 
     requires within_limit { distance < 256 }
     ensures { result < used → slice_index starts.now result + distance * slice_index lens.now result ≡ place }
 {
-    for run in 0..used {
+    // From the last one on, which it mostly is if runs are of neighbours.
+    for n in 0..used {
+        let run = used - 1 - n;
         if usize::from(starts[run]) + distance * usize::from(lens[run]) == usize::from(place) {
             return run;
         }

@@ -25,7 +25,7 @@ const MOST_MARKS: usize = 255;
 
 // In chunks of so few bytes, and in packets of more fragments than these, erased places are taken for runs of neighbours: all
 // places of the chunk are few runs then, or a fragment has few places of it.
-const FEW_BYTES: usize = 16;
+const FEW_BYTES: usize = 64;
 
 const MANY_FRAGMENTS: usize = 64;
 
