@@ -13,7 +13,7 @@ IsSpacing distance table =
     (r i : ℕ) → r < 255 → i < 16 → distance * i < r
     → times (slice_index table (16 * r + i)) (bit_xor (power (r - distance * i)) 1) ≡ 1
 
--- the i-th element of the r-th of so many rows of 16 is the one at r - distance * i of these
+-- each of the first rows of the table has 16 bytes: row r has at place i the quotient at r - distance * i
 abbrev pub HasRows : ℕ → List ℕ → List ℕ → ℕ → Type 0
 HasRows distance quotients table rows =
     (r i : ℕ) → r < rows → i < 16 → distance * i < r → slice_index table (16 * r + i) ≡ slice_index quotients (r - distance * i)
