@@ -170,7 +170,12 @@ const PACKETS: &[Allowed] = &[WINDOW, REACH, FIRST, FRAMES];
 const READING: &[Allowed] = &[WINDOW, REACH, FIRST, FRAMES, IDLE, LIMIT];
 
 /// The commands of `drmcast`.
-pub const COMMANDS: &[Command] = &[
+pub(crate) fn commands() -> &'static [Command] {
+    COMMANDS
+}
+
+// Whatever names it is proved over each of its rows, so one function does.
+const COMMANDS: &[Command] = &[
     Command {
         name: "fac",
         words: &[],
@@ -264,7 +269,7 @@ pub const COMMANDS: &[Command] = &[
 ];
 
 /// The words of `drmpaths`, which has no command.
-pub const PATHS: Command = Command {
+pub(crate) const PATHS: Command = Command {
     name: "drmpaths",
     words: &[SEVERAL],
     reads_input: false,

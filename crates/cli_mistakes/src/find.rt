@@ -1,6 +1,6 @@
 //! The first mistake in words.
 
-use crate::commands::{COMMANDS, Command, PATHS};
+use crate::commands::{Command, PATHS, commands};
 use crate::mistake::{Expected, Mistake};
 use crate::value::{Allowed, Value};
 use cli_syntax::{
@@ -14,7 +14,7 @@ pub fn words_mistake(alloc: Global, words: &[String]) -> Option<Mistake<'_>> {
         return Some(Mistake::new(None, Expected::Command));
     };
     let name = name.as_str();
-    match COMMANDS.iter().find(|it| it.name == name) {
+    match commands().iter().find(|it| it.name == name) {
         Some(command) => mistake_of(alloc, *command, name, others),
         None => Some(Mistake::new(Some(name), Expected::Command)),
     }

@@ -16,7 +16,7 @@ mod find;
 mod mistake;
 mod value;
 
-pub use commands::{COMMANDS, Command, PATHS};
+pub use commands::Command;
 pub use find::{paths_mistake, words_mistake};
 pub use mistake::{Expected, Mistake};
 pub use value::{Allowed, Value};

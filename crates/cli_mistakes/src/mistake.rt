@@ -1,6 +1,6 @@
 //! A mistake in words, and how it is said.
 
-use crate::commands::{COMMANDS, Command};
+use crate::commands::{Command, commands};
 use crate::value::Allowed;
 use std::fmt::{self, Display, Formatter};
 
@@ -80,7 +80,7 @@ impl Display for Expected<'_> {
 
 fn write_commands<W: fmt::Write>(f: &mut Formatter<W>) -> fmt::Result {
     write!(f, "a command comes first, one of")?;
-    for command in COMMANDS {
+    for command in commands() {
         write!(f, " {}", command.name)?;
     }
     Ok(())

@@ -5,7 +5,7 @@ ghost use Rattle.drm_links.specs.Known.{RisesWhere};
 ghost use Rattle.drm_links.specs.Shelf.{IsFileWithin};
 ghost use Rattle.drm_adapt.specs.Files.{HoldsFile, IsCopy};
 
-use crate::Edge;
+use cli_notices::Edge;
 use drm_bits::{NoMemory, Octets};
 use drm_links::{Loaded, Shelf};
 use std::alloc::Global;
@@ -53,7 +53,7 @@ impl<'a, R: Files + Eprint> Shelf for FileShelf<'a, R> {
         ensures within { IsFileWithin result limit }
         ensures cause { RisesWhere self.old.faults self.new.faults (result ≡ Loaded.Failed) }
     {
-        match read_file(self.edge.system, alloc, name, limit) {
+        match read_file(self.edge.system(), alloc, name, limit) {
             Ok(loaded) => loaded,
             Err(fault) => {
                 // Without memory there is no line.

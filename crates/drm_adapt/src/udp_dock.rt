@@ -5,7 +5,8 @@ ghost use Rattle.drm_links.specs.Known.{RisesWhere};
 ghost use Rattle.drm_links.specs.Dock.{IsFresh, IsFailed};
 ghost use Rattle.drm_links.specs.Gathering.{IsFreshGroup, IsNotGathered};
 
-use crate::{Edge, UdpGroup, UdpLink};
+use crate::{UdpGroup, UdpLink};
+use cli_notices::Edge;
 use drm_bits::NoMemory;
 use drm_links::{Address, Addresses, Dock, GatheredGroup, Group, Link, LinkFault, Opened};
 use std::alloc::Global;
@@ -38,7 +39,7 @@ impl<'a, R: Net + Clock + Eprint> UdpDock<'a, R> {
     pub fn new(edge: &'a Edge<'a, R>) -> Self {
         UdpDock {
             edge,
-            failures: Vec::new(edge.alloc),
+            failures: Vec::new(edge.alloc()),
             faults: 0,
         }
     }
@@ -241,7 +242,7 @@ fn open_link<'a, R: Net + Clock + Eprint>(
     ensures faults { IfOk result (λ link. link.faults ≡ 0) }
     ensures idles { IfOk result (λ link. link.idles ≡ 0) }
 {
-    let socket = UdpSocket::bind(edge.system, socket_addr(at))?;
+    let socket = UdpSocket::bind(edge.system(), socket_addr(at))?;
     UdpLink::over(edge, socket, dest.map(socket_addr))
 }
 

@@ -2,9 +2,8 @@
 
 ghost use Rattle.std.specs.Prelude.{◌≡◌, ◌≤◌, None, IfOk, length};
 
-use crate::Edge;
 use crate::pace::Pace;
-use crate::refusals::{Acceptance, Sends, is_network_away};
+use cli_notices::{Acceptance, Edge, Sends};
 use drm_links::{Came, Link, Sent};
 use std::io::{self, Eprint, ErrorKind};
 use std::net::{SocketAddr, UdpSocket};
@@ -65,7 +64,7 @@ impl<'a, R: Clock + Eprint> UdpLink<'a, R> {
     // Whether nothing came, for a tenth of a second.
     fn is_idle(&self, fault: &io::Error) -> bool {
         if is_network_away(fault) {
-            thread::sleep(self.edge.system, Duration::from_millis(IDLE_MILLIS));
+            thread::sleep(self.edge.system(), Duration::from_millis(IDLE_MILLIS));
             return true;
         }
         is_quiet(fault)
@@ -75,13 +74,13 @@ impl<'a, R: Clock + Eprint> UdpLink<'a, R> {
     fn drop_until(&self, end: Instant) -> io::Result<()> {
         self.socket.set_nonblocking(true)?;
         for _ in 0..u64::MAX {
-            let left = end.duration_since(Instant::now(self.edge.system)?);
+            let left = end.duration_since(Instant::now(self.edge.system())?);
             if left.is_zero() {
                 break;
             }
             if recv_from(&self.socket, &mut [0; 1]).is_err() {
                 thread::sleep(
-                    self.edge.system,
+                    self.edge.system(),
                     left.min(Duration::from_millis(NAP_MILLIS)),
                 );
             }
@@ -120,7 +119,7 @@ impl<'a, R: Clock + Eprint> UdpLink<'a, R> {
         if let Some(acceptance) = news {
             self.edge
                 .say_acceptance(dest, acceptance, self.sends.lost());
-            self.sends.are_told(self.edge.system);
+            self.sends.are_told(self.edge.system());
         }
     }
 
@@ -142,8 +141,8 @@ impl<'a, R: Clock + Eprint> UdpLink<'a, R> {
         };
         let answer = self.transmit(bytes, dest);
         let is_alone = !self.edge.has_several();
-        self.sends.note(self.edge.system, answer, is_alone)?;
-        let news = self.sends.news(self.edge.system);
+        self.sends.note(self.edge.system(), answer, is_alone)?;
+        let news = self.sends.news(self.edge.system());
         self.tell(dest, news);
         Ok(())
     }
@@ -170,7 +169,7 @@ impl<'a, R: Clock + Eprint> Link for UdpLink<'a, R> {
     }
 
     fn send(&mut self, bytes: &[u8]) -> Sent {
-        self.pace.sends(self.edge.system);
+        self.pace.sends(self.edge.system());
         match self.send_over(bytes) {
             Ok(()) => Sent::Sent,
             Err(fault) => {
@@ -185,15 +184,23 @@ impl<'a, R: Clock + Eprint> Link for UdpLink<'a, R> {
         if millis == 0 {
             return;
         }
-        let ended = match self.pace.end_of_rest(self.edge.system, millis) {
+        let ended = match self.pace.end_of_rest(self.edge.system(), millis) {
             Ok(end) => self.drop_until(end),
             Err(fault) => Err(fault),
         };
         if ended.is_err() {
-            thread::sleep(self.edge.system, Duration::from_millis(u64::from(millis)));
+            thread::sleep(self.edge.system(), Duration::from_millis(u64::from(millis)));
         }
         let _ = self.socket.set_nonblocking(false);
     }
+}
+
+// That the network went away, which may come back, says nothing against a link that receives.
+fn is_network_away(fault: &io::Error) -> bool {
+    matches!(
+        fault.kind(),
+        ErrorKind::NetworkDown | ErrorKind::NetworkUnreachable | ErrorKind::HostUnreachable
+    )
 }
 
 // A signal came before anything else.

@@ -4,8 +4,8 @@
 //! system, and UDP.
 //!
 //! It builds on `drm_top` (`run`, the contract of all commands), `drm_adapt` (the system's files,
-//! streams and sockets, and what is said of them), `cli_program` (the words) and `cli_mistakes`
-//! (what is wrong with words that are refused).
+//! streams and sockets), `cli_notices` (what is said of them on standard error), `cli_program` (the
+//! words) and `cli_mistakes` (what is wrong with words that are refused).
 //!
 //! What a command does is in the crates `cmd_`, how its words are read in `drm_words`. Several
 //! networks received as one are another program, `drmpaths`.
@@ -16,8 +16,9 @@
 #![tactic(auto)]
 
 use cli_mistakes::words_mistake;
+use cli_notices::Edge;
 use cli_program::given_words;
-use drm_adapt::{Edge, FileShelf, StreamSink, StreamSource, UdpDock};
+use drm_adapt::{FileShelf, StreamSink, StreamSource, UdpDock};
 use drm_links::{Dock, Link, Shelf, Sink, Source};
 use drm_top::{no_memory, run};
 use std::alloc::Global;

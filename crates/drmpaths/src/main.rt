@@ -16,7 +16,7 @@
 use cli_mistakes::paths_mistake;
 use cli_program::given_words;
 use cmd_paths::{no_memory, run_paths};
-use drm_adapt::{Edge, StreamSink, UdpDock};
+use drm_adapt::{StreamSink, UdpDock};
 use drm_links::{Dock, Link, Sink};
 use std::alloc::Global;
 use std::env;

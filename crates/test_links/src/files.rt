@@ -1,7 +1,8 @@
 //! Files of the system as a shelf gives them.
 
 use crate::calls::{Gave, what_it_gave};
-use drm_adapt::{Edge, FileShelf};
+use cli_notices::Edge;
+use drm_adapt::FileShelf;
 use drm_links::Shelf;
 use std::alloc::Global;
 use std::io::Eprint;

@@ -1,6 +1,7 @@
 //! Datagrams over sockets of the loopback.
 
-use drm_adapt::{Edge, UdpDock};
+use cli_notices::Edge;
+use drm_adapt::UdpDock;
 use drm_links::{Address, Came, Dock, LONGEST_DATAGRAM, Link, Opened, Sent};
 use std::alloc::Global;
 use std::time::{Clock, Duration, Instant};

@@ -1,7 +1,8 @@
 //! Schedules over UDP, on the loopback.
 
 use crate::small::is_done;
-use drm_adapt::{Edge, UdpDock};
+use cli_notices::Edge;
+use drm_adapt::UdpDock;
 use drm_bits::zeros;
 use drm_links::{Address, Came, Dock, LONGEST_DATAGRAM, Link, Opened};
 use std::alloc::Global;

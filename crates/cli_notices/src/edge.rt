@@ -1,7 +1,7 @@
 //! What a program says to a person, beside what `run` writes.
 
 use crate::names::readable;
-use crate::refusals::Acceptance;
+use crate::sends::Acceptance;
 use jiff_core::civil::DateTime;
 use jiff_core::{Offset, Timestamp};
 use std::alloc::Global;
@@ -18,8 +18,8 @@ const BEFORE_NUMBER: &str = " (os error ";
 /// Nothing of these lines is in a contract. A line for which memory is lacking, or that standard error doesn't take, is lost.
 #[derive(Drop)]
 pub struct Edge<'a, R> {
-    pub(crate) system: &'a R,
-    pub(crate) alloc: Global,
+    system: &'a R,
+    alloc: Global,
     program: &'a str,
     /// How many addresses were reached, for each link to see.
     reached: AtomicU64,
@@ -36,12 +36,22 @@ impl<'a, R> Edge<'a, R> {
         }
     }
 
-    pub(crate) fn reaches_one_more(&self) {
+    /// The system under the links and files.
+    pub fn system(&self) -> &'a R {
+        self.system
+    }
+
+    pub fn alloc(&self) -> Global {
+        self.alloc
+    }
+
+    /// Takes note that a link to one more address is opened.
+    pub fn reaches_one_more(&self) {
         self.reached.fetch_add(1, Ordering::SeqCst);
     }
 
     /// Whether links to several addresses were opened, which aren't to wait for one another.
-    pub(crate) fn has_several(&self) -> bool {
+    pub fn has_several(&self) -> bool {
         self.reached.load(Ordering::SeqCst) > 1
     }
 }
@@ -55,7 +65,7 @@ impl<R: Eprint> Edge<'_, R> {
     }
 
     /// Writes why a call failed that had to do with a file.
-    pub(crate) fn say_fault_of(&self, name: &str, fault: io::Error) {
+    pub fn say_fault_of(&self, name: &str, fault: io::Error) {
         if let Ok(reason) = self.reason(fault) {
             self.say_about(name, reason);
         }
@@ -79,7 +89,7 @@ impl<R: Eprint> Edge<'_, R> {
     }
 
     /// Writes how the sends to an address stand, of which so many datagrams are lost.
-    pub(crate) fn say_acceptance(&self, dest: SocketAddr, acceptance: Acceptance, lost: u64) {
+    pub fn say_acceptance(&self, dest: SocketAddr, acceptance: Acceptance, lost: u64) {
         match acceptance {
             Acceptance::Accepted => {
                 self.say(dest, format_args!("accepted again, {lost} datagrams lost"));

@@ -11,7 +11,7 @@ const SECONDS_BETWEEN_LINES: u64 = 10;
 
 /// How the sends of a link stand.
 #[derive(Clone, Copy, Drop)]
-pub(crate) enum Acceptance {
+pub enum Acceptance {
     /// The last one was taken, or none was made.
     Accepted,
     /// The last one wasn't.
@@ -24,7 +24,7 @@ pub(crate) enum Acceptance {
 
 /// How the sends of a link have gone, and what a person was told.
 #[derive(Clone, Copy, Drop)]
-pub(crate) struct Sends {
+pub struct Sends {
     acceptance: Acceptance,
     /// Whether one has succeeded.
     has_succeeded: bool,
@@ -37,7 +37,7 @@ pub(crate) struct Sends {
 }
 
 impl Sends {
-    pub(crate) fn new() -> Self {
+    pub fn new() -> Self {
         Sends {
             acceptance: Acceptance::Accepted,
             has_succeeded: false,
@@ -47,19 +47,19 @@ impl Sends {
         }
     }
 
-    pub(crate) fn is_refused(&self) -> bool {
+    pub fn is_refused(&self) -> bool {
         matches!(self.acceptance, Acceptance::Refused { .. })
     }
 
     /// Datagrams that were refused since the last line that said that they are accepted.
-    pub(crate) fn lost(&self) -> u64 {
+    pub fn lost(&self) -> u64 {
         self.lost
     }
 
     /// Takes note of the answer to a send; an error is a fault of the link. Any other refusal is most likely a while without a
     /// route, an address, an interface or a buffer: its datagram is lost, as on any network. But a link that is alone and has
     /// sent nothing yet has a wrong address.
-    pub(crate) fn note<R: Clock>(
+    pub fn note<R: Clock>(
         &mut self,
         clock: &R,
         answer: io::Result<usize>,
@@ -94,7 +94,7 @@ impl Sends {
     }
 
     /// What a person is to be told now, if anything.
-    pub(crate) fn news<R: Clock>(&self, clock: &R) -> Option<Acceptance> {
+    pub fn news<R: Clock>(&self, clock: &R) -> Option<Acceptance> {
         if self.is_news && self.is_due(clock) {
             Some(self.acceptance)
         } else {
@@ -103,7 +103,7 @@ impl Sends {
     }
 
     /// What a person hasn't been told yet, however short ago the last line was.
-    pub(crate) fn last_news(&self) -> Option<Acceptance> {
+    pub fn last_news(&self) -> Option<Acceptance> {
         if self.is_news {
             Some(self.acceptance)
         } else {
@@ -123,19 +123,11 @@ impl Sends {
     }
 
     /// Takes note that a person was told how it stands.
-    pub(crate) fn are_told<R: Clock>(&mut self, clock: &R) {
+    pub fn are_told<R: Clock>(&mut self, clock: &R) {
         self.told = Instant::now(clock).ok();
         self.is_news = false;
         if !self.is_refused() {
             self.lost = 0;
         }
     }
-}
-
-/// That the network went away, which may come back, says nothing against a link that receives.
-pub(crate) fn is_network_away(fault: &io::Error) -> bool {
-    matches!(
-        fault.kind(),
-        ErrorKind::NetworkDown | ErrorKind::NetworkUnreachable | ErrorKind::HostUnreachable
-    )
 }
