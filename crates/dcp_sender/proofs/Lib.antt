@@ -1,4 +1,3 @@
-pub mod MakingLemmas
 pub mod Taken
 pub mod Lists
 pub mod Layouts

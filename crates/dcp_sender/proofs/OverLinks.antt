@@ -28,10 +28,6 @@ all_of carry seq packet cut datagrams same are = record {
   each = λ i none below. carried carry seq i packet (slice_index_or datagrams i none) cut same (are.0 i none below);
 }
 
--- a packet that isn't above the limit
-pub small_enough : (carry : Carry) (len : ℕ) → is_large carry len ≡ false → len ≤ most_packet carry
-small_enough carry len small = grind (arith, nat_tests)
-
 -- a packet that is carried whole
 pub whole_carried : (carry : Carry) (seq : ℕ) (packet : List ℕ) → carry ≡ Plain → CarriesText carry seq packet packet
 whole_carried carry seq packet is = record {

@@ -1,4 +1,3 @@
-pub mod Making
 pub mod Layout
 pub mod Sending
 pub mod Packets

@@ -3,8 +3,7 @@ use Rattle.std.specs.Prelude.{ℕ, ◌≡◌, Bool, nat_lt, List, length}
 use Rattle.dcp_pft.specs.declared.carry.Carry.{Carry}
 use Rattle.dcp_pft.specs.Limits.{most_packet}
 use Rattle.drm_links.specs.History.{GroupEvent}
-use Rattle.drm_links.specs.Calls.{Call, each, sends}
-use Rattle.dcp_sender.specs.Making.{CallsMake}
+use Rattle.drm_links.specs.Calls.{Call, each, sends, CallsMake}
 use Rattle.dcp_sender.specs.CarriesText.{AreOf}
 
 -- a packet of so many bytes is above the limit of the carry

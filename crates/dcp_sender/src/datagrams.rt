@@ -4,9 +4,8 @@ ghost use Rattle.std.specs.Prelude.{ℕ, List, [], ◌≡◌, ◌<◌, ◌≤◌
 ghost use Rattle.std.specs.List.{concat};
 ghost use Rattle.dcp_pft.specs.Limits.{longest_packet, most_fragment, most_fragments};
 ghost use Rattle.dcp_pft.specs.Cutting.{IsShapeOf};
-ghost use Rattle.drm_links.specs.Calls.{sends};
+ghost use Rattle.drm_links.specs.Calls.{sends, CallsMake};
 ghost use Rattle.dcp_sender.specs.CarriesText.{most_room};
-ghost use Rattle.dcp_sender.specs.Making.{CallsMake};
 ghost use Rattle.dcp_sender.specs.Sending.{AreAll};
 
 use crate::Outlets;

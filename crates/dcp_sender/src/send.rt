@@ -2,8 +2,7 @@
 
 ghost use Rattle.std.specs.Prelude.{◌≡◌, ◌≤◌, ◌∷◌, [], length};
 ghost use Rattle.drm_links.specs.Link.{longest_kept};
-ghost use Rattle.drm_links.specs.Calls.{Send};
-ghost use Rattle.dcp_sender.specs.Making.{CallsMake};
+ghost use Rattle.drm_links.specs.Calls.{Send, CallsMake};
 
 use crate::Outlets;
 

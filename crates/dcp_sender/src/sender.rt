@@ -4,7 +4,7 @@ ghost use Rattle.std.specs.Prelude.{◌≡◌, ◌≤◌, ℕ, List, false, leng
 ghost use Rattle.dcp_pft.specs.Limits.{most_fragments};
 ghost use Rattle.dcp_pft.specs.Carrying.{CarryFits};
 ghost use Rattle.drm_links.specs.Sink.{WritesWhole};
-ghost use Rattle.dcp_sender.specs.Making.{CallsMake};
+ghost use Rattle.drm_links.specs.Calls.{CallsMake};
 ghost use Rattle.dcp_sender.specs.CarriesText.{CarriesText, is_too_long};
 ghost use Rattle.dcp_sender.specs.OverLinks.{is_large, over_each, SendsPacket};
 

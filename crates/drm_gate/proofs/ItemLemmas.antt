@@ -4,10 +4,8 @@ use Rattle.dcp_pft.specs.declared.carry.Carry.{Carry}
 use Rattle.dcp_pft.specs.Limits.{most_fragments}
 use Rattle.dcp_collect.specs.Runs.{CollectorItem, Packet}
 use Rattle.drm_links.specs.History.{GroupEvent}
-use Rattle.drm_links.specs.Calls.{sends, CallsCome}
-use Rattle.drm_links.proofs.CallLemmas.{Come-each_none}
-use Rattle.dcp_sender.specs.Making.{CallsMake}
-use Rattle.dcp_sender.proofs.MakingLemmas.{Make-none}
+use Rattle.drm_links.specs.Calls.{sends, CallsCome, CallsMake}
+use Rattle.drm_links.proofs.CallLemmas.{Come-each_none, Make-none}
 use Rattle.dcp_sender.specs.CarriesText.{AreOf}
 use Rattle.dcp_sender.specs.Packets.{IsAny, sequence_of}
 use Rattle.dcp_sender.specs.OverLinks.{is_large, over_each, SendsPacket}

@@ -7,12 +7,10 @@ use Rattle.std.proofs.lemmas.List.Elements.{filter_map-append}
 use Rattle.dcp_pft.specs.declared.carry.Carry.{Carry}
 use Rattle.dcp_pft.specs.Limits.{most_fragments}
 use Rattle.drm_links.specs.History.{GroupEvent, Received}
-use Rattle.drm_links.specs.Calls.{NoneUp}
-use Rattle.dcp_sender.specs.Making.{CallsMake}
+use Rattle.drm_links.specs.Calls.{NoneUp, CallsMake}
 use Rattle.dcp_sender.specs.OverLinks.{over_each}
-use Rattle.dcp_sender.proofs.MakingLemmas.{Make-same_count}
-use Rattle.recv_reading.proofs.Common.{Answer, Datagram, Failed, datagram_of, Taken, CollectorState, ready, CollectorItem, IsItem, MayBeFirst, KeepsFirst, first_of}
-use Rattle.recv_reading.proofs.Common.{ReadingState, new_reading, has_enough, has_ended, word_of, ReadingReached, ReadingWaits, bounds_of, AreUsable, made, datagrams, HasGiven, CollectorSteps, ReadingEndsBy}
+use Rattle.drm_links.proofs.CallLemmas.{Make-same_count}
+use Rattle.recv_reading.proofs.Common.{Answer, Datagram, Failed, datagram_of, Taken, CollectorState, ready, CollectorItem, IsItem, MayBeFirst, KeepsFirst, first_of, ReadingState, new_reading, has_enough, has_ended, word_of, ReadingReached, ReadingWaits, bounds_of, AreUsable, made, datagrams, HasGiven, CollectorSteps, ReadingEndsBy}
 use Rattle.recv_reading.specs.declared.options.ReceiveOptions.{ReceiveOptions}
 use Rattle.recv_reading.specs.declared.reason.EndWord.{EndWord}
 use Rattle.recv_reading.specs.declared.reason.EndWord.TheVariants as word

@@ -5,7 +5,7 @@ use Rattle.dcp_pft.specs.Limits.{most_fragments}
 use Rattle.dcp_collect.specs.CollectorState.{CollectorState}
 use Rattle.dcp_collect.specs.Runs.{CollectorItem, IsItem}
 use Rattle.drm_links.specs.History.{GroupEvent}
-use Rattle.dcp_sender.specs.Making.{CallsMake}
+use Rattle.drm_links.specs.Calls.{CallsMake}
 use Rattle.dcp_sender.specs.OverLinks.{over_each}
 use Rattle.recv_reading.specs.First.{first_of}
 use Rattle.drm_gate.specs.declared.tally.Tally.{Tally}

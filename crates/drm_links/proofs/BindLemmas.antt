@@ -1,20 +1,22 @@
 -- Links that are opened to receive over them: what went over them, and the closings where the openings end early.
-use Rattle.std.proofs.Common.{◌≡◌, ℕ, zero, suc, ◌<◌, ◌≤◌, ◌^◌, inl, inr, List, [], ◌∷◌, ◌++◌, length, take, replicate, slice_index_or, map, true, Option, None, Some, IsNone, refl, sym, ◌∙◌, ap, subst, arith}
+use Rattle.std.proofs.Common.{◌≡◌, ℕ, zero, suc, ◌<◌, ◌≤◌, ◌^◌, inl, inr, List, [], ◌∷◌, length, take, replicate, slice_index_or, map, true, Some, IsNone, refl, sym, ◌∙◌, ap, subst, arith}
 use Rattle.std.proofs.lemmas.List.{get_or-map, get_or_default, length-map}
 use Rattle.std.specs.FinMap as maps
-use Rattle.drm_links.specs.Known.{Known, IfBothKnown, CountsCall, Throughout, KnownThrough}
+use Rattle.drm_links.specs.Known.{Known, IfBothKnown, CountsCall, KnownThrough}
 use Rattle.drm_links.specs.Link.{Answer, Traffic}
-use Rattle.drm_links.specs.Hearing.{AreNext, LinkHeard, HeardThroughout}
-use Rattle.drm_links.specs.Dock.{DockContents, LinkStart, Over, DockOpens, address_key, over_of, first_traffic, after_close, after_failure, AreDifferent, DockKnownThrough, OpeningFinds, FindsNone, HasLink, after_openings}
+use Rattle.drm_links.specs.Hearing.{LinkHeard}
+use Rattle.drm_links.specs.Dock.{DockContents, LinkStart, Over, DockOpens, address_key, first_traffic, after_close, after_failure, AreDifferent, DockKnownThrough, OpeningFinds, FindsNone, HasLink, after_openings}
 use Rattle.drm_links.specs.declared.dock.Address.{Address}
 use Rattle.drm_links.specs.declared.dock.Opened.TheVariants as opened
 use Rattle.drm_links.proofs.KnownLemmas.{Tells-then, Tells-both}
+use Rattle.drm_links.proofs.Hearing.{heard_contents}
 use Rattle.drm_links.proofs.Places.{index_of}
 use Rattle.drm_links.specs.Gathering.{after_closes, nothing, with_none}
 use Rattle.drm_links.specs.Members.{HasGone, HaveGone}
 use Rattle.drm_links.specs.Binding.{LinkHears, HearsEach, BindsFew, StopsBehind, heard}
 use Rattle.drm_links.specs.declared.member.Member.{Member}
 use Rattle.drm_links.proofs.OpeningLemmas.{Opened as AreOpen, docks_more, not_found_at, openings_gone}
+pub use Rattle.drm_links.proofs.ReachLemmas.{HaveFirst, all_links}
 use Rattle.drm_links.proofs.ReachLemmas.{nothing_gone}
 
 -- one for each place
@@ -42,26 +44,6 @@ none_gone (over ∷ overs) (a ∷ addresses) contents many each =
     ∙ ap (λ gone. with_none addresses (maps.insert contents.gone (address_key a) gone)) (each zero over (omega arith))
 
 -- ---- one link
-
--- What told how it starts tells still: these answers came over it, and nothing else went.
-pub heard_contents : (a b : Option Traffic) (start : LinkStart) (answers : List Answer) → HeardThroughout answers a b → a ≡ Some (first_traffic start) → length answers ≤ 2 ^ 62
-    → (traffic : Traffic) × (b ≡ Some traffic) × (over_of traffic ≡ heard answers) × AreNext start.ahead answers traffic.ahead
-heard_contents None b start answers answers_heard is few = absurd (cc)
-heard_contents (Some x) None start answers answers_heard is few =
-    let same : x ≡ first_traffic start = cc in
-    let calls : x.calls ≡ 0 = ap (λ (t : Traffic). t.calls) same in
-    absurd (omega (arith, answers_heard, calls, few))
-heard_contents (Some x) (Some y) start answers answers_heard is few =
-    let same : x ≡ first_traffic start = cc in
-    let given : y.answers ≡ answers = answers_heard.given ∙ ap (λ (t : Traffic). t.answers ++ answers) same in
-    let gone : y.gone ≡ [] = answers_heard.gone ∙ ap (λ (t : Traffic). t.gone) same in
-    let waits : y.waits ≡ [] = answers_heard.waits ∙ ap (λ (t : Traffic). t.waits) same in
-    let waiting : y.waiting ≡ 0 = answers_heard.waiting ∙ ap (λ (t : Traffic). t.waiting) same in (
-      y,
-      refl,
-      (λ i. record { answers = given i; gone = gone i; rests = waits i ++ waiting i ∷ [] }),
-      subst (λ (t : Traffic). AreNext t.ahead answers y.ahead) same answers_heard.ahead,
-    )
 
 -- what went over a link that tells it, of which P holds
 abbrev pub WentOver : {L : Type 0} → (L → Known Traffic) → (List Answer → Type 0) → L → LinkStart → Type 0
@@ -181,11 +163,6 @@ missed_now addresses k at within is known a b c different before now counts =
 abbrev pub Closed : {X L : Type 0} → (X → L) → (L → Known Traffic) → List Address → List X → DockContents → DockContents → Type 0
 Closed link_of known addresses xs before after = (overs : List Over) → HaveGone known (as_members link_of xs) overs → after ≡ after_closes overs addresses before
 
--- the first k have the links of the first k addresses
-abbrev pub HaveFirst : {X L : Type 0} → (X → L) → (L → Known Traffic) → List Address → List X → ℕ → DockContents → Type 0
-HaveFirst {X} {L} link_of known addresses xs k contents =
-    (n : ℕ) (at : Address) (d : X) → n < k → HasLink known contents n (slice_index_or addresses n at) (link_of (slice_index_or xs n d))
-
 module _ {X L : Type 0} (link_of : X → L) (known : L → Known Traffic) (addresses : List Address) (xs : List X) (k : ℕ) (size : length xs ≡ k) where
   first_gone : (contents : DockContents) → HaveFirst link_of known addresses xs k contents → HaveGone known (as_members link_of xs) (replicate k nothing)
   first_gone contents first =
@@ -235,17 +212,3 @@ hears_nothing_gone P addresses x y hears =
     ∙ (none_gone hears.overs addresses (after_openings addresses x) hears.as_many
     (λ k none within. ap (λ (o : Over). o.gone) (hears.each k (record { ip = []; port = 0 }) none within).2.over_is)
     ∙ ap (with_none addresses) (openings_gone addresses x))
-
--- ---- all links at once
-
-pub all_links : {X L : Type 0} (link_of : X → L) (known : L → Known Traffic) (addresses : List Address) (xs : List X) (n : ℕ) (a b : Known DockContents) → DockKnownThrough a b (λ _. Unit {0})
-    → ((k : ℕ) (d : X) → k < n → (at : Address) → DockKnownThrough a b (λ contents. HasLink known contents k (slice_index_or addresses k at) (link_of (slice_index_or xs k d))))
-    → DockKnownThrough a b (HaveFirst link_of known addresses xs n)
-all_links {X} link_of known addresses xs n a b = linked a.contents b.contents
-  where
-    linked : (a b : Option DockContents) → Throughout a b (λ _ _. Unit {0})
-        → ((k : ℕ) (d : X) → k < n → (at : Address) → Throughout a b (λ contents _. HasLink known contents k (slice_index_or addresses k at) (link_of (slice_index_or xs k d))))
-        → Throughout a b (λ contents _. HaveFirst link_of known addresses xs n contents)
-    linked a None any each = tt
-    linked None (Some y) any each = any
-    linked (Some x) (Some y) any each = λ k at d within. each k d within at

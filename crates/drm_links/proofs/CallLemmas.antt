@@ -1,11 +1,11 @@
 -- What comes of calls, and of others behind them.
-use Rattle.std.proofs.Common.{◌≡◌, ℕ, zero, suc, ◌+◌, ◌-◌, ◌≤◌, Bool, true, false, List, [], ◌∷◌, ◌++◌, length, get_or, set, MatchBool, Option, None, Some, refl, sym, ◌∙◌, ap, subst, arith, append_assoc, length-append}
+use Rattle.std.proofs.Common.{◌≡◌, ℕ, zero, suc, ◌+◌, Bool, true, false, List, [], ◌∷◌, ◌++◌, length, get_or, set, MatchBool, Option, None, Some, refl, sym, ◌∙◌, ap, subst, arith, length-append}
 use Rattle.std.proofs.Math.ListN.{length-set}
 use Rattle.drm_links.specs.Known.{Known, one_more}
 use Rattle.drm_links.specs.declared.link.Sent.{Sent}
 use Rattle.drm_links.specs.declared.link.Sent.TheVariants as send
-use Rattle.drm_links.specs.History.{GroupEvent, SentTo, RestedAt, History, EventsHappen, TellsEvents, GroupTells, faults_of, failed_in, risen}
-use Rattle.drm_links.specs.Calls.{Call, Rest, Send, is_up, up_after, NoneUp, ups, each, CallsCome, GroupMakes}
+use Rattle.drm_links.specs.History.{GroupEvent, SentTo, RestedAt, History, EventsHappen, TellsEvents, GroupTells, failed_in, risen}
+use Rattle.drm_links.specs.Calls.{Call, Rest, Send, is_up, up_after, each, CallsCome, CallsMake}
 
 -- ---- cases
 
@@ -90,55 +90,37 @@ Come-then (Send k bytes ∷ calls) calls' events events' u v w first second =
     (λ q. Come-then calls calls' events events' u v w q second)
     first
 
-pub Makes-then : (calls calls' : List Call) (u v w : List Bool) (a b c : Known History) → GroupMakes calls u v a b → GroupMakes calls' v w b c → GroupMakes (calls ++ calls') u w a c
-Makes-then calls calls' u v w a b c first second = record {
+pub Make-then : (calls calls' : List Call) (u v w : List Bool) (P Q R : List GroupEvent → Type 0) → ((x y : List GroupEvent) → P x → Q y → R (x ++ y))
+    → CallsMake calls u v P → CallsMake calls' v w Q → CallsMake (calls ++ calls') u w R
+Make-then calls calls' u v w P Q R join first second = record {
   events = first.events ++ second.events;
   come = Come-then calls calls' first.events second.events u v w first.come second.come;
-  tells = Tells-then first.events second.events a b c first.tells second.tells;
+  happens = join first.events second.events first.happens second.happens;
 }
 
 -- ---- one call, or none
 
--- nothing comes of calls where no link is up
-pub Come-none : (calls : List Call) (u : List Bool) → NoneUp u → CallsCome u calls [] u
-Come-none [] u down = (refl, refl)
-Come-none (Rest k millis ∷ calls) u down = match_false (is_up u k) _ (down k) (Come-none calls u down)
-Come-none (Send k bytes ∷ calls) u down = match_false (is_up u k) _ (down k) (Come-none calls u down)
-
-pub Come-rest : (k millis : ℕ) (u : List Bool) → is_up u k ≡ true → CallsCome u (Rest k millis ∷ []) (RestedAt k millis ∷ []) u
-Come-rest k millis u up = match_true (is_up u k) _ up ([], refl, (refl, refl))
-
-pub Come-no_rest : (k millis : ℕ) (u : List Bool) → is_up u k ≡ false → CallsCome u (Rest k millis ∷ []) [] u
-Come-no_rest k millis u down = match_false (is_up u k) _ down (refl, refl)
-
-pub Come-send : (k : ℕ) (bytes : List ℕ) (answer : Sent) (u : List Bool) → is_up u k ≡ true → CallsCome u (Send k bytes ∷ []) (SentTo k bytes answer ∷ []) (up_after u k answer)
-Come-send k bytes answer u up = match_true (is_up u k) _ up (answer, [], refl, (refl, refl))
-
--- nothing comes of a send over a link that failed
-pub Come-no_send : (k : ℕ) (bytes : List ℕ) (u : List Bool) → is_up u k ≡ false → CallsCome u (Send k bytes ∷ []) [] u
-Come-no_send k bytes u down = match_false (is_up u k) _ down (refl, refl)
-
 -- nothing happened, where nothing comes of the calls
-pub Makes-none : (calls : List Call) (u : List Bool) (a : Known History) → CallsCome u calls [] u → GroupMakes calls u u a a
-Makes-none calls u a come = record { events = []; come = come; tells = Tells-none a }
+pub Make-none : (calls : List Call) (u : List Bool) (P : List GroupEvent → Type 0) → CallsCome u calls [] u → P [] → CallsMake calls u u P
+Make-none calls u P come none = record { events = []; come = come; happens = none }
 
-pub Makes-rest : (k millis : ℕ) (u v : List Bool) (a b : Known History) → is_up u k ≡ true → GroupTells (RestedAt k millis ∷ []) a b → v ≡ u → GroupMakes (Rest k millis ∷ []) u v a b
-Makes-rest k millis u v a b up tells same = record {
+pub Make-rest : (k millis : ℕ) (u v : List Bool) (P : List GroupEvent → Type 0) → is_up u k ≡ true → P (RestedAt k millis ∷ []) → v ≡ u → CallsMake (Rest k millis ∷ []) u v P
+Make-rest k millis u v P up happens same = record {
   events = RestedAt k millis ∷ [];
-  come = subst (λ (l : List Bool). CallsCome u (Rest k millis ∷ []) (RestedAt k millis ∷ []) l) (sym same) (Come-rest k millis u up);
-  tells = tells;
+  come = subst (λ (l : List Bool). CallsCome u (Rest k millis ∷ []) (RestedAt k millis ∷ []) l) (sym same) (match_true (is_up u k) _ up ([], refl, (refl, refl)));
+  happens = happens;
 }
 
-pub Makes-send : (k : ℕ) (bytes : List ℕ) (answer : Sent) (u v : List Bool) (a b : Known History) → is_up u k ≡ true → GroupTells (SentTo k bytes answer ∷ []) a b → v ≡ up_after u k answer → GroupMakes (Send k bytes ∷ []) u v a b
-Makes-send k bytes answer u v a b up tells after = record {
+pub Make-send : (k : ℕ) (bytes : List ℕ) (answer : Sent) (u v : List Bool) (P : List GroupEvent → Type 0) → is_up u k ≡ true → P (SentTo k bytes answer ∷ []) → v ≡ up_after u k answer → CallsMake (Send k bytes ∷ []) u v P
+Make-send k bytes answer u v P up happens after = record {
   events = SentTo k bytes answer ∷ [];
-  come = subst (λ (l : List Bool). CallsCome u (Send k bytes ∷ []) (SentTo k bytes answer ∷ []) l) (sym after) (Come-send k bytes answer u up);
-  tells = tells;
+  come = subst (λ (l : List Bool). CallsCome u (Send k bytes ∷ []) (SentTo k bytes answer ∷ []) l) (sym after) (match_true (is_up u k) _ up (answer, [], refl, (refl, refl)));
+  happens = happens;
 }
 
 -- a send over a link that failed
-pub Makes-no_send : (k : ℕ) (bytes : List ℕ) (u : List Bool) (a : Known History) → is_up u k ≡ false → GroupMakes (Send k bytes ∷ []) u u a a
-Makes-no_send k bytes u a down = Makes-none (Send k bytes ∷ []) u a (Come-no_send k bytes u down)
+pub Make-no_send : (k : ℕ) (bytes : List ℕ) (u : List Bool) (P : List GroupEvent → Type 0) → is_up u k ≡ false → P [] → CallsMake (Send k bytes ∷ []) u u P
+Make-no_send k bytes u P down none = Make-none (Send k bytes ∷ []) u P (match_false (is_up u k) _ down (refl, refl)) none
 
 -- ---- so many, and more of them
 
@@ -146,27 +128,6 @@ Makes-no_send k bytes u a down = Makes-none (Send k bytes ∷ []) u a (Come-no_s
 pub Come-each_none : (calls : ℕ → List Call) (u : List Bool) → ((i : ℕ) → CallsCome u (calls i) [] u) → (n : ℕ) → CallsCome u (each calls n) [] u
 Come-each_none calls u none zero = (refl, refl)
 Come-each_none calls u none (suc n) = Come-then (each calls n) (calls n) [] [] u u u (Come-each_none calls u none n) (none n)
-
--- the calls for one more
-pub Makes-next : (front : List Call) (calls : ℕ → List Call) (n : ℕ) (u v w : List Bool) (a b c : Known History) → GroupMakes (front ++ each calls n) u v a b → GroupMakes (calls n) v w b c → GroupMakes (front ++ each calls (suc n)) u w a c
-Makes-next front calls n u v w a b c made next =
-    subst (λ (l : List Call). GroupMakes l u w a c) (append_assoc front (each calls n) (calls n))
-    (Makes-then (front ++ each calls n) (calls n) u v w a b c made next)
-
--- where nothing comes of the calls that are left
-no_more : (calls : ℕ → List Call) (front : List Call) (m n : ℕ) (u v : List Bool) (a b : Known History) → ((i : ℕ) → CallsCome v (calls i) [] v)
-    → GroupMakes (front ++ each calls n) u v a b → GroupMakes (front ++ each calls (n + m)) u v a b
-no_more calls front zero n u v a b none made = subst (λ (i : ℕ). GroupMakes (front ++ each calls i) u v a b) (let e : n ≡ n + 0 = omega arith in e) made
-no_more calls front (suc m) n u v a b none made =
-    let more = no_more calls front m n u v a b none made in
-    let longer : suc (n + m) ≡ n + suc m = omega arith in
-    subst (λ (i : ℕ). GroupMakes (front ++ each calls i) u v a b) longer
-    (Makes-next front calls (n + m) u v v a b b more (Makes-none (calls (n + m)) v b (none (n + m))))
-
-pub Makes-all : (calls : ℕ → List Call) (front : List Call) (n all : ℕ) (u v : List Bool) (a b : Known History) → n ≤ all → ((i : ℕ) → CallsCome v (calls i) [] v)
-    → GroupMakes (front ++ each calls n) u v a b → GroupMakes (front ++ each calls all) u v a b
-Makes-all calls front n all u v a b within none made =
-    subst (λ (i : ℕ). GroupMakes (front ++ each calls i) u v a b) (let e : n + (all - n) ≡ all = omega arith in e) (no_more calls front (all - n) n u v a b none made)
 
 -- ---- which links are up
 
@@ -190,38 +151,5 @@ same_count (Send k bytes ∷ calls) events u v come =
     (λ q. same_count calls events u v q)
     come
 
-pub Makes-same_count : (calls : List Call) (u v : List Bool) (a b : Known History) → GroupMakes calls u v a b → length v ≡ length u
-Makes-same_count calls u v a b made = same_count calls made.events u v made.come
-
-one_down : (u : List Bool) (k : ℕ) → is_up u k ≡ true → ups u ≡ ups (set u k false) + 1
-one_down [] k up = absurd cc
-one_down (true ∷ u) zero up = refl
-one_down (false ∷ u) zero up = absurd cc
-one_down (true ∷ u) (suc k) up = let more = one_down u k up in omega arith
-one_down (false ∷ u) (suc k) up = one_down u k up
-
-ups_after : (u : List Bool) (k : ℕ) (bytes : List ℕ) (answer : Sent) → is_up u k ≡ true → ups u ≡ ups (up_after u k answer) + faults_of (SentTo k bytes answer)
-ups_after u k bytes send.Sent up = omega arith
-ups_after u k bytes send.Failed up = one_down u k up
-
-case_up : (b : Bool) {P Q : Type 0} (R : Type 0) → (b ≡ true → P → R) → (Q → R) → MatchBool b P Q → R
-case_up true R f g h = f refl h
-case_up false R f g h = g h
-
--- as many calls failed as links did
-pub failed_links : (calls : List Call) (events : List GroupEvent) (u v : List Bool) → CallsCome u calls events v → ups u ≡ ups v + failed_in events
-failed_links [] events u v come = let e : ups v ≡ ups u = ap ups come.1 in let f : failed_in events ≡ 0 = ap failed_in come.0 in omega (arith, e, f)
-failed_links (Rest k millis ∷ calls) events u v come =
-    match_either (is_up u k) (ups u ≡ ups v + failed_in events)
-    (λ p. let more = failed_links calls p.0 u v p.2 in let e : failed_in events ≡ 0 + failed_in p.0 = ap failed_in p.1 in omega (arith, more, e))
-    (λ q. failed_links calls events u v q)
-    come
-failed_links (Send k bytes ∷ calls) events u v come =
-    case_up (is_up u k) (ups u ≡ ups v + failed_in events)
-    (λ up p.
-    let more = failed_links calls p.1 (up_after u k p.0) v p.3 in
-    let one = ups_after u k bytes p.0 up in
-    let e : failed_in events ≡ faults_of (SentTo k bytes p.0) + failed_in p.1 = ap failed_in p.2 in
-    omega (arith, more, one, e))
-    (λ q. failed_links calls events u v q)
-    come
+pub Make-same_count : (calls : List Call) (u v : List Bool) (P : List GroupEvent → Type 0) → CallsMake calls u v P → length v ≡ length u
+Make-same_count calls u v P made = same_count calls made.events u v made.come

@@ -1,5 +1,5 @@
 -- What a dock tells of a group that was closed.
-use Rattle.std.proofs.Common.{◌≡◌, ◌⊎◌, inl, inr, ℕ, zero, suc, ◌+◌, ◌<◌, cond, List, [], ◌∷◌, ◌++◌, length, Option, None, Some, Bool, false, refl, sym, ◌∙◌, ap, subst, arith, length-append}
+use Rattle.std.proofs.Common.{◌≡◌, ℕ, zero, suc, ◌<◌, cond, List, [], ◌∷◌, length, Option, None, Some, false, refl, sym, ◌∙◌, ap, arith, length-append}
 use Rattle.std.specs.Prelude.{◌≢◌, slice_index_or}
 use Rattle.std.specs.List.{AllByRecursion}
 use Rattle.std.specs.FinMap as map
@@ -7,13 +7,13 @@ use Rattle.std.specs.FinMap.{get-insert, gets}
 use Rattle.std.specs.Ordering.{nat_cmp, eq_by_cmp}
 use Rattle.std.specs.Cmp.Lexicographic.{slice_cmp, nat_list_cmp_total}
 use Rattle.std.proofs.lemmas.Grind.{common_steps}
-use Rattle.std.proofs.lemmas.List.{get_or_append_left, get_or_push}
 use Rattle.drm_links.specs.Dock.{DockContents, Over, address_key, after_close, AreDifferent}
 use Rattle.drm_links.specs.declared.dock.Address.{Address}
 use Rattle.drm_links.specs.History.{GroupEvent}
 use Rattle.drm_links.specs.Alone.{gone_at, over_at, over_source, overs_of}
 use Rattle.drm_links.specs.Gathering.{nothing, after_closes, after_source_close, after_disbanding}
 use Rattle.drm_links.proofs.OpeningLemmas.{one_address, other_key}
+use Rattle.drm_links.proofs.Places.{each_more}
 
 -- no address has this key
 abbrev HaveOthers : List ℕ → List Address → Type 0
@@ -50,16 +50,11 @@ pub overs_count : (n : ℕ) (events : List GroupEvent) → length (overs_of n ev
 overs_count zero events = refl
 overs_count (suc n) events = let before = overs_count n events in omega (arith, before, length-append (overs_of n events) (over_at n events ∷ []))
 
-below_or_last : (k n : ℕ) → k < suc n → (k < n) ⊎ (k ≡ n)
-below_or_last k n within = grind arith
-
 pub over_there : (k n : ℕ) (events : List GroupEvent) (none : Over) → k < n → slice_index_or (overs_of n events) k none ≡ over_at k events
 over_there k zero events none within = absurd (omega (arith, within))
 over_there k (suc n) events none within =
-    elim (below_or_last k n within) [
-      | inl below ↦ get_or_append_left (overs_of n events) (over_at n events ∷ []) none k (omega (arith, below, overs_count n events)) ∙ over_there k n events none below
-      | inr last ↦ get_or_push (overs_of n events) (over_at n events) none k (overs_count n events ∙ sym last) ∙ ap (λ (j : ℕ). over_at j events) (sym last)
-    ]
+    each_more (λ j over. over ≡ over_at j events) (overs_of n events) (overs_of (suc n) events) (over_at n events) n (overs_count n events) refl
+    (λ j d below. over_there j n events d below) refl k none (omega (arith, within))
 
 -- the link that is received from, if there is one, has another key
 abbrev pub HasOtherKey : Option Address → List ℕ → Type 0

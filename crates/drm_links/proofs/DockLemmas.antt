@@ -1,5 +1,5 @@
 -- The links of a dock in memory, and what it tells before and after a call.
-use Rattle.std.proofs.Common.{◌≡◌, ℕ, ◌+◌, ◌^◌, ◌≤◌, ◌⊎◌, inl, inr, Bool, true, false, cond, List, [], ◌∷◌, nat_le, Contains, Option, None, Some, IsNone, if◌then◌else◌, refl, sym, ◌∙◌, ap, subst, arith}
+use Rattle.std.proofs.Common.{◌≡◌, ℕ, ◌+◌, ◌^◌, ◌≤◌, ◌⊎◌, inl, inr, Bool, true, false, cond, List, [], ◌∷◌, nat_le, Contains, Option, None, Some, IsNone, refl, sym, ◌∙◌, ap, subst, arith}
 use Rattle.std.specs.Prelude as list
 use Rattle.std.specs.Ordering.{nat_cmp, is_eq, eq_by_cmp}
 use Rattle.std.specs.Cmp.{eq_by_cmp_equiv}
@@ -20,6 +20,7 @@ use Rattle.drm_links.specs.declared.dock.Address.{Address}
 use Rattle.drm_links.specs.declared.docked_link.ClosedLink.{ClosedLink}
 use Rattle.drm_links.specs.declared.dock.Opened.{Opened}
 use Rattle.drm_links.specs.declared.dock.Opened.TheVariants as opened
+use Rattle.drm_links.proofs.FilesLemmas.{changed_if}
 use Rattle.drm_links.proofs.MemoryLemmas.{both_known_for}
 
 -- ---- a map of links as a finite map
@@ -102,10 +103,6 @@ starts_of-empty =
     ∙ (ap (option_map start_of) (map.get-empty (slice_cmp nat_cmp) q) ∙ sym (map.get-empty (slice_cmp nat_cmp) q)))
 
 -- ---- a link that is put
-
-changed_if : {T : Type 0} (known : Bool) (change : T → T) (contents : T) → (if known then Some (change contents) else None) ≡ option_map change (if known then Some contents else None)
-changed_if true change contents = refl
-changed_if false change contents = refl
 
 pub contents-put : (dock after : DockState) (at : Address) (link : LinkState) → after ≡ record dock { links = map.insert dock.links (address_key at) link } → (dock_known after).contents ≡ option_map (with_start at (start_of link)) (dock_known dock).contents
 contents-put dock after at link is_after =

@@ -46,7 +46,7 @@ Loads-given TooLong name limit known file unlisted gives is = (unlisted, rw is a
 Loads-given Failed name limit known file unlisted gives is = inr (rw is at gives)
 Loads-given NoMemory name limit known file unlisted gives is = tt
 
-changed_if : {T : Type 0} (known : Bool) (change : T → T) (contents : T) → (if known then Some (change contents) else None) ≡ option_map change (if known then Some contents else None)
+pub changed_if : {T : Type 0} (known : Bool) (change : T → T) (contents : T) → (if known then Some (change contents) else None) ≡ option_map change (if known then Some contents else None)
 changed_if true change contents = refl
 changed_if false change contents = refl
 

@@ -1,22 +1,22 @@
 -- Groups of a dock in memory: what it tells once they are opened and closed.
-use Rattle.std.proofs.Common.{◌≡◌, ℕ, zero, suc, ◌+◌, ◌<◌, ◌≤◌, ◌^◌, ◌⊎◌, inl, inr, Bool, true, false, List, [], ◌∷◌, ◌++◌, length, length-append, map, replicate, slice_index_or, nat_le, Contains, Option, None, Some, IsNone, if◌then◌else◌, refl, sym, ◌∙◌, ap, subst, arith}
-use Rattle.std.proofs.lemmas.List.{length-map, get_or_default, get_or_append_left, get_or_push}
-use Rattle.drm_links.specs.Known.{Known, KnownThrough, Throughout, contents_for}
-use Rattle.drm_links.specs.Link.{Answer, Traffic}
-use Rattle.drm_links.specs.Dock.{DockContents, LinkStart, Over, DockOpens, DockCloses, OpeningFinds, FindsNone, HasLink, first_traffic, start_at, after_opening, after_failure, after_close, over_of}
-use Rattle.drm_links.specs.Gathering.{GroupStarts, TakenAt, DockGathers, DockDisbands, GathersNone, ReachesFew, nothing, after_reaches, after_gathering, after_closes, after_source_close, with_history, after_disbanding}
+use Rattle.std.proofs.Common.{◌≡◌, ℕ, zero, suc, ◌<◌, ◌^◌, inl, inr, Bool, true, false, List, [], ◌∷◌, length, replicate, slice_index_or, nat_le, Contains, Option, None, Some, if◌then◌else◌, refl, sym, ◌∙◌, ap, subst, arith}
+use Rattle.std.proofs.lemmas.List.{length-map, get_or-map}
+use Rattle.drm_links.specs.Known.{KnownThrough, Throughout}
+use Rattle.drm_links.specs.Link.{Traffic}
+use Rattle.drm_links.specs.Dock.{DockContents, LinkStart, Over, DockOpens, DockCloses, OpeningFinds, FindsNone, first_traffic, start_at, after_opening}
+use Rattle.drm_links.specs.Gathering.{TakenAt, DockGathers, DockDisbands, GathersNone, ReachesFew, after_reaches, after_closes, after_source_close, with_history}
 use Rattle.drm_links.specs.Members.{HaveLinks, AreUp, HasGone, HaveGone}
 use Rattle.drm_links.specs.MemoryLink.{LinkState, link_known, traffic_of}
 use Rattle.drm_links.specs.MemoryDock.{DockState, contents_of, dock_known}
-use Rattle.drm_links.specs.History.{GroupEvent}
-use Rattle.drm_links.specs.Alone.{over_at, over_source, overs_of}
+use Rattle.drm_links.specs.Alone.{over_source, overs_of}
 use Rattle.drm_links.specs.MemoryGroup.{GroupBookState, GroupState, GathersOver, AreInStep, ups_of, ahead_of, taken_by, sends_of, history_of, group_known}
 use Rattle.drm_links.specs.declared.dock.Address.{Address}
 use Rattle.drm_links.specs.declared.dock.Opened.TheVariants as opened
 use Rattle.drm_links.specs.declared.dock.GatheredGroup.TheVariants as gathered
 use Rattle.drm_links.specs.declared.member.Member.{Member}
 use Rattle.drm_links.proofs.KnownLemmas.{Opens-started}
-use Rattle.drm_links.proofs.GroupLemmas.{map_at}
+use Rattle.drm_links.proofs.Places.{index_of}
+use Rattle.drm_links.proofs.DisbandLemmas.{overs_count, over_there}
 
 -- ---- links that were opened
 
@@ -42,20 +42,14 @@ sends_taken to members contents many up links = record {
   as_many = length-map members (λ (m : Member LinkState). taken_by m.up (link_known m.link).contents) ∙ many;
   each = λ k at none within.
       let there : k < length members = omega (arith, many, within) in
-      let d : Member LinkState = some_member members k there in
-      let m : Member LinkState = slice_index_or members k d in
+      let d : Member LinkState = (index_of members k there).0 in
       let link = links k at d within in
-      let up_is : m.up ≡ true = up k d there in (
+      let up_is : (slice_index_or members k d).up ≡ true = up k d there in (
         link.0,
         link.1,
-        map_at (λ (n : Member LinkState). taken_by n.up (link_known n.link).contents) members k none m there (λ e. get_or_default members k e d there)
-            ∙ (λ i. taken_by (up_is i) (link.2 i)),
+        get_or-map (λ (n : Member LinkState). taken_by n.up (link_known n.link).contents) members k d none there ∙ (λ i. taken_by (up_is i) (link.2 i)),
       );
 }
-  where
-    some_member : (xs : List (Member LinkState)) (k : ℕ) → k < length xs → Member LinkState
-    some_member [] k within = absurd (omega (arith, within))
-    some_member (x ∷ xs) k within = x
 
 pub gathers_over : (source : LinkState) (room : ℕ) (to : List Address) (members : List (Member LinkState)) (group : GroupState) (x y : DockContents)
     → length members ≡ length to → AreUp members → group.members ≡ members → group.source ≡ source → group.book.events ≡ [] → group.book.room ≡ room
@@ -156,26 +150,12 @@ module _ (at : Address) (to : List Address) where
 
 -- ---- a group that is closed
 
-length_overs : (n : ℕ) (events : List GroupEvent) → length (overs_of n events) ≡ n
-length_overs zero events = refl
-length_overs (suc n) events = length-append (overs_of n events) (over_at n events ∷ []) ∙ (let e = length_overs n events in omega (arith, e))
-
-overs_at : (n k : ℕ) (events : List GroupEvent) (none : Over) → k < n → slice_index_or (overs_of n events) k none ≡ over_at k events
-overs_at zero k events none within = absurd (omega arith)
-overs_at (suc n) k events none within = elim (earlier_or_last k n within) [
-  | inl less ↦ get_or_append_left (overs_of n events) (over_at n events ∷ []) none k (let e = length_overs n events in omega (arith, less, e)) ∙ overs_at n k events none less
-  | inr last ↦ get_or_push (overs_of n events) (over_at n events) none k (length_overs n events ∙ sym last) ∙ ap (λ m. over_at m events) (sym last)
-]
-  where
-    earlier_or_last : (k n : ℕ) → k < suc n → (k < n) ⊎ (k ≡ n)
-    earlier_or_last k n within = grind (arith, within)
-
 all_gone : (members : List (Member LinkState)) (n : ℕ) (source : LinkState) (book : GroupBookState) → length members ≡ n → AreInStep source members book → HaveGone link_known members (overs_of n book.events)
 all_gone members n source book many steps = record {
-  as_many = length_overs n book.events ∙ sym many;
+  as_many = overs_count n book.events ∙ sym many;
   each = λ k d none within.
       let step = steps.sending k d within in
-      (step.traffic, step.told, step.went ∙ sym (overs_at n k book.events none (omega (arith, many, within))));
+      (step.traffic, step.told, step.went ∙ sym (over_there k n book.events none (omega (arith, many, within))));
 }
 
 pub disbanded : (from : Option Address) (to : List Address) (group : GroupState) (members : List (Member LinkState)) (source : LinkState) (book : GroupBookState) (x y z w : DockContents)

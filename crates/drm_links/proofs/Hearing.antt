@@ -3,9 +3,10 @@ use Rattle.std.proofs.Common.{◌≡◌, ℕ, ◌+◌, ◌≤◌, ◌^◌, lengt
 use Rattle.std.proofs.lemmas.List.{append-nil}
 use Rattle.drm_links.specs.declared.link.Came.{Came}
 use Rattle.drm_links.specs.Link.{Answer, Traffic, LinkReceives, answer_of}
-use Rattle.drm_links.specs.Dock.{LinkStart, first_traffic}
+use Rattle.drm_links.specs.Dock.{LinkStart, first_traffic, over_of}
 use Rattle.drm_links.specs.Known.{Known, IfBothKnown, CountsCall, IfBoth, CountsOneCall}
 use Rattle.drm_links.specs.Hearing.{AreNext, HeardThroughout, LinkHeard}
+use Rattle.drm_links.specs.Binding.{heard}
 
 next_append : (ahead mid rest : List Answer) (xs ys : List Answer) → AreNext ahead xs mid → AreNext mid ys rest → AreNext ahead (xs ++ ys) rest
 next_append ahead mid rest [] ys p q = subst (λ m. AreNext m ys rest) p q
@@ -65,14 +66,27 @@ heard_one a b = one_through a.contents b.contents
 pub heard_more : (a b c : Known Traffic) (xs : List Answer) (result : Came) (buf : List ℕ) → LinkHeard a b xs → IfBothKnown b c (LinkReceives result buf) → CountsCall (λ (t : Traffic). t.calls) b c → LinkHeard a c (xs ++ answer_of result buf ∷ [])
 heard_more a b c xs result buf p receives counts = heard_then a b c xs (answer_of result buf ∷ []) p (heard_one b c result buf receives counts)
 
+-- What told how it starts tells still: these answers came over it, and nothing else went.
+pub heard_contents : (a b : Option Traffic) (start : LinkStart) (answers : List Answer) → HeardThroughout answers a b → a ≡ Some (first_traffic start) → length answers ≤ 2 ^ 62
+    → (traffic : Traffic) × (b ≡ Some traffic) × (over_of traffic ≡ heard answers) × AreNext start.ahead answers traffic.ahead
+heard_contents None b start answers answers_heard is few = absurd (cc)
+heard_contents (Some x) None start answers answers_heard is few =
+    let same : x ≡ first_traffic start = cc in
+    let calls : x.calls ≡ 0 = ap (λ (t : Traffic). t.calls) same in
+    absurd (omega (arith, answers_heard, calls, few))
+heard_contents (Some x) (Some y) start answers answers_heard is few =
+    let same : x ≡ first_traffic start = cc in
+    let given : y.answers ≡ answers = answers_heard.given ∙ ap (λ (t : Traffic). t.answers ++ answers) same in
+    let gone : y.gone ≡ [] = answers_heard.gone ∙ ap (λ (t : Traffic). t.gone) same in
+    let waits : y.waits ≡ [] = answers_heard.waits ∙ ap (λ (t : Traffic). t.waits) same in
+    let waiting : y.waiting ≡ 0 = answers_heard.waiting ∙ ap (λ (t : Traffic). t.waiting) same in (
+      y,
+      refl,
+      (λ i. record { answers = given i; gone = gone i; rests = waits i ++ waiting i ∷ [] }),
+      subst (λ (t : Traffic). AreNext t.ahead answers y.ahead) same answers_heard.ahead,
+    )
+
 -- what was heard of a new link stood ahead of it
 pub heard_next : (a b : Option Traffic) (start : LinkStart) (answers : List Answer) → HeardThroughout answers a b → a ≡ Some (first_traffic start) → length answers ≤ 2 ^ 62
     → (rest : List Answer) × AreNext start.ahead answers rest
-heard_next None b start answers heard is few = absurd (cc)
-heard_next (Some x) None start answers heard is few =
-    let same : x ≡ first_traffic start = cc in
-    let calls : x.calls ≡ 0 = ap (λ (t : Traffic). t.calls) same in
-    absurd (omega (arith, heard, calls, few))
-heard_next (Some x) (Some y) start answers heard is few =
-    let same : x ≡ first_traffic start = cc in
-    (y.ahead, subst (λ (t : Traffic). AreNext t.ahead answers y.ahead) same heard.ahead)
+heard_next a b start answers given is few = let told = heard_contents a b start answers given is few in (told.0.ahead, told.3)

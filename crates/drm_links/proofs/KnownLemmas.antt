@@ -1,5 +1,5 @@
 -- What is told, over one call and over several.
-use Rattle.std.proofs.Common.{◌≡◌, ℕ, ◌+◌, ◌<◌, ◌≤◌, List, [], ◌++◌, length, take, Option, None, Some, IsSome, MatchOption, Result, Ok, Err, IsErr, refl, sym, ◌∙◌, ap, subst, arith, append_assoc, length-append}
+use Rattle.std.proofs.Common.{◌≡◌, ℕ, ◌+◌, ◌<◌, ◌≤◌, List, [], ◌++◌, length, take, Option, None, Some, MatchOption, Result, Ok, Err, IsErr, refl, sym, ◌∙◌, ap, subst, arith, append_assoc, length-append}
 use Rattle.std.proofs.lemmas.List.{append-nil, length-take-le}
 use Rattle.drm_links.specs.declared.source.ReadOut.TheVariants as read
 use Rattle.drm_links.specs.Known.{Known, IfBothKnown, CountsCall, IfBoth, CountsOneCall, Throughout, KnownThrough, RisesWhere, one_more}
@@ -49,17 +49,6 @@ done_counts is counts = counts.same (done_is_no_fault is)
 pub failed_counts : {T E : Type 0} {r : Result T E} {fault : E} {a b : ℕ} → r ≡ Err fault → RisesWhere a b (IsErr r) → b ≡ one_more a
 failed_counts {r = Ok done} is counts = cc
 failed_counts {r = Err same} is counts = counts.once refl
-
--- ---- what is told at all
-
-some_before : {T : Type 0} (calls : T → ℕ) (a b : Option T) → CountsOneCall calls a b → IsSome b → IsSome a
-some_before calls None None counts known = known
-some_before calls None (Some y) counts known = cc
-some_before calls (Some x) b counts known = refl
-
--- What tells after a call told before it.
-pub known_before : {T : Type 0} (calls : T → ℕ) (a b : Known T) → CountsCall calls a b → IsSome b.contents → IsSome a.contents
-known_before calls a b = some_before calls a.contents b.contents
 
 -- ---- over many calls
 

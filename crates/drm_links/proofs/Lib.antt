@@ -6,7 +6,6 @@ pub mod LinkLemmas
 pub mod DockLemmas
 pub mod FilesLemmas
 pub mod LoadLemmas
-pub mod ManyCallsLemmas
 pub mod WritingLemmas
 pub mod Places
 pub mod Hearing

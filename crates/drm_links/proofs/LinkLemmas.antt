@@ -8,18 +8,16 @@ use Rattle.std.specs.List.{filter_map}
 use Rattle.std.specs.Map.{lookup}
 use Rattle.std.proofs.lemmas.Map.Views.{list_any-from_Contains, Contains-from_any}
 use Rattle.drm_links.specs.Known.{IfBothKnown, one_more}
-use Rattle.drm_links.specs.Link.{Answer, Datagram, Idle, Failed, LinkReceives, LinkSends, LinkRests, next_answer, datagram_of, longest_kept}
+use Rattle.drm_links.specs.Link.{Answer, Datagram, Idle, Failed, LinkReceives, LinkSends, LinkRests, next_answer, answer_of, datagram_of, longest_kept}
 use Rattle.drm_links.specs.MemoryLink.{LinkState, CameBefore, is_among, first_of, answer_at, left_at, answers_from, after_last, listed_from, answers_ahead, answered_at, answered, taken_from, traffic_of, link_known, MemLinkReceives, MemLinkSends, after_rest, longest_wait, IsCounted, BringsDatagram}
 use Rattle.drm_links.specs.declared.link.Came.{Came}
 use Rattle.drm_links.specs.declared.link.Came.TheVariants as recv
 use Rattle.drm_links.specs.declared.link.Sent.{Sent}
 use Rattle.drm_links.specs.declared.link.Sent.TheVariants as send
+use Rattle.drm_links.proofs.AloneLemmas.{same_number}
 use Rattle.drm_links.proofs.MemoryLemmas.{both_known_for}
 
 -- ---- numbers that are listed
-
-same_number : (x y : ℕ) → nat_eq x y ≡ true → x ≡ y
-same_number x y is = grind (arith, nat_tests)
 
 is_listed : (numbers : List ℕ) (number : ℕ) → Contains numbers number → is_among numbers number ≡ true
 is_listed numbers number listed = list_any-from_Contains nat_eq_equiv number numbers listed
@@ -201,58 +199,41 @@ idle_answer failing idling recvs coming fails (inl listed) false idles =
     let is : is_among idling recvs ≡ true = is_listed idling recvs listed in cc
 idle_answer failing idling recvs coming fails (inr none) false idles = rw (fails, idles, none) (refl, refl)
 
+-- what a recv answers, by what it leaves
+hears_as : (before : LinkState) (result : Came) (new : List ℕ) (came : List (ℕ × List ℕ)) (coming : List (List ℕ)) (calls : ℕ) → IsCounted before → before.calls ≤ 2 ^ 62
+    → answer_at before.failing before.idling before.recvs before.coming ≡ answer_of result new → left_at before.failing before.idling before.recvs before.coming ≡ coming
+    → answered before.failing came (one_more before.recvs) ≡ answered before.failing before.came before.recvs ++ answer_of result new ∷ []
+    → LinkReceives result new (traffic_of before) (traffic_of (record before { came = came; coming = coming; recvs = one_more before.recvs; calls = calls }))
+hears_as before result new came coming calls counted known answer left are =
+    let next = next_ahead before.failing before.idling before.recvs before.coming ∙ answer in
+    record {
+      next = sym next;
+      answers = are ∙ ap (λ a. answered before.failing before.came before.recvs ++ a ∷ []) (sym next);
+      ahead = then_ahead before.failing before.idling before.recvs before.calls before.coming coming counted.recvs known left;
+      gone = refl;
+      waits = refl;
+      waiting = refl;
+      sends = refl;
+    }
+
 pub Hears-receives : (result : Came) (old new : List ℕ) (before after : LinkState) → IsCounted before → MemLinkReceives result old new before after → before.calls ≤ 2 ^ 62 → LinkReceives result new (traffic_of before) (traffic_of after)
 Hears-receives (recv.Datagram n) old new before after counted (unlisted, unidle, first, within, rest, is_after) known =
     let fails : is_among before.failing before.recvs ≡ false = is_unlisted before.failing before.recvs unlisted in
     let idles : is_among before.idling before.recvs ≡ false = is_unlisted before.idling before.recvs unidle in
-    let answer : answer_at before.failing before.idling before.recvs before.coming ≡ Datagram (take n new) = rw (fails, idles, first) refl in
-    let left : left_at before.failing before.idling before.recvs before.coming ≡ drop 1 before.coming = rw (fails, idles) refl in
-    let next = next_ahead before.failing before.idling before.recvs before.coming ∙ answer in
     rw is_after
-    (record {
-      next = sym next;
-      answers =
-          then_came before.failing before.came before.recvs before.calls (take n new) counted.came counted.recvs known
-          ∙ ap (λ a. answered before.failing before.came before.recvs ++ a ∷ []) (sym next);
-      ahead = then_ahead before.failing before.idling before.recvs before.calls before.coming _ counted.recvs known left;
-      gone = refl;
-      waits = refl;
-      waiting = refl;
-      sends = refl;
-    })
+    (hears_as before (recv.Datagram n) new _ _ _ counted known (rw (fails, idles, first) refl) (rw (fails, idles) refl)
+    (then_came before.failing before.came before.recvs before.calls (take n new) counted.came counted.recvs known))
 Hears-receives recv.Idle old new before after counted (unlisted, nothing, same, is_after) known =
     let fails : is_among before.failing before.recvs ≡ false = is_unlisted before.failing before.recvs unlisted in
     let both = idle_answer before.failing before.idling before.recvs before.coming fails nothing _ refl in
-    let next = next_ahead before.failing before.idling before.recvs before.coming ∙ both.0 in
     rw is_after
-    (record {
-      next = sym next;
-      answers =
-          then_answered before.failing before.came before.recvs before.calls Idle counted.came counted.recvs known (rw fails refl)
-          ∙ ap (λ a. answered before.failing before.came before.recvs ++ a ∷ []) (sym next);
-      ahead = then_ahead before.failing before.idling before.recvs before.calls before.coming _ counted.recvs known both.1;
-      gone = refl;
-      waits = refl;
-      waiting = refl;
-      sends = refl;
-    })
+    (hears_as before recv.Idle new _ _ _ counted known both.0 both.1
+    (then_answered before.failing before.came before.recvs before.calls Idle counted.came counted.recvs known (rw fails refl)))
 Hears-receives recv.Failed old new before after counted (listed, same, is_after) known =
     let fails : is_among before.failing before.recvs ≡ true = is_listed before.failing before.recvs listed in
-    let answer : answer_at before.failing before.idling before.recvs before.coming ≡ Failed = rw fails refl in
-    let left : left_at before.failing before.idling before.recvs before.coming ≡ before.coming = rw fails refl in
-    let next = next_ahead before.failing before.idling before.recvs before.coming ∙ answer in
     rw is_after
-    (record {
-      next = sym next;
-      answers =
-          then_answered before.failing before.came before.recvs before.calls Failed counted.came counted.recvs known (rw fails refl)
-          ∙ ap (λ a. answered before.failing before.came before.recvs ++ a ∷ []) (sym next);
-      ahead = then_ahead before.failing before.idling before.recvs before.calls before.coming _ counted.recvs known left;
-      gone = refl;
-      waits = refl;
-      waiting = refl;
-      sends = refl;
-    })
+    (hears_as before recv.Failed new _ _ _ counted known (rw fails refl) (rw fails refl)
+    (then_answered before.failing before.came before.recvs before.calls Failed counted.came counted.recvs known (rw fails refl)))
 
 pub hears_known : (result : Came) (old new : List ℕ) (before after : LinkState) → IsCounted before → MemLinkReceives result old new before after → IfBothKnown (link_known before) (link_known after) (LinkReceives result new)
 hears_known result old new before after counted hears =

@@ -7,9 +7,7 @@ use Rattle.std.proofs.lemmas.Bool.Decides.{nat_tests}
 use Rattle.drm_links.specs.Shelf.{Files, LoadGives, ShelfLoads, file_at, within, load_of}
 use Rattle.drm_links.specs.declared.shelf.Loaded.{Loaded}
 use Rattle.drm_links.specs.declared.shelf.Loaded.TheVariants.{Bytes, TooLong, Failed, NoMemory}
-
-same_number : (x y : ℕ) → nat_eq x y ≡ true → x ≡ y
-same_number x y is = grind (arith, nat_tests)
+use Rattle.drm_links.proofs.AloneLemmas.{same_number}
 
 is_too_long : (limit : ℕ) (file : List ℕ) (b : Bool) → nat_lt limit (length file) ≡ b → limit < length file → TooLong ≡ (if b then TooLong else Bytes file)
 is_too_long limit file true is long = refl

@@ -11,10 +11,10 @@ use Rattle.std.proofs.lemmas.Grind.{take_at_read}
 use Rattle.std.proofs.lemmas.List.{take_all, get_or_default, same_from_push}
 use Rattle.drm_links.specs.Known.{Known, IfBothKnown, CountsCall, IfBoth, CountsOneCall, Throughout, KnownThrough}
 use Rattle.drm_links.specs.Link.{Traffic}
-use Rattle.drm_links.specs.Dock.{DockContents, DockOpens, after_opening, after_failure, address_key, AreDifferent, DockKnownThrough, FindsNone, after_openings, FailsAfter, HasLink}
+use Rattle.drm_links.specs.Dock.{DockContents, DockOpens, after_opening, after_failure, address_key, AreDifferent, DockKnownThrough, FindsNone, after_openings, HasLink}
 use Rattle.drm_links.specs.declared.dock.Address.{Address}
 use Rattle.drm_links.specs.declared.dock.Opened.TheVariants as opened
-use Rattle.drm_links.proofs.KnownLemmas.{Opens-started, Tells-then, Tells-weaker, Tells-one}
+use Rattle.drm_links.proofs.KnownLemmas.{Opens-started, Tells-then, Tells-weaker, Tells-both, Tells-one}
 
 -- ---- addresses that are different
 
@@ -55,12 +55,7 @@ pub docked_weaker : (P Q : DockContents → Type 0) (a b : Known DockContents) �
 docked_weaker P Q a b first weaker = Tells-weaker (λ x _. P x) (λ x _. Q x) a b first (λ x y. weaker x)
 
 pub docked_both : (P Q : DockContents → Type 0) (a b : Known DockContents) → DockKnownThrough a b P → DockKnownThrough a b Q → DockKnownThrough a b (λ contents. P contents × Q contents)
-docked_both P Q a b = both_docked a.contents b.contents
-  where
-    both_docked : (a b : Option DockContents) → Throughout a b (λ x _. P x) → Throughout a b (λ x _. Q x) → Throughout a b (λ x _. P x × Q x)
-    both_docked a None p q = tt
-    both_docked None (Some after) p q = p
-    both_docked (Some before) (Some after) p q = (p, q)
+docked_both P Q a b = Tells-both (λ x _. P x) (λ x _. Q x) a b
 
 -- what held, after one more call
 pub docked_still : (P : DockContents → Type 0) (a b c : Known DockContents) → DockKnownThrough a b P → CountsCall (λ (d : DockContents). d.calls) b c → DockKnownThrough a c P
@@ -173,12 +168,6 @@ module _ (addresses : List Address) (k : ℕ) (at : Address) (within : k < lengt
         ],
         now.1 ∙ ap after_failure before,
       )
-
-  pub not_found : {L : Type 0} (known : L → Known Traffic) (x y z : DockContents) → AreDifferent addresses
-      → Opened addresses k x y → DockOpens known at opened.Failed y z → FailsAfter addresses x z
-  not_found known x y z different before now =
-      let none = not_found_at known x y z different before now in
-      record { k = k; within = within; fails = none.0; contents = none.1 }
 
   pub found_now : {L : Type 0} (known : L → Known Traffic) (link : L) (a b c : Known DockContents) → AreDifferent addresses
       → KnownThrough a b (Opened addresses k) → IfBothKnown b c (DockOpens known at (opened.Link link)) → CountsCall (λ (d : DockContents). d.calls) b c

@@ -1,13 +1,13 @@
 -- Openings by `reach`, one after another, and the closings after one that failed.
 use Rattle.std.proofs.Common.{◌≡◌, ℕ, ◌+◌, ◌<◌, List, [], ◌∷◌, length, take, replicate, slice_index_or, Option, None, Some, refl, sym, ◌∙◌, ap, subst, arith}
-use Rattle.std.proofs.lemmas.List.{take_all, get_or-replicate, length-replicate}
+use Rattle.std.proofs.lemmas.List.{get_or-replicate, length-replicate}
 use Rattle.drm_links.specs.Known.{Known, IfBothKnown, CountsCall, Throughout, KnownThrough}
 use Rattle.drm_links.specs.Link.{Traffic}
 use Rattle.drm_links.specs.Dock.{DockContents, Over, over_of, DockReaches, with_reach, after_opening, after_failure, first_traffic, AreDifferent, DockKnownThrough, FindsNone, HasLink, after_openings}
 use Rattle.drm_links.specs.declared.dock.Address.{Address}
 use Rattle.drm_links.specs.declared.dock.Opened.TheVariants as opened
-use Rattle.drm_links.proofs.KnownLemmas.{Tells-then, Tells-both, Tells-weaker}
-use Rattle.drm_links.specs.Gathering.{ReachesFew, with_reaches, after_reaches, after_closes, nothing}
+use Rattle.drm_links.proofs.KnownLemmas.{Tells-then, Tells-both}
+use Rattle.drm_links.specs.Gathering.{ReachesFew, with_reaches, after_closes, nothing}
 use Rattle.drm_links.specs.Members.{HaveGone}
 use Rattle.drm_links.specs.declared.member.Member.{Member}
 use Rattle.drm_links.proofs.OpeningLemmas.{Opened, docks_more, found, next, not_found_at}
@@ -26,11 +26,6 @@ one_more_reach k contents =
 -- the dock tells what it does after the first k openings
 abbrev pub Reached : List Address → ℕ → DockContents → DockContents → Type 0
 Reached addresses k before after = after ≡ after_openings (take k addresses) (with_reaches k before)
-
-pub reached_all : (addresses : List Address) (k : ℕ) (a b : Known DockContents) → k ≡ length addresses → KnownThrough a b (Reached addresses k) → KnownThrough a b (λ before after. after ≡ after_reaches addresses before)
-reached_all addresses k a b last reached =
-    Tells-weaker (Reached addresses k) (λ before after. after ≡ after_reaches addresses before) a b reached
-    (λ x y is. is ∙ ap (λ l. after_openings l (with_reaches k x)) (take_all k addresses (omega (arith, last))) ∙ ap (λ n. after_openings addresses (with_reaches n x)) last)
 
 -- ---- one more opening
 
@@ -74,26 +69,26 @@ module _ (addresses : List Address) (k : ℕ) (at : Address) (within : k < lengt
 
 -- ---- several links at once
 
--- the first n members have the links of the first n addresses
-abbrev pub HaveFirst : {L : Type 0} → (L → Known Traffic) → DockContents → List Address → List (Member L) → ℕ → Type 0
-HaveFirst {L} known contents addresses members n =
-    (k : ℕ) (at : Address) (none : Member L) → k < n → HasLink known contents k (slice_index_or addresses k at) (slice_index_or members k none).link
+-- the first k have the links of the first k addresses
+abbrev pub HaveFirst : {X L : Type 0} → (X → L) → (L → Known Traffic) → List Address → List X → ℕ → DockContents → Type 0
+HaveFirst {X} {L} link_of known addresses xs k contents =
+    (n : ℕ) (at : Address) (d : X) → n < k → HasLink known contents n (slice_index_or addresses n at) (link_of (slice_index_or xs n d))
 
-pub first_links : {L : Type 0} (known : L → Known Traffic) (addresses : List Address) (members : List (Member L)) (n : ℕ) (P : DockContents → DockContents → Type 0) (a b : Known DockContents) → KnownThrough a b P
-    → ((k : ℕ) (d : Member L) → k < n → (at : Address) → DockKnownThrough a b (λ contents. HasLink known contents k (slice_index_or addresses k at) (slice_index_or members k d).link))
-    → DockKnownThrough a b (λ contents. HaveFirst known contents addresses members n)
-first_links {L} known addresses members n P a b all = linked a.contents b.contents all
+pub all_links : {X L : Type 0} (link_of : X → L) (known : L → Known Traffic) (addresses : List Address) (xs : List X) (n : ℕ) (a b : Known DockContents) → DockKnownThrough a b (λ _. Unit {0})
+    → ((k : ℕ) (d : X) → k < n → (at : Address) → DockKnownThrough a b (λ contents. HasLink known contents k (slice_index_or addresses k at) (link_of (slice_index_or xs k d))))
+    → DockKnownThrough a b (HaveFirst link_of known addresses xs n)
+all_links {X} link_of known addresses xs n a b = linked a.contents b.contents
   where
-    linked : (a b : Option DockContents) → Throughout a b P
-        → ((k : ℕ) (d : Member L) → k < n → (at : Address) → Throughout a b (λ contents _. HasLink known contents k (slice_index_or addresses k at) (slice_index_or members k d).link))
-        → Throughout a b (λ contents _. HaveFirst known contents addresses members n)
+    linked : (a b : Option DockContents) → Throughout a b (λ _ _. Unit {0})
+        → ((k : ℕ) (d : X) → k < n → (at : Address) → Throughout a b (λ contents _. HasLink known contents k (slice_index_or addresses k at) (link_of (slice_index_or xs k d))))
+        → Throughout a b (λ contents _. HaveFirst link_of known addresses xs n contents)
     linked a None any each = tt
     linked None (Some y) any each = any
     linked (Some x) (Some y) any each = λ k at d within. each k d within at
 
 -- over links that were only opened nothing has gone
 pub nothing_gone : {L : Type 0} (known : L → Known Traffic) (contents : DockContents) (addresses : List Address) (members : List (Member L)) (n : ℕ) → length members ≡ n
-    → HaveFirst known contents addresses members n → HaveGone known members (replicate n nothing)
+    → HaveFirst (λ (m : Member L). m.link) known addresses members n contents → HaveGone known members (replicate n nothing)
 nothing_gone {L} known contents addresses members n size first = record {
   as_many = length-replicate n nothing ∙ sym size;
   each = λ k d none within.
@@ -107,11 +102,11 @@ nothing_gone {L} known contents addresses members n size first = record {
 
 -- those that were opened are closed
 pub few_reached : {L : Type 0} (known : L → Known Traffic) (addresses : List Address) (members : List (Member L)) (k : ℕ) (a b c : Known DockContents) → k < length addresses → length members ≡ k
-    → DockKnownThrough a b (λ contents. HaveFirst known contents addresses members k) → KnownThrough a b (Missed addresses k)
+    → DockKnownThrough a b (HaveFirst (λ (m : Member L). m.link) known addresses members k) → KnownThrough a b (Missed addresses k)
     → KnownThrough b c (λ before after. (overs : List Over) → HaveGone known members overs → after ≡ after_closes overs addresses before)
     → KnownThrough a c (ReachesFew addresses)
-few_reached known addresses members k a b c within size links missed closed =
-    Tells-then _ _ (ReachesFew addresses) a b c (Tells-both (λ x _. HaveFirst known x addresses members k) (Missed addresses k) a b links missed) closed
+few_reached {L} known addresses members k a b c within size links missed closed =
+    Tells-then _ _ (ReachesFew addresses) a b c (Tells-both (λ x _. HaveFirst (λ (m : Member L). m.link) known addresses members k x) (Missed addresses k) a b links missed) closed
     (λ x y z p q. record {
       k = k;
       within = within;

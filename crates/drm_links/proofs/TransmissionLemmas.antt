@@ -1,41 +1,30 @@
 -- What was sent over a link, in one call and in several.
-use Rattle.std.proofs.Common.{◌≡◌, ℕ, ◌+◌, ◌-◌, List, [], ◌∷◌, ◌++◌, length, Option, None, Some, refl, sym, ◌∙◌, ap, arith, append_assoc, length-append}
+use Rattle.std.proofs.Common.{◌≡◌, ℕ, ◌+◌, ◌-◌, List, [], ◌++◌, length, Option, None, Some, refl, sym, ◌∙◌, ap, arith, append_assoc, length-append}
 use Rattle.std.proofs.lemmas.List.{append-nil}
-use Rattle.drm_links.specs.Known.{Known}
+use Rattle.drm_links.specs.Known.{Known, KnownThrough}
 use Rattle.drm_links.specs.Link.{Traffic, KeepsAnswers}
-use Rattle.drm_links.specs.Transmission.{LinkTransmits, SendsAll, SendsNoMore, WaitsBetween, TakesSends, fewer, since, still}
-use Rattle.drm_links.proofs.KnownLemmas.{Tells-nothing, Tells-then, Tells-weaker, Tells-both}
-
--- ---- over many calls
-
-pub Transmits-then : (P Q R : Traffic → Traffic → Type 0) (a b c : Known Traffic) → LinkTransmits a b P → LinkTransmits b c Q → ((x y z : Traffic) → P x y → Q y z → R x z) → LinkTransmits a c R
-Transmits-then P Q R a b c = Tells-then P Q R a b c
-
-pub Transmits-weaker : (P Q : Traffic → Traffic → Type 0) (a b : Known Traffic) → LinkTransmits a b P → ((x y : Traffic) → P x y → Q x y) → LinkTransmits a b Q
-Transmits-weaker P Q a b = Tells-weaker P Q a b
-
-pub Transmits-both : (P Q : Traffic → Traffic → Type 0) (a b : Known Traffic) → LinkTransmits a b P → LinkTransmits a b Q → LinkTransmits a b (λ x y. P x y × Q x y)
-Transmits-both P Q a b = Tells-both P Q a b
+use Rattle.drm_links.specs.Transmission.{SendsAll, SendsNoMore, TakesSends, fewer}
+use Rattle.drm_links.proofs.KnownLemmas.{Tells-nothing}
 
 -- ---- how many sends are left
 
-takes_none : (sends : Option ℕ) → TakesSends sends 0
+pub takes_none : (sends : Option ℕ) → TakesSends sends 0
 takes_none None = tt
 takes_none (Some k) = omega arith
 
-fewer_none : (sends : Option ℕ) → sends ≡ fewer sends 0
+pub fewer_none : (sends : Option ℕ) → sends ≡ fewer sends 0
 fewer_none None = refl
 fewer_none (Some k) = ap Some (omega arith)
 
-takes_more : (sends : Option ℕ) (m n : ℕ) → TakesSends sends m → TakesSends (fewer sends m) n → TakesSends sends (m + n)
+pub takes_more : (sends : Option ℕ) (m n : ℕ) → TakesSends sends m → TakesSends (fewer sends m) n → TakesSends sends (m + n)
 takes_more None m n first second = tt
 takes_more (Some k) m n first second = omega arith
 
-fewer_more : (sends : Option ℕ) (m n : ℕ) → fewer (fewer sends m) n ≡ fewer sends (m + n)
+pub fewer_more : (sends : Option ℕ) (m n : ℕ) → fewer (fewer sends m) n ≡ fewer sends (m + n)
 fewer_more None m n = refl
 fewer_more (Some k) m n = ap Some (omega arith)
 
-no_more_before : (sends : Option ℕ) (m n : ℕ) → TakesSends sends m → fewer sends m ≡ Some n → sends ≡ Some (m + n)
+pub no_more_before : (sends : Option ℕ) (m n : ℕ) → TakesSends sends m → fewer sends m ≡ Some n → sends ≡ Some (m + n)
 no_more_before None m n takes is = cc
 no_more_before (Some k) m n takes is =
     let left : k - m ≡ n = cc in
@@ -84,40 +73,6 @@ sends_nothing x y gone sends kept =
       kept = kept;
     }
 
-pub Transmits-nothing : (a : Known Traffic) → LinkTransmits a a (SendsAll [])
+pub Transmits-nothing : (a : Known Traffic) → KnownThrough a a (SendsAll [])
 Transmits-nothing a =
     Tells-nothing (SendsAll []) a (λ x. sends_nothing x x refl refl (record { answers = refl; ahead = refl }))
-
--- ---- how long the link rested
-
-since_then : (waited : ℕ) (xs : List ℕ) (last : ℕ) (ys : List ℕ) → since waited (xs ++ since last ys) ≡ since waited xs ++ since (still waited xs last) ys
-since_then waited [] last [] = refl
-since_then waited [] last (y ∷ ys) = let sum : waited + (last + y) ≡ waited + last + y = omega arith in ap (λ w. w ∷ ys) sum
-since_then waited (x ∷ xs) last ys = refl
-
-still_then : (waited : ℕ) (xs : List ℕ) (last : ℕ) (ys : List ℕ) (end : ℕ) → still waited (xs ++ since last ys) (still last ys end) ≡ still (still waited xs last) ys end
-still_then waited [] last [] end = omega arith
-still_then waited [] last (y ∷ ys) end = refl
-still_then waited (x ∷ xs) last ys end = refl
-
--- some waits, and then others
-pub Waits-then : (xs : List ℕ) (last : ℕ) (ys : List ℕ) (end : ℕ) (x y z : Traffic) → WaitsBetween xs last x y → WaitsBetween ys end y z → WaitsBetween (xs ++ since last ys) (still last ys end) x z
-Waits-then xs last ys end x y z first second =
-    record {
-      waits =
-          second.waits
-          ∙ (ap (λ w. y.waits ++ since w ys) first.waiting
-          ∙ (ap (λ l. l ++ since (still x.waiting xs last) ys) first.waits
-          ∙ (append_assoc x.waits (since x.waiting xs) (since (still x.waiting xs last) ys)
-          ∙ ap (λ l. x.waits ++ l) (sym (since_then x.waiting xs last ys)))));
-      waiting = second.waiting ∙ (ap (λ w. still w ys end) first.waiting ∙ sym (still_then x.waiting xs last ys end));
-    }
-
--- no wait
-waits_nothing : (x y : Traffic) → y.waits ≡ x.waits → y.waiting ≡ x.waiting → WaitsBetween [] 0 x y
-waits_nothing x y waits waiting =
-    let none : x.waiting ≡ x.waiting + 0 = omega arith in
-    record { waits = waits ∙ sym (append-nil x.waits); waiting = waiting ∙ none }
-
-pub Transmits-no_wait : (a : Known Traffic) → LinkTransmits a a (WaitsBetween [] 0)
-Transmits-no_wait a = Tells-nothing (WaitsBetween [] 0) a (λ x. waits_nothing x x refl refl)

@@ -1,10 +1,9 @@
 -- Calls that are to be made over a group of links, and what comes of them.
 use Rattle.std.specs.Prelude.{ℕ, ◌≡◌, ◌+◌, ◌≤◌, zero, suc, Bool, true, false, List, [], ◌∷◌, ◌++◌, length, map, MatchBool, slice_index_or, slice_set, All}
-use Rattle.drm_links.specs.Known.{Known}
 use Rattle.drm_links.specs.Link.{longest_kept}
 use Rattle.drm_links.specs.declared.link.Sent.{Sent}
 use Rattle.drm_links.specs.declared.link.Sent.TheVariants as send
-use Rattle.drm_links.specs.History.{GroupEvent, SentTo, RestedAt, History, GroupTells}
+use Rattle.drm_links.specs.History.{GroupEvent, SentTo, RestedAt}
 
 -- a rest of so many milliseconds before the k-th link, or a send over it
 pub data Call : Type 0 where
@@ -60,8 +59,8 @@ CallsCome up (Send k bytes ∷ calls) events up' =
     ((answer : Sent) × (rest : List GroupEvent) × (events ≡ SentTo k bytes answer ∷ rest) × CallsCome (up_after up k answer) calls rest up')
     (CallsCome up calls events up')
 
--- Just what comes of these calls happened.
-pub record GroupMakes (calls : List Call) (up up' : List Bool) (before after : Known History) : Type 0 where
+-- Just what comes of these calls happened, whoever tells it.
+pub record CallsMake (calls : List Call) (up up' : List Bool) (Happened : List GroupEvent → Type 0) : Type 0 where
   pub events : List GroupEvent
   pub come : CallsCome up calls events up'
-  pub tells : GroupTells events before after
+  pub happens : Happened events

@@ -1,5 +1,5 @@
 -- What a dock tells.
-use Rattle.std.specs.Prelude.{ℕ, ◌≡◌, ◌≢◌, ◌+◌, ◌<◌, ◌⊎◌, List, [], ◌∷◌, ◌++◌, Contains, length, take, slice_index_or, Option, None, Some, IsNone, MatchOption}
+use Rattle.std.specs.Prelude.{ℕ, ◌≡◌, ◌≢◌, ◌+◌, ◌⊎◌, List, [], ◌∷◌, ◌++◌, Contains, Option, None, Some, IsNone, MatchOption}
 use Rattle.std.specs.Option.{IfSome}
 use Rattle.std.specs.List.{AllByRecursion}
 use Rattle.std.specs.Ordering.{nat_cmp}
@@ -136,13 +136,6 @@ DockKnownThrough before after P = KnownThrough before after (λ contents _. P co
 abbrev pub after_openings : List Address → DockContents → DockContents
 after_openings [] contents = contents
 after_openings (at ∷ addresses) contents = after_openings addresses (after_opening at contents)
-
--- The openings at the first k addresses were made, and the next one failed.
-pub record FailsAfter (addresses : List Address) (before after : DockContents) : Type 0 where
-  pub k : ℕ
-  pub within : k < length addresses
-  pub fails : (at : Address) → FindsNone before k (slice_index_or addresses k at)
-  pub contents : after ≡ after_failure (after_openings (take k addresses) before)
 
 -- the link of the k-th opening from here starts with what stood at its address
 abbrev pub HasLink : {L : Type 0} → (L → Known Traffic) → DockContents → ℕ → Address → L → Type 0

@@ -17,7 +17,6 @@ pub mod MemoryLink
 pub mod MemoryGroup
 pub mod ClosedLinks
 pub mod MemoryDock
-pub mod ManyCalls
 pub mod Hearing
 pub mod Binding
 pub mod Listed

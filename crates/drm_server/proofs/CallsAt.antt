@@ -1,5 +1,5 @@
 -- What goes over one link of a group where calls are made.
-use Rattle.std.proofs.Common.{◌≡◌, ℕ, zero, suc, ◌+◌, ◌-◌, ◌≤◌, ◌<◌, Bool, true, false, List, [], ◌∷◌, ◌++◌, length, map, nat_eq, get_or, set, MatchBool, if◌then◌else◌, Option, None, Some, refl, sym, ◌∙◌, ap, subst, arith, append_assoc, length-append}
+use Rattle.std.proofs.Common.{◌≡◌, ℕ, zero, suc, ◌+◌, ◌-◌, ◌≤◌, ◌<◌, Bool, true, false, List, [], ◌∷◌, ◌++◌, length, nat_eq, get_or, set, MatchBool, if◌then◌else◌, Option, None, Some, refl, sym, ◌∙◌, ap, subst, arith, append_assoc, length-append}
 use Rattle.std.proofs.lemmas.Bool.Decides.{nat_tests}
 use Rattle.std.proofs.lemmas.List.{append-nil}
 use Rattle.std.proofs.Math.ListN.{length-set}
@@ -7,9 +7,9 @@ use Rattle.drm_links.specs.Link.{one_less}
 use Rattle.drm_links.specs.Transmission.{TakesSends, fewer}
 use Rattle.drm_links.specs.declared.link.Sent.{Sent}
 use Rattle.drm_links.specs.declared.link.Sent.TheVariants as send
-use Rattle.drm_links.specs.History.{GroupEvent, SentTo, RestedAt, History, EventHappens, EventsHappen, next_sent, sent_by}
+use Rattle.drm_links.specs.History.{GroupEvent, SentTo, RestedAt, History, EventHappens, EventsHappen, sent_by}
 use Rattle.drm_links.specs.Alone.{gone_at}
-use Rattle.drm_links.specs.Calls.{Call, Rest, Send, is_up, up_after, CallsCome, each, sends}
+use Rattle.drm_links.specs.Calls.{Call, Rest, Send, is_up, up_after, CallsCome}
 use Rattle.drm_links.proofs.AloneLemmas.{itself, another}
 use Rattle.drm_links.proofs.CallLemmas.{set_down}
 
@@ -86,10 +86,6 @@ takes_none (Some m) n takes is = let left = none_left (m - n) is in let e : m �
 
 abbrev Left : ℕ → List GroupEvent → List Bool → Type 0
 Left k events v = (gone_at k events ≡ []) × (is_up v k ≡ false)
-
-not_gone : (b : Bool) (bytes : List ℕ) (xs : List (List ℕ)) → b ≡ false → xs ≡ [] → (if b then bytes ∷ xs else xs) ≡ []
-not_gone true bytes xs is none = absurd cc
-not_gone false bytes xs is none = none
 
 up_other : (u : List Bool) (j k : ℕ) (answer : Sent) → (j ≡ k → ⊥) → is_up (up_after u j answer) k ≡ is_up u k
 up_other u j k send.Sent apart = refl

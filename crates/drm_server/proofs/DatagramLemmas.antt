@@ -2,7 +2,7 @@
 use Rattle.std.proofs.Common.{◌≡◌, ◌+◌, ℕ, zero, suc, List, [], ◌∷◌, ◌++◌, length, refl, ap, ap₂, subst, ◌∙◌, arith, length-append}
 use Rattle.drm_schedule.specs.declared.plan.Plan.{Plan}
 use Rattle.drm_server.specs.ServerState.{ServerState}
-use Rattle.drm_server.specs.Datagrams.{IsDatagramAt, AreFirst, AreOfFrame, AreOfFrames}
+use Rattle.drm_server.specs.Datagrams.{AreFirst, AreOfFrame, AreOfFrames}
 
 pub next_frame : (plan : Plan) (from n : ℕ) (before of_frame : List (List ℕ)) → AreOfFrames plan from n before → AreOfFrame plan (from + n) of_frame → AreOfFrames plan from (n + 1) (before ++ of_frame)
 next_frame plan from n before of_frame are is =

@@ -38,12 +38,6 @@ module _ (live : Live) (frame : ℕ) where
     pub enough_live : is_live live k ≡ true → size_from live k (drop k streams) ≡ stream_size s + size_from live (k + 1) (drop (k + 1) streams)
     enough_live lives = rw (from_here, lives) refl
 
-    pub enough_own : is_live live k ≡ false → size_from live k (drop k streams) ≡ size_from live (k + 1) (drop (k + 1) streams)
-    enough_own own =
-        let rest : ℕ = size_from live (k + 1) (drop (k + 1) streams) in
-        let none : 0 + rest ≡ rest = omega arith in
-        rw (from_here, own) none
-
     -- they are written, and another one's own bytes, and what is to be written is those behind it
     pub live_written : (left before after all : List ℕ) → is_live live k ≡ true → length (stream_bytes frame s) ≡ stream_size s
         → before ++ left_with k left (drop k streams) ≡ all → after ≡ before ++ spelled (whole (str k) (take (stream_size s) left))
@@ -52,11 +46,3 @@ module _ (live : Live) (frame : ℕ) where
         let rest : List ℕ = left_with (k + 1) (drop (stream_size s) left) (drop (k + 1) streams) in
         let here : left_with k left (drop k streams) ≡ spelled (whole (str k) (take (stream_size s) left)) ++ rest = rw (from_here, lives, size) refl in
         ap (λ (l : List ℕ). l ++ rest) wrote ∙ append_assoc before (spelled (whole (str k) (take (stream_size s) left))) rest ∙ ap (λ (l : List ℕ). before ++ l) (sym here) ∙ so_far
-
-    pub own_written : (left before after all : List ℕ) → is_live live k ≡ false
-        → before ++ left_with k left (drop k streams) ≡ all → after ≡ before ++ spelled (whole (str k) (stream_bytes frame s))
-        → after ++ left_with (k + 1) left (drop (k + 1) streams) ≡ all
-    own_written left before after all own so_far wrote =
-        let rest : List ℕ = left_with (k + 1) left (drop (k + 1) streams) in
-        let here : left_with k left (drop k streams) ≡ spelled (whole (str k) (stream_bytes frame s)) ++ rest = rw (from_here, own) refl in
-        ap (λ (l : List ℕ). l ++ rest) wrote ∙ append_assoc before (spelled (whole (str k) (stream_bytes frame s))) rest ∙ ap (λ (l : List ℕ). before ++ l) (sym here) ∙ so_far

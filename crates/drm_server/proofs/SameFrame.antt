@@ -1,5 +1,5 @@
 -- What is sent or written of a frame that a server has loaded is that of the frame of each schedule that has it.
-use Rattle.std.proofs.Common.{◌≡◌, ◌+◌, ◌%◌, ◌^◌, ◌<◌, ℕ, Bool, zero, suc, List, length, Some, None, refl, ap, sym, ◌∙◌, subst}
+use Rattle.std.proofs.Common.{◌≡◌, ◌+◌, ◌%◌, ◌^◌, ◌<◌, ℕ, Bool, zero, suc, List, length, Some, None, ap, sym, ◌∙◌, subst}
 use Rattle.drm_links.specs.Known.{Known}
 use Rattle.drm_links.specs.Sink.{Output, OutputsText}
 use Rattle.drm_links.proofs.KnownLemmas.{OutputsText-weaker}
@@ -17,10 +17,6 @@ use Rattle.drm_server.specs.Serving.{ServesFrame}
 use Rattle.drm_server.specs.Gathering.{WroteFrame, IsPrefixOfFrame}
 use Rattle.drm_server.specs.ServerState.{ServerState, HasFrame, only_at}
 use Rattle.drm_server.proofs.LiveLemmas.{only_here, only_whole, same_frame, plain_frame, empty_frame}
-
--- the frame of the schedule itself
-pub own_frame : (server : ServerState) (plan : Plan) → server.plan ≡ plan → HasFrame server plan
-own_frame server plan same = subst (HasFrame server) same (record { carry = refl; seq = refl; packet = λ packet is. is })
 
 -- the frame of a schedule whose live streams have what came for each frame, where this piece came for the one that is loaded
 module _ (live : Live) (given : LivePieces) (base : Plan) (t : ℕ) (valid : IsSchedule base) (whole : AreWhole live given base) (within : t < frame_count base) where

@@ -1,16 +1,16 @@
 -- Frames over a group of links.
 use Rattle.std.proofs.Common.{◌≡◌, ◌+◌, ℕ, suc, Bool, true, false, List, [], ◌∷◌, ◌++◌, if◌then◌else◌, refl, subst, arith}
 use Rattle.drm_links.specs.Known.{Known}
-use Rattle.drm_links.specs.History.{History}
-use Rattle.drm_links.specs.Calls.{Rest, GroupMakes}
+use Rattle.drm_links.specs.History.{GroupEvent, History}
+use Rattle.drm_links.specs.Calls.{Rest, CallsMake}
 use Rattle.drm_links.proofs.CallLemmas.{Tells-none, Tells-then}
 use Rattle.drm_schedule.specs.declared.plan.Plan.{Plan}
 use Rattle.drm_server.specs.Serving.{IsOneUp, FramesCome, ServesFrame, ServesFrames}
 
 -- a rest, where the frame isn't the first
-pub some_pause : (b : Bool) (pace k : ℕ) (u v : List Bool) (a c : Known History) → b ≡ false → GroupMakes (Rest k pace ∷ []) u v a c → GroupMakes (if b then [] else Rest k pace ∷ []) u v a c
-some_pause true pace k u v a c is made = absurd cc
-some_pause false pace k u v a c is made = made
+pub some_pause : (b : Bool) (pace k : ℕ) (u v : List Bool) (P : List GroupEvent → Type 0) → b ≡ false → CallsMake (Rest k pace ∷ []) u v P → CallsMake (if b then [] else Rest k pace ∷ []) u v P
+some_pause true pace k u v P is made = absurd cc
+some_pause false pace k u v P is made = made
 
 module _ (plan : Plan) (first pace : ℕ) where
   -- nothing yet
@@ -23,4 +23,4 @@ module _ (plan : Plan) (first pace : ℕ) where
       let made = frame.2 in
       let one : suc n ≡ n + 1 = omega arith in
       let comes : FramesCome plan first pace (suc n) u (before.0 ++ made.events) w = (before.0, v, before.1, left, frame.0, frame.1, made.events, made.come, refl) in
-      (before.0 ++ made.events, subst (λ (k : ℕ). FramesCome plan first pace k u (before.0 ++ made.events) w) one comes, Tells-then before.0 made.events a b c before.2 made.tells)
+      (before.0 ++ made.events, subst (λ (k : ℕ). FramesCome plan first pace k u (before.0 ++ made.events) w) one comes, Tells-then before.0 made.events a b c before.2 made.happens)

@@ -3,7 +3,7 @@ use Rattle.std.specs.Prelude.{ℕ, zero, suc, ◌≡◌, ◌+◌, ◌==◌, Bool
 use Rattle.drm_schedule.specs.declared.plan.Plan.{Plan}
 use Rattle.drm_links.specs.Known.{Known}
 use Rattle.drm_links.specs.History.{GroupEvent, History, GroupTells}
-use Rattle.drm_links.specs.Calls.{Call, Rest, is_up, each, sends, CallsCome, GroupMakes}
+use Rattle.drm_links.specs.Calls.{Call, Rest, is_up, each, sends, CallsCome, CallsMake}
 use Rattle.drm_server.specs.Datagrams.{AreOfFrame}
 
 -- a rest before a frame that is sent behind n others, but not before the first one
@@ -17,7 +17,7 @@ turn pace n datagrams k = pause pace n k ++ sends k datagrams
 -- Frame t was sent behind n others, over one link after another.
 abbrev pub ServesFrame : Plan → ℕ → ℕ → ℕ → List Bool → List Bool → Known History → Known History → Type 0
 ServesFrame plan t pace n up up' before after =
-    (datagrams : List (List ℕ)) × AreOfFrame plan t datagrams × GroupMakes (each (turn pace n datagrams) (length up)) up up' before after
+    (datagrams : List (List ℕ)) × AreOfFrame plan t datagrams × CallsMake (each (turn pace n datagrams) (length up)) up up' (λ events. GroupTells events before after)
 
 -- some link hasn't failed
 abbrev pub IsOneUp : List Bool → Type 0

@@ -1,7 +1,8 @@
 //! A frame over a group of links.
 
 ghost use Rattle.std.specs.Prelude.{◌≡◌, length};
-ghost use Rattle.drm_links.specs.Calls.{GroupMakes};
+ghost use Rattle.drm_links.specs.History.{GroupTells};
+ghost use Rattle.drm_links.specs.Calls.{CallsMake};
 ghost use Rattle.drm_server.specs.Serving.{pause, turn, ServesFrame};
 
 use crate::Server;
@@ -23,8 +24,8 @@ pub fn serve_frame<G: Group>(server: &Server<'_>, n: u32, pace: u32, group: &mut
 
 // The same over the k-th link.
 fn serve_turn<G: Group>(datagrams: &CutPacket, n: u32, k: usize, pace: u32, group: &mut G)
-    ensures made { GroupMakes (turn pace n datagrams.now k)
-        (G.up group.old) (G.up group.new) (G.known group.old) (G.known group.new) }
+    ensures made { CallsMake (turn pace n datagrams.now k) (G.up group.old) (G.up group.new)
+        (λ events. GroupTells events (G.known group.old) (G.known group.new)) }
     ensures same_count { length (G.up group.new) ≡ length (G.up group.old) }
 {
     rest_before(n, k, pace, group);
@@ -33,8 +34,8 @@ fn serve_turn<G: Group>(datagrams: &CutPacket, n: u32, k: usize, pace: u32, grou
 
 // Rests before a frame that is sent behind n others over the k-th link, but not before the first one.
 fn rest_before<G: Group>(n: u32, k: usize, pace: u32, group: &mut G)
-    ensures made { GroupMakes (pause pace n k)
-        (G.up group.old) (G.up group.new) (G.known group.old) (G.known group.new) }
+    ensures made { CallsMake (pause pace n k) (G.up group.old) (G.up group.new)
+        (λ events. GroupTells events (G.known group.old) (G.known group.new)) }
     ensures same { G.up group.new ≡ G.up group.old }
 {
     if n == 0 || !group.is_up(k) {

@@ -1,7 +1,6 @@
 use Rattle.std.proofs.Common.{◌≡◌, ◌∙◌, List, Bool, true, false, length, sym, ap}
 use Rattle.drm_links.specs.Calls.{is_up}
-use Rattle.drm_links.proofs.CallLemmas.{length_after}
-use Rattle.dcp_sender.proofs.MakingLemmas.{Make-send, Make-no_send}
+use Rattle.drm_links.proofs.CallLemmas.{length_after, Make-send, Make-no_send}
 use Rattle.dcp_sender.proofs.send.send_datagram.Goals as goal
 
 pub returns-then-not-is_up-clause-made : goal.returns-then-not-is_up-clause-made

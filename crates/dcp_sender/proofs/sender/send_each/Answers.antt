@@ -1,8 +1,7 @@
 use Rattle.std.proofs.Common.{◌∙◌, ℕ, suc, List, [], refl, add-one}
 use Rattle.drm_links.specs.History.{GroupEvent}
-use Rattle.drm_links.specs.Calls.{Call, each, sends}
-use Rattle.dcp_sender.specs.Making.{CallsMake}
-use Rattle.dcp_sender.proofs.MakingLemmas.{Make-none, Make-then}
+use Rattle.drm_links.specs.Calls.{Call, each, sends, CallsMake}
+use Rattle.drm_links.proofs.CallLemmas.{Make-none, Make-then}
 use Rattle.dcp_sender.proofs.sender.send_each.Goals as goal
 
 pub loop-k-init : goal.loop-k-init

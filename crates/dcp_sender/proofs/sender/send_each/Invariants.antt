@@ -1,6 +1,5 @@
 use Rattle.std.proofs.Common.{◌≡◌, length}
-use Rattle.drm_links.specs.Calls.{each, sends}
-use Rattle.dcp_sender.specs.Making.{CallsMake}
+use Rattle.drm_links.specs.Calls.{each, sends, CallsMake}
 use Rattle.dcp_sender.proofs.sender.send_each.Given as goal
 
 -- the datagrams were called for over the links before this one

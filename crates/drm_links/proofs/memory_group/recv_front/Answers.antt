@@ -1,4 +1,4 @@
-use Rattle.std.proofs.Common.{drop, ap, subst}
+use Rattle.std.proofs.Common.{drop, subst}
 use Rattle.drm_links.specs.Link.{Answer}
 use Rattle.drm_links.specs.History.{Received}
 use Rattle.drm_links.specs.MemoryGroup.{NotesEvent}

@@ -1,6 +1,4 @@
-use Rattle.std.proofs.Common.{◌≡◌, ◌+◌, ◌++◌, ◌∙◌, ℕ, List, take, drop, length, sym, ap, arith, append_assoc}
-use Rattle.std.proofs.lemmas.Result.{IfOk-weaker}
-use Rattle.drm_links.specs.Sink.{OutputsText}
+use Rattle.std.proofs.Common.{◌≡◌, ◌+◌, ◌++◌, ◌∙◌, ℕ, List, take, length, sym, ap, arith, append_assoc}
 use Rattle.drm_links.proofs.KnownLemmas.{OutputsText-weaker}
 use Rattle.drm_server.proofs.CaptureLemmas.{behind_waiting}
 use Rattle.drm_server.proofs.serve.gather.Goals as goal

@@ -2,9 +2,8 @@ use Rattle.std.proofs.Common.{◌≡◌, ◌∙◌, ◌+◌, ℕ, List, [], ◌�
 use Rattle.std.proofs.lemmas.Grind.{take_at_read}
 use Rattle.std.proofs.lemmas.List.{map-append, take_all}
 use Rattle.drm_links.specs.History.{GroupEvent}
-use Rattle.drm_links.specs.Calls.{Call, Send, sends}
-use Rattle.dcp_sender.specs.Making.{CallsMake}
-use Rattle.dcp_sender.proofs.MakingLemmas.{Make-none, Make-then}
+use Rattle.drm_links.specs.Calls.{Call, Send, sends, CallsMake}
+use Rattle.drm_links.proofs.CallLemmas.{Make-none, Make-then}
 use Rattle.dcp_sender.proofs.datagrams.CutPacket.send.Goals as goal
 
 pub loop-i-init : goal.loop-i-init

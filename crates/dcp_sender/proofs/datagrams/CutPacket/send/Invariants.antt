@@ -1,6 +1,5 @@
 use Rattle.std.proofs.Common.{◌≡◌, length, take}
-use Rattle.drm_links.specs.Calls.{sends}
-use Rattle.dcp_sender.specs.Making.{CallsMake}
+use Rattle.drm_links.specs.Calls.{sends, CallsMake}
 use Rattle.dcp_sender.proofs.datagrams.CutPacket.send.Given as goal
 
 -- the datagrams before this one were called for

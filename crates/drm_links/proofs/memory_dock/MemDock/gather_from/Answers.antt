@@ -1,7 +1,7 @@
 use Rattle.std.proofs.Common.{◌≡◌, Some}
 use Rattle.drm_links.specs.Dock.{DockContents, DockOpens, DockCloses}
 use Rattle.drm_links.specs.Gathering.{DockGathers, GathersNone, ReachesFew}
-use Rattle.drm_links.specs.MemoryLink.{LinkState, link_known}
+use Rattle.drm_links.specs.MemoryLink.{link_known}
 use Rattle.drm_links.specs.MemoryDock.{dock_known}
 use Rattle.drm_links.specs.MemoryGroup.{GathersOver, group_known}
 use Rattle.drm_links.specs.declared.dock.Opened.TheVariants as opened

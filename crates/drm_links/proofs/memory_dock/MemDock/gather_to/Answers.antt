@@ -1,11 +1,10 @@
-use Rattle.std.proofs.Common.{◌≡◌, List, refl, sym, ◌∙◌, ap, subst}
+use Rattle.std.proofs.Common.{◌≡◌, ◌∙◌, ap}
 use Rattle.drm_links.specs.Dock.{DockContents}
 use Rattle.drm_links.specs.Gathering.{after_reaches}
 use Rattle.drm_links.specs.Members.{HaveLinks}
-use Rattle.drm_links.specs.MemoryLink.{LinkState, link_known}
+use Rattle.drm_links.specs.MemoryLink.{link_known}
 use Rattle.drm_links.specs.MemoryDock.{dock_known}
 use Rattle.drm_links.specs.MemoryGroup.{GathersOver, ups_of}
-use Rattle.drm_links.specs.declared.member.Member.{Member}
 use Rattle.drm_links.proofs.KnownLemmas.{Tells-both, Tells-weaker}
 use Rattle.drm_links.proofs.GatherLemmas.{all_up, gathers_over}
 use Rattle.drm_links.proofs.memory_dock.MemDock.gather_to.Goals as goal

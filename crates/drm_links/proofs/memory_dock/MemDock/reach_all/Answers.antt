@@ -5,8 +5,8 @@ use Rattle.drm_links.proofs.KnownLemmas.{Tells-weaker, counts_one, once_then}
 use Rattle.drm_links.proofs.Places.{each_more}
 use Rattle.drm_links.specs.Dock.{DockKnownThrough, HasLink, IsNewLink}
 use Rattle.drm_links.specs.declared.member.Member.{Member}
-use Rattle.drm_links.proofs.OpeningLemmas.{docked_still}
-use Rattle.drm_links.proofs.ReachLemmas.{Reached, HaveFirst, found_reach, reached_now, missed_now, first_links, few_reached}
+use Rattle.drm_links.proofs.OpeningLemmas.{docked_still, docked_any}
+use Rattle.drm_links.proofs.ReachLemmas.{Reached, HaveFirst, found_reach, reached_now, missed_now, all_links, few_reached}
 use Rattle.drm_links.specs.MemoryLink.{LinkState, link_known}
 use Rattle.drm_links.specs.MemoryDock.{dock_known}
 use Rattle.drm_links.proofs.memory_dock.MemDock.reach_all.Goals as goal
@@ -22,8 +22,8 @@ returns-in-Failed-clause-failed c =
     let d = dock_known c.open_reached.new.self in
     let known = link_known in
     few_reached known ats c.loop-k.members.items k a d (dock_known c.close_all.new.self) within i.1
-    (docked_still (λ contents. HaveFirst known contents ats c.loop-k.members.items k) a b d
-    (first_links known ats c.loop-k.members.items k (Reached ats k) a b i.5 i.6) c.in-Failed.ensures.counts_call)
+    (docked_still (HaveFirst (λ (m : Member LinkState). m.link) known ats c.loop-k.members.items k) a b d
+    (all_links (λ (m : Member LinkState). m.link) known ats c.loop-k.members.items k a b (docked_any (Reached ats k) a b i.5) i.6) c.in-Failed.ensures.counts_call)
     (missed_now ats k c.get.result.now within c.get.ensures known a b d c.requires.different i.5 c.in-Failed.ensures.opened c.in-Failed.ensures.counts_call)
     c.close_all.ensures.closed
 
@@ -68,5 +68,5 @@ returns-clause-links c =
     let all : length c.args.addresses.now ≤ c.loop-k.k = (let last = c.loop-k-test.false in let end = c.len-k-end.ensures in omega (arith, last, end)) in
     let a = dock_known c.args.self.now in
     let b = dock_known c.loop-k.self in
-    Tells-weaker _ _ a b (first_links link_known c.args.addresses.now c.loop-k.members.items c.loop-k.k (Reached c.args.addresses.now c.loop-k.k) a b i.5 i.6)
+    Tells-weaker _ _ a b (all_links (λ (m : Member LinkState). m.link) link_known c.args.addresses.now c.loop-k.members.items c.loop-k.k a b (docked_any (Reached c.args.addresses.now c.loop-k.k) a b i.5) i.6)
     (λ x y first k at none within. first k at none (omega (arith, within, all)))

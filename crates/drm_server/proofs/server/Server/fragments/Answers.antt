@@ -1,4 +1,4 @@
-use Rattle.std.proofs.Common.{◌∙◌, sym, subst}
+use Rattle.std.proofs.Common.{sym, subst}
 use Rattle.drm_server.specs.Datagrams.{HasDatagrams}
 use Rattle.drm_server.proofs.OneDelivery.{as_many_as}
 use Rattle.drm_server.proofs.server.Server.fragments.Goals as goal
