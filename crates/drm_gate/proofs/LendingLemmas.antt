@@ -1,5 +1,5 @@
 -- One send over links that are lent apart.
-use Rattle.std.proofs.Common.{◌≡◌, ◌⊎◌, inl, inr, ℕ, zero, suc, ◌+◌, ◌<◌, Bool, true, false, List, [], ◌∷◌, length, get_or, set, if◌then◌else◌, refl, sym, ◌∙◌, ap, subst, arith}
+use Rattle.std.proofs.Common.{◌≡◌, ◌⊎◌, inl, inr, ℕ, zero, suc, ◌<◌, nat_eq, Bool, true, false, List, [], ◌∷◌, length, get_or, set, refl, sym, ◌∙◌, ap, subst, arith}
 use Rattle.std.proofs.lemmas.List.{length-map, get_or-set_same, get_or-set_other, get_or-map, map-set, set-get_or}
 use Rattle.std.proofs.lemmas.List.Elements.{All-get_or}
 use Rattle.drm_links.specs.Known.{Known}
@@ -11,17 +11,14 @@ use Rattle.drm_links.specs.MemoryGroup.{up_by}
 use Rattle.drm_links.specs.History.{SentTo}
 use Rattle.drm_links.specs.Calls.{is_up, up_after}
 use Rattle.drm_links.proofs.AloneLemmas.{another}
+use Rattle.drm_links.proofs.CallLemmas.{match_false}
 use Rattle.drm_links.proofs.Places.{index_of}
 use Rattle.drm_links.specs.Members.{AreUp}
 use Rattle.drm_gate.specs.Gateway.{AllUp}
-use Rattle.drm_gate.specs.Apart.{calls_at, MemberTells, ups_of}
-use Rattle.drm_gate.specs.ApartLaws.{link_none}
+use Rattle.drm_gate.specs.Apart.{MemberTells, ups_of}
 
 same_or_not : (j k : ℕ) → (j ≡ k) ⊎ (j ≡ k → ⊥)
 same_or_not j k = grind arith
-
-none_at : (j k : ℕ) (bytes : List ℕ) (answer : Sent) → (k ≡ j → ⊥) → calls_at j (SentTo k bytes answer ∷ []) ≡ 0
-none_at j k bytes answer apart = ap (λ (b : Bool). if b then 0 + 1 else 0) (another k j apart)
 
 up_within : (u : List Bool) (k : ℕ) → is_up u k ≡ true → k < length u
 up_within [] k up = absurd cc
@@ -54,7 +51,7 @@ module _ {K : Type 0} (known : K → Known Traffic) (to : List (Member K)) (k : 
           (subst (λ (m : Member K). MemberTells known k (SentTo k bytes answer ∷ []) m new) (at.1 old ∙ sym (at.1 none)) tells))
       by (inr apart) =
           subst (λ (m : Member K). MemberTells known j (SentTo k bytes answer ∷ []) (get_or to j none) m) (sym (get_or-set_other to k j new none apart))
-          (link_none j (SentTo k bytes answer ∷ []) (get_or to j none).up (known (get_or to j none).link) (none_at j k bytes answer (λ e. apart (sym e))))
+          (match_false (nat_eq k j) _ (another k j (λ e. apart (sym e))) (refl, refl))
 
   -- and it isn't up any more where that fails
   pub up_then : is_up (ups_of to) k ≡ true → new.up ≡ up_by true answer → ups_of (set to k new) ≡ up_after (ups_of to) k answer

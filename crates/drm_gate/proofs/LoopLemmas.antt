@@ -25,13 +25,12 @@ use Rattle.drm_gate.specs.declared.gate.GateEnded.{GateEnded}
 use Rattle.drm_gate.specs.declared.gate.GateEnded.TheVariants.{FromFailed, ToFailed}
 use Rattle.drm_gate.specs.Passing.{Outcome, datagrams_of}
 use Rattle.drm_gate.specs.Tallies.{nothing, tally_of, items_in, over}
-use Rattle.drm_gate.specs.Passed.{PassedAll}
 use Rattle.drm_gate.specs.Steps.{PassesOne}
 use Rattle.drm_gate.specs.Hearing.{HearsOn}
 use Rattle.drm_gate.specs.Relaying.{IsOnward, AreReadyOutcomes, SomeBecome, HasBecome, RelayIsOver}
 use Rattle.drm_gate.specs.Run.{PassesAll, GateEndsAs, GateRun, CountsOver, SomeUp}
 use Rattle.drm_gate.proofs.Tallying.{items_all, few_sent}
-use Rattle.drm_gate.proofs.PassedLemmas.{all_none, all_more, all_later, sent_packets}
+use Rattle.drm_gate.proofs.PassedLemmas.{PassedAll, all_none, all_more, all_later, sent_packets}
 use Rattle.drm_gate.proofs.RelayLemmas.{StandsAt, Turn, stands_leads, hears, passes, ends}
 
 -- ---- when more is heard

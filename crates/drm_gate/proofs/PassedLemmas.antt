@@ -1,5 +1,5 @@
 -- What becomes of items that are passed on, one after another.
-use Rattle.std.proofs.Common.{◌≡◌, ℕ, ◌+◌, ◌≤◌, List, [], ◌∷◌, ◌++◌, sym, subst, ap, ◌∙◌, refl, arith, length-append, unwrap_or}
+use Rattle.std.proofs.Common.{◌≡◌, ℕ, ◌+◌, ◌≤◌, List, [], ◌∷◌, ◌++◌, length, sym, subst, ap, ◌∙◌, refl, arith, length-append, unwrap_or}
 use Rattle.std.proofs.lemmas.List.Concat.{flat_map-append}
 use Rattle.dcp_pft.specs.declared.carry.Carry.{Carry}
 use Rattle.recv_reading.proofs.Common.{CollectorState, CollectorItem, Packet, Lost, Damaged, IsItem, MayBeFirst, KnowsFirst, KeepsFirst, first_of}
@@ -8,8 +8,13 @@ use Rattle.recv_reading.specs.ReadingReached.{packets_in}
 use Rattle.drm_gate.specs.declared.tally.Tally.{Tally}
 use Rattle.drm_gate.specs.Passing.{Outcome, Sent, Bad, Large, Missing, OutcomeOf, OutcomesOf, datagrams_of, sent_of}
 use Rattle.drm_gate.specs.Tallies.{nothing, plus, tally_one, tally_of}
-use Rattle.drm_gate.specs.Passed.{PassedAll}
 use Rattle.drm_gate.proofs.Tallying.{plus_nothing, tally_join}
+
+-- These items became this, and were counted.
+pub record PassedAll (carry : Carry) (c : CollectorState) (items : List CollectorItem) (t : Tally) (fates : List Outcome) : Type 0 where
+  pub many : length fates ≡ length items
+  pub become : (first : ℕ) → MayBeFirst c first → OutcomesOf carry first items fates
+  pub tally : t ≡ tally_of fates
 
 pub become_join : (carry : Carry) (first : ℕ) (items more : List CollectorItem) (fates others : List Outcome) → OutcomesOf carry first items fates → OutcomesOf carry first more others → OutcomesOf carry first (items ++ more) (fates ++ others)
 become_join carry first [] more [] others a b = b

@@ -1,4 +1,3 @@
-pub mod Passed
 pub mod Apart
 pub mod ApartLaws
 pub mod Gateway
