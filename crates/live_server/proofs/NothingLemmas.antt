@@ -1,5 +1,5 @@
 -- A schedule of which no stream is live.
-use Rattle.std.proofs.Common.{◌≡◌, ◌+◌, ◌-◌, ◌*◌, ◌/◌, ◌≤◌, ◌<◌, ◌++◌, ℕ, zero, suc, Bool, true, false, ◌||◌, List, [], ◌∷◌, length, get_or, Result, Ok, Err, Option, None, Some, option_map, unwrap_or, refl, sym, ap, subst, ◌∙◌, arith}
+use Rattle.std.proofs.Common.{◌≡◌, ◌+◌, ◌-◌, ◌*◌, ◌/◌, ◌≤◌, ◌++◌, ℕ, zero, suc, Bool, true, false, ◌||◌, List, [], ◌∷◌, length, get_or, Result, Ok, Err, Option, None, Some, option_map, unwrap_or, refl, sym, ap, subst, ◌∙◌, arith}
 use Rattle.drm_schedule.specs.declared.live.Live.{Live}
 use Rattle.drm_schedule.specs.declared.stream.Stream.{Stream}
 use Rattle.drm_schedule.specs.declared.config.Config.{Config}
@@ -8,17 +8,12 @@ use Rattle.drm_schedule.specs.Live.{is_live, is_any}
 use Rattle.drm_schedule.specs.Valid.{end_before}
 use Rattle.drm_timeline.specs.Standing.{config_of}
 use Rattle.cmd_faults.specs.declared.fault.Fault.{Fault}
-use Rattle.drm_server.specs.declared.stretch.Stretch.{Stretch}
-use Rattle.drm_server.specs.Stretch.{first_in, frames_in}
 use Rattle.drm_links.specs.Known.{Known}
 use Rattle.drm_links.specs.Source.{Input}
-use Rattle.drm_links.specs.Sink.{Output, OutputsText}
-use Rattle.drm_links.proofs.KnownLemmas.{InputsBytes-nothing}
-use Rattle.drm_server.specs.Capture.{IsCapture, IsPrefixOfCapture}
 use Rattle.live_streams.specs.Input.{bytes_before, pieces_of}
 use Rattle.live_streams.proofs.InputLemmas.{offset_none, offset_next}
-use Rattle.live_server.specs.Feeding.{fed, HasRead}
-use Rattle.live_server.specs.Capture.{WroteAll, WrotePrefix}
+use Rattle.live_server.specs.Feeding.{HasMade}
+use Rattle.live_server.proofs.GoingLemmas.{unread}
 use Rattle.live_streams.specs.Live.{LivePieces, size_from, piece_size, piece_at, streams_from, configs_with, live_schedule}
 
 -- what is done isn't a fault
@@ -86,32 +81,14 @@ module _ (live : Live) (none : (k : ℕ) → is_live live k ≡ false) where
     unfolding live_schedule
     own_schedule plan = ap (λ (configs : List Config). record plan { configs = configs }) (configs_none plan.length plan.configs)
 
--- ---- what is written
+-- ---- what is made
 
-module _ (live : Live) (none : (k : ℕ) → is_live live k ≡ false) (plan : Plan) (stretch : Stretch) (input : Known Input) (a b : Known Output) where
-  own : (more : List ℕ) → fed live plan (first_in stretch) ([] ++ more) ≡ plan
-  own more = own_schedule live none (pieces_of live plan (first_in stretch) ([] ++ more)) plan
-
-  unread : HasRead false [] input input
-  unread = record { read = InputsBytes-nothing (λ left rest. left ≡ [] ++ rest) input (λ left. refl); all = λ is. absurd cc }
-
-  pub wrote_own : OutputsText a b (IsCapture plan stretch) → WroteAll live plan stretch true input input a b
-  wrote_own written = record {
+module _ (live : Live) (none : (k : ℕ) → is_live live k ≡ false) (plan : Plan) (first : ℕ) where
+  -- what is made of it is made with nothing of input
+  pub made_own : (n : ℕ) (input : Known Input) (P : Plan → Type 0) → P plan → HasMade live plan first n false input input P
+  made_own n input P own = record {
     bytes = [];
-    read = unread;
-    taken = sym (none_before live none plan (first_in stretch) (frames_in stretch plan));
-    written = λ more ends. subst (λ (p : Plan). OutputsText a b (IsCapture p stretch)) (sym (own more)) written;
+    read = unread input;
+    taken = sym (none_before live none plan first n);
+    made = λ more ends. subst P (sym (own_schedule live none (pieces_of live plan first ([] ++ more)) plan)) own;
   }
-
-  pub wrote_some : 0 < frames_in stretch plan → OutputsText a b (IsPrefixOfCapture plan stretch) → WrotePrefix live plan stretch input input a b
-  wrote_some begun written =
-      let first : ℕ = first_in stretch in
-      record {
-        bytes = [];
-        ended = false;
-        read = unread;
-        n = 0;
-        within = begun;
-        taken = let e : first + 1 ≡ first + 0 + 1 = omega arith in sym (ap (bytes_before live plan first) (sym e) ∙ none_before live none plan first 1);
-        written = λ more ends. subst (λ (p : Plan). OutputsText a b (IsPrefixOfCapture p stretch)) (sym (own more)) written;
-      }

@@ -12,8 +12,7 @@ use Rattle.drm_server.specs.Capture.{IsCapture, IsPrefixOfCapture}
 use Rattle.drm_server.specs.Gathering.{WroteFrame, IsPrefixOfFrame}
 use Rattle.drm_server.proofs.DatagramLemmas.{next_frame}
 use Rattle.drm_server.proofs.CaptureLemmas.{front_in_frame}
-use Rattle.live_server.specs.Capture.{AreWritten}
-use Rattle.live_server.specs.Going.{WroteEach}
+use Rattle.live_server.specs.Capture.{AreWritten, WroteEach}
 
 pub wrote_none : (plan : Plan) (first : ℕ) (a : Known Output) → WroteEach first 0 a a plan
 wrote_none plan first a = OutputsText-nothing a (AreWritten plan first 0) ([], refl, refl)

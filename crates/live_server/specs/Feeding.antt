@@ -30,3 +30,21 @@ pub record BreaksOff (live : Live) (plan : Plan) (first t : ℕ) (bytes : List �
 -- What holds of each schedule that begins with these bytes of input, whatever input has behind them; where it has ended nothing is.
 abbrev pub OfEach : Bool → Live → Plan → ℕ → List ℕ → (Plan → Type 0) → Type 0
 OfEach ended live plan first bytes P = (more : List ℕ) → (ended ≡ true → more ≡ []) → P (fed live plan first (bytes ++ more))
+
+-- this is one of them
+abbrev pub IsOneOf : Bool → Live → Plan → ℕ → List ℕ → Plan → Type 0
+IsOneOf ended live plan first bytes shown = (more : List ℕ) × (ended ≡ true → more ≡ []) × (shown ≡ fed live plan first (bytes ++ more))
+
+-- n frames from `first` on were made, whatever input has behind the bytes that came for them; of each schedule that these bytes make P holds.
+pub record HasMade (live : Live) (plan : Plan) (first n : ℕ) (ended : Bool) (input input' : Known Input) (P : Plan → Type 0) : Type 0 where
+  pub bytes : List ℕ
+  pub read : HasRead ended bytes input input'
+  pub taken : AreTaken ended live plan first (first + n) bytes
+  pub made : OfEach ended live plan first bytes P
+
+-- They were made, and then a read failed within the piece of the next one.
+pub record BreaksIn (live : Live) (plan : Plan) (first n : ℕ) (input input' : Known Input) (P : Plan → Type 0) : Type 0 where
+  pub bytes : List ℕ
+  pub read : HasRead false bytes input input'
+  pub breaks : BreaksOff live plan first (first + n) bytes
+  pub made : OfEach false live plan first bytes P

@@ -2,6 +2,5 @@ pub mod Feeding
 pub mod Loading
 pub mod Links
 pub mod Capture
-pub mod Going
 pub mod Laws
 pub mod Turns

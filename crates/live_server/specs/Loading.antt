@@ -1,19 +1,12 @@
--- A frame that is loaded with what came for it.
-use Rattle.std.specs.Prelude.{ℕ, ◌≡◌, ◌+◌, Bool, true, false, List, [], ◌++◌, Result, Ok}
+-- A frame that is loaded with what comes for it.
+use Rattle.std.specs.Prelude.{ℕ, ◌≡◌, ◌+◌, Bool, true, false, List, Result, Ok}
 use Rattle.drm_links.specs.Known.{Known}
-use Rattle.drm_links.specs.Source.{Input, InputsBytes}
+use Rattle.drm_links.specs.Source.{Input}
 use Rattle.cmd_faults.specs.declared.fault.Fault.{Fault}
 use Rattle.drm_schedule.specs.declared.live.Live.{Live}
 use Rattle.drm_schedule.specs.Live.{is_any}
 use Rattle.drm_server.specs.ServerState.{ServerState, HasFrame}
-use Rattle.live_server.specs.Feeding.{fed, AreTaken}
-
--- These bytes came for frame t, behind those of the frames before it: it is loaded as the frame of each schedule that begins with them,
--- or, where input has ended, of the one that ends with them.
-pub record LoadsBehind (live : Live) (first t : ℕ) (ended ended' : Bool) (server server' : ServerState) (bytes got : List ℕ) : Type 0 where
-  pub frame : server'.frame ≡ t
-  pub taken : AreTaken ended' live server.base first (t + 1) (bytes ++ got)
-  pub shows : (more : List ℕ) → (ended' ≡ true → more ≡ []) → HasFrame server' (fed live server.base first ((bytes ++ got) ++ more))
+use Rattle.live_server.specs.Feeding.{HasRead, AreTaken, IsOneOf, HasMade, BreaksIn}
 
 -- Where no stream is live nothing is read, and no fault comes.
 abbrev pub AsksForNothing : {I : Type 0} → Live → I → I → Result Bool Fault → Type 0
@@ -23,10 +16,15 @@ AsksForNothing live input input' result = is_any live ≡ false → (input' ≡ 
 abbrev pub IsFed : {I : Type 0} → Live → I → I → Result Bool Fault → Type 0
 IsFed live input input' result = is_any live ≡ false → (input' ≡ input) × ((whole : Bool) → result ≡ Ok whole → whole ≡ true)
 
--- What is read for frame t: nothing, where input has ended before; or these bytes, with which input may end.
-pub record LoadsNext (live : Live) (first t : ℕ) (ended ended' : Bool) (server server' : ServerState) (bytes : List ℕ) (input input' : Known Input) : Type 0 where
-  pub got : List ℕ
-  pub still : ended ≡ true → (got ≡ []) × (ended' ≡ true) × (input' ≡ input)
-  pub read : InputsBytes input input' (λ left rest. left ≡ got ++ rest)
-  pub all : ended ≡ false → ended' ≡ true → InputsBytes input input' (λ left rest. rest ≡ [])
-  pub behind : AreTaken ended live server.base first t bytes → LoadsBehind live first t ended ended' server server' bytes got
+-- Where these bytes came for n frames and frame t is the next one, it is loaded as the frame of each schedule that begins with these bytes and
+-- those that came for it.
+abbrev pub LoadsNext : Live → ℕ → Bool → Bool → ServerState → ServerState → Known Input → Known Input → Type 0
+LoadsNext live t ended ended' server server' input input' =
+    (first n : ℕ) (start : Known Input) (bytes : List ℕ) → t ≡ first + n → HasRead ended bytes start input → AreTaken ended live server.base first (first + n) bytes
+    → HasMade live server.base first (n + 1) ended' start input' (λ shown. IsOneOf ended live server.base first bytes shown × HasFrame server' shown)
+
+-- a read fails within its piece
+abbrev pub LoadBreaks : Live → ℕ → Bool → ServerState → Known Input → Known Input → Type 0
+LoadBreaks live t ended server input input' =
+    (first n : ℕ) (start : Known Input) (bytes : List ℕ) → t ≡ first + n → HasRead ended bytes start input → AreTaken ended live server.base first (first + n) bytes
+    → BreaksIn live server.base first n start input' (IsOneOf ended live server.base first bytes)

@@ -14,10 +14,14 @@ pub data FeedTurn : Type 0 where
 abbrev pub with_turns : List FeedTurn → Option (List FeedTurn) → Option (List FeedTurn)
 with_turns turns told = option_map (λ before. before ++ turns) told
 
--- input is asked for a piece, if one is wanted
-abbrev pub asks_where : Bool → ℕ → List FeedTurn
-asks_where true len = if len == 0 then [] else Asks len ∷ []
-asks_where false len = []
+-- for how many bytes input is asked where a frame asks for so many: for none once it has ended
+abbrev pub wanted : Bool → ℕ → ℕ
+wanted true len = 0
+wanted false len = len
+
+-- input is asked for so many bytes, if for any
+abbrev pub asks : ℕ → List FeedTurn
+asks len = if len == 0 then [] else Asks len ∷ []
 
 -- The turns of n frames from frame `first` on, and whether input has ended with them: before each the piece that it asks for is read, unless
 -- input had ended, and nothing else; then it is sent.
@@ -25,7 +29,7 @@ abbrev pub TurnsCome : Live → Plan → ℕ → ℕ → Bool → List FeedTurn 
 TurnsCome live plan first zero ended turns = (ended ≡ false) × (turns ≡ [])
 TurnsCome live plan first (suc n) ended turns =
     (had : Bool) × (before : List FeedTurn) × TurnsCome live plan first n had before × (had ≡ true → ended ≡ true)
-    × (turns ≡ before ++ asks_where (not had) (piece_at live plan (first + n)) ++ Sends n ∷ [])
+    × (turns ≡ before ++ asks (wanted had (piece_at live plan (first + n))) ++ Sends n ∷ [])
 
 -- What is told of a run: just these turns came; or, where a read failed, that one behind them.
 abbrev pub TurnsTold : Live → Plan → ℕ → Result Bool Fault → Option (List FeedTurn) → Option (List FeedTurn) → Type 0

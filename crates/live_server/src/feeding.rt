@@ -1,20 +1,17 @@
 //! The next frame, with its piece of input.
 
-ghost use Rattle.std.specs.Prelude.{List, ℕ, Bool, false, not, ◌≡◌, ◌<◌, ◌≤◌, length, Ok, IfOk, IfErr, OnOk, OnErr, IsErr};
+ghost use Rattle.std.specs.Prelude.{ℕ, Bool, true, false, ◌≡◌, ◌<◌, ◌≤◌, length, Ok, IfOk, IfErr, OnOk, OnErr, IsErr};
 ghost use Rattle.drm_links.specs.Known.{HasCause};
-ghost use Rattle.cmd_input.specs.Input.{FailsBehind};
 ghost use Rattle.drm_timeline.specs.Numbers.{frame_count};
 ghost use Rattle.drm_schedule.specs.Live.{is_any, is_live};
 ghost use Rattle.drm_schedule.specs.declared.plan.Plan.{Plan};
 ghost use Rattle.live_streams.specs.Live.{piece_at};
-ghost use Rattle.live_server.specs.Loading.{LoadsNext};
-ghost use Rattle.live_server.specs.Turns.{asks_where, with_turns};
+ghost use Rattle.live_server.specs.Loading.{LoadsNext, LoadBreaks};
+ghost use Rattle.live_server.specs.Turns.{wanted, asks, with_turns};
 
-use crate::feed::LiveFeed;
+use crate::feed::Pieces;
 use cmd_faults::Fault;
-use cmd_input::read_front;
 use drm_bits::{NoMemory, zeros};
-use drm_links::Source;
 use drm_schedule::Live;
 use drm_server::Server;
 use live_streams::{MOST_PIECE, piece_len};
@@ -51,88 +48,35 @@ fn count(streams: &[bool; 4]) -> usize
 
 /// Reads the piece of frame `t` by way of this room, where the frame asks for one and input hasn't ended, and loads the frame with it;
 /// where it doesn't come whole, input has ended, and the frame is loaded with its own content.
-pub(crate) fn load_next<I: Source>(
+pub(crate) fn load<P: Pieces>(
     server: &mut Server<'_>,
     t: u32,
     live: &Live,
-    input: &mut I,
+    feed: &mut P,
     scratch: &mut [u8],
     ended: &mut bool,
 ) -> Result<(), Fault>
     requires frame { t < frame_count server.old.base }
     requires room { 32760 ≤ length scratch.old }
-    ensures loaded { OnOk result ((first : ℕ) (bytes : List ℕ) → first ≤ t
-        → LoadsNext live.now first t ended.old ended.new server.old server.new bytes
-        (I.known input.old) (I.known input.new)) }
-    ensures failed { OnErr result (FailsBehind (piece_at live.now server.old.base t)
-        (I.known input.old) (I.known input.new)) }
-    ensures going { OnErr result (ended.old ≡ false) }
+    ensures loaded { OnOk result (LoadsNext live.now t ended.old ended.new server.old server.new
+        (P.input feed.old) (P.input feed.new)) }
+    ensures at { OnOk result (server.new.frame ≡ t) }
+    ensures stays { ended.old ≡ true → ended.new ≡ true }
+    ensures failed { OnErr result (LoadBreaks live.now t ended.old server.old (P.input feed.old) (P.input feed.new)) }
+    ensures going { OnErr result ((ended.old ≡ false) × (piece_at live.now server.old.base t ≡ 0 → ⊥)) }
     ensures fault { IfErr result (λ fault. fault ≡ Fault.Read) }
-    ensures cause { HasCause (I.known input.old) (I.known input.new) (IsErr result) }
-    ensures still { piece_at live.now server.old.base t ≡ 0
-        → (input.new ≡ input.old) × (ended.new ≡ ended.old) × (result ≡ Ok tt) }
-    ensures base { server.new.base ≡ server.old.base }
-    ensures room { length scratch.new ≡ length scratch.old }
-{
-    // For its clause alone: the schedule is valid.
-    server.schedule().always_valid();
-    if *ended {
-        server.load(t);
-        return Ok(());
-    }
-    let len = piece_len(server.schedule(), live, t);
-    if len == 0 {
-        server.load(t);
-        return Ok(());
-    }
-    let piece = &mut scratch[..len];
-    let len_read = read_front(input, piece)?;
-    if len_read < len {
-        *ended = true;
-        server.load(t);
-    } else {
-        server.load_live(t, live, piece);
-    }
-    Ok(())
-}
-
-/// The same over a feed.
-pub(crate) fn load_fed<I, F: LiveFeed<I>>(
-    server: &mut Server<'_>,
-    t: u32,
-    live: &Live,
-    feed: &mut F,
-    scratch: &mut [u8],
-    ended: &mut bool,
-) -> Result<(), Fault>
-    requires frame { t < frame_count server.old.base }
-    requires room { 32760 ≤ length scratch.old }
-    ensures loaded { OnOk result ((first : ℕ) (bytes : List ℕ) → first ≤ t
-        → LoadsNext live.now first t ended.old ended.new server.old server.new bytes
-        (F.input feed.old) (F.input feed.new)) }
-    ensures failed { OnErr result (FailsBehind (piece_at live.now server.old.base t)
-        (F.input feed.old) (F.input feed.new)) }
-    ensures going { OnErr result (ended.old ≡ false) }
-    ensures fault { IfErr result (λ fault. fault ≡ Fault.Read) }
-    ensures cause { HasCause (F.input feed.old) (F.input feed.new) (IsErr result) }
-    ensures still { piece_at live.now server.old.base t ≡ 0
+    ensures cause { HasCause (P.input feed.old) (P.input feed.new) (IsErr result) }
+    ensures still { wanted ended.old (piece_at live.now server.old.base t) ≡ 0
         → (feed.new ≡ feed.old) × (ended.new ≡ ended.old) × (result ≡ Ok tt) }
-    ensures turns { F.turns feed.new
-        ≡ with_turns (asks_where (not ended.old) (piece_at live.now server.old.base t)) (F.turns feed.old) }
-    ensures history { F.history feed.new ≡ F.history feed.old }
-    ensures up { F.up feed.new ≡ F.up feed.old }
-    ensures same_source { F.source_name feed.new ≡ F.source_name feed.old }
-    ensures same_links { F.links_name feed.new ≡ F.links_name feed.old }
+    ensures turns { P.turns feed.new
+        ≡ with_turns (asks (wanted ended.old (piece_at live.now server.old.base t))) (P.turns feed.old) }
+    ensures leaves { P.leaves feed.old feed.new }
     ensures base { server.new.base ≡ server.old.base }
     ensures room { length scratch.new ≡ length scratch.old }
 {
     // For its clause alone: the schedule is valid.
     server.schedule().always_valid();
-    if *ended {
-        server.load(t);
-        return Ok(());
-    }
-    let len = piece_len(server.schedule(), live, t);
+    let len = wanted_len(server, t, live, *ended);
     if len == 0 {
         server.load(t);
         return Ok(());
@@ -146,4 +90,17 @@ pub(crate) fn load_fed<I, F: LiveFeed<I>>(
         server.load_live(t, live, piece);
     }
     Ok(())
+}
+
+// For how many bytes input is asked now.
+fn wanted_len(server: &Server<'_>, t: u32, live: &Live, ended: bool) -> usize
+    requires { t < frame_count server.now.base }
+    ensures len { result ≡ wanted ended (piece_at live.now server.now.base t) }
+    ensures most { result ≤ 32760 }
+{
+    if ended {
+        0
+    } else {
+        piece_len(server.schedule(), live, t)
+    }
 }

@@ -22,7 +22,7 @@ mod laws;
 mod live_capture;
 mod live_links;
 
-pub use feed::LiveFeed;
+pub use feed::{LiveFeed, Pieces};
 pub use feeding::piece_room;
 pub use laws::none_is_the_schedule;
 pub use live_capture::serve_live_sink;

@@ -5,7 +5,7 @@ ghost use Rattle.drm_links.specs.Known.{HasCause};
 ghost use Rattle.live_server.specs.Capture.{WroteLive};
 ghost use Rattle.live_server.specs.Loading.{IsFed};
 
-use crate::feeding::{asks_for_nothing, load_next, none_is_live};
+use crate::feeding::{load, none_is_live};
 use cmd_faults::Fault;
 use drm_links::{Sink, Source};
 use drm_schedule::Live;
@@ -33,9 +33,8 @@ pub fn serve_live_sink<I: Source, O: Sink>(
     if live.any() {
         return write_frames(server, stretch, live, input, scratch, out);
     }
-    // For their clauses alone.
+    // For its clause alone.
     none_is_live(live);
-    asks_for_nothing(live);
     serve_sink(server, stretch, out)?;
     Ok(true)
 }
@@ -58,7 +57,7 @@ fn write_frames<I: Source, O: Sink>(
 {
     let mut ended = false;
     for n in 0..server.frames_in(stretch) {
-        load_next(server, stretch.frame(n), live, input, scratch, &mut ended)?;
+        load(server, stretch.frame(n), live, input, scratch, &mut ended)?;
         write_frame(server, out)?;
     }
     Ok(!ended)

@@ -8,7 +8,7 @@ ghost use Rattle.live_server.specs.Loading.{AsksForNothing};
 ghost use Rattle.live_server.specs.Turns.{TurnsTold};
 
 use crate::feed::{Apart, LiveFeed};
-use crate::feeding::{asks_for_nothing, load_fed};
+use crate::feeding::{asks_for_nothing, load};
 use cmd_faults::Fault;
 use drm_links::{Group, Source};
 use drm_schedule::Live;
@@ -69,7 +69,7 @@ pub fn serve_feed<I, F: LiveFeed<I>>(
         if feed.none_left() {
             break;
         }
-        load_fed(server, stretch.frame(n), live, feed, scratch, &mut ended)?;
+        load(server, stretch.frame(n), live, feed, scratch, &mut ended)?;
         feed.send_frame(server, n, pace);
     }
     Ok(!ended)

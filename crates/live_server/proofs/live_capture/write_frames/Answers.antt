@@ -1,26 +1,23 @@
-use Rattle.std.proofs.Common.{◌≡◌, ◌<◌, ◌+◌, ◌∙◌, ℕ, false, not, [], ◌++◌, Err, refl, sym, ap, ap₂, subst, arith}
+use Rattle.std.proofs.Common.{◌≡◌, ◌<◌, ◌+◌, ◌∙◌, ℕ, inl, inr, Err, refl, sym, ap, subst, arith}
 use Rattle.std.proofs.lemmas.Result.{err_from_is_err_and}
 use Rattle.drm_schedule.specs.declared.plan.Plan.{Plan}
 use Rattle.drm_timeline.specs.Numbers.{frame_count}
 use Rattle.drm_server.specs.Stretch.{first_in, frames_in}
 use Rattle.drm_server.proofs.StretchLemmas.{as_many}
 use Rattle.drm_links.specs.Sink.{OutputsText}
-use Rattle.drm_server.specs.Capture.{IsPrefixOfCapture}
+use Rattle.drm_server.specs.Capture.{IsCapture, IsPrefixOfCapture}
 use Rattle.drm_server.specs.Gathering.{WroteFrame, IsPrefixOfFrame}
+use Rattle.drm_server.specs.ServerState.{HasFrame}
 use Rattle.drm_server.proofs.SameFrame.{same_written, same_front}
-use Rattle.live_streams.specs.Input.{pieces_of}
-use Rattle.live_streams.specs.Live.{piece_at}
-use Rattle.live_streams.proofs.FrameLemmas.{same_frame_count}
-use Rattle.live_server.specs.Feeding.{fed, HasRead, AreTaken}
-use Rattle.live_server.specs.Loading.{LoadsNext}
-use Rattle.live_server.specs.Going.{HasMade, WroteEach}
-use Rattle.live_server.proofs.GoingLemmas.{not_not, made_none, made_more, broken_off}
+use Rattle.live_server.specs.Feeding.{AreTaken, IsOneOf, HasMade, BreaksIn}
+use Rattle.live_server.specs.Capture.{WroteEach}
+use Rattle.live_server.proofs.GoingLemmas.{not_not, made_none, made_so, made_more, broken_off}
 use Rattle.live_server.proofs.WritingLemmas.{wrote_none, wrote_more, front_written, capture_written}
 use Rattle.live_server.proofs.live_capture.write_frames.Goals as goal
 
 pub loop-n-init : goal.loop-n-init
 loop-n-init g c = (
-  ([], made_none c.args.live.now c.args.server.now.base (first_in c.args.stretch) (g.I.Source.known c.args.input.now) (WroteEach (first_in c.args.stretch) 0 (g.O.Sink.known c.args.out.now) (g.O.Sink.known c.args.out.now)) (λ plan. wrote_none plan (first_in c.args.stretch) (g.O.Sink.known c.args.out.now))),
+  made_none c.args.live.now c.args.server.now.base (first_in c.args.stretch) (g.I.Source.known c.args.input.now) (WroteEach (first_in c.args.stretch) 0 (g.O.Sink.known c.args.out.now) (g.O.Sink.known c.args.out.now)) (λ plan. wrote_none plan (first_in c.args.stretch) (g.O.Sink.known c.args.out.now)),
   refl,
   refl,
   refl,
@@ -29,65 +26,50 @@ loop-n-init g c = (
   refl,
 )
 
-pub load_next-requires-clause-frame : goal.load_next-requires-clause-frame
-load_next-requires-clause-frame g c =
+pub load-requires-clause-frame : goal.load-requires-clause-frame
+load-requires-clause-frame g c =
     let same = ap frame_count c.loop-n.invariant.3 in
     let less = c.frames_in-n-end.ensures.within c.loop-n.n c.loop-n-test.true in
     let at = c.frame.ensures in
     omega (arith, same, less, at)
 
-pub returns-in_err-load_next-clause-wrote : goal.returns-in_err-load_next-clause-wrote
-returns-in_err-load_next-clause-wrote g c =
+pub returns-in_err-load-clause-wrote : goal.returns-in_err-load-clause-wrote
+returns-in_err-load-clause-wrote g c =
     let i = c.loop-n.invariant in
-    let plan : Plan = c.args.server.now.base in
-    let stretch = c.args.stretch in
-    let first : ℕ = first_in stretch in
+    let live = c.args.live.now in
+    let first : ℕ = first_in c.args.stretch in
     let n = c.loop-n.n in
     let a = g.I.Source.known c.args.input.now in
-    let b = g.I.Source.known c.loop-n.input in
-    let d = g.I.Source.known c.load_next.new.input in
-    let x = g.O.Sink.known c.args.out.now in
-    let y = g.O.Sink.known c.loop-n.out in
+    let d = g.I.Source.known c.load.new.feed in
     let p = err_from_is_err_and c.from_residual.result c.from_residual.ensures.1 in
     let less = c.loop-n-test.true in
     let many = c.frames_in-n-end.ensures.frames in
-    let within : n < frames_in stretch plan = omega (arith, less, many) in
-    let failed = c.in_err-load_next.ensures.failed in
-    let made : HasMade c.args.live.now plan first n false i.0.0 a b (WroteEach first n x y) =
-    subst (λ e. HasMade c.args.live.now plan first n e i.0.0 a b (WroteEach first n x y)) c.in_err-load_next.ensures.going i.0.1 in
-    let asked : piece_at c.args.live.now c.loop-n.server.base c.frame.result ≡ piece_at c.args.live.now plan (first + n) = ap₂ (λ q k. piece_at c.args.live.now q k) i.3 c.frame.ensures in
-    let cut = failed.1 in
-    let k = broken_off c.args.live.now plan first n i.0.0 failed.0 a b d (WroteEach first n x y) made (omega (arith, cut, asked)) failed.2 in
-    let kind : c.in_err-load_next.field-0.0 ≡ _ = c.in_err-load_next.ensures.fault in
-    rw (p.1 ∙ ap Err (p.2 ∙ kind))
-    (record { bytes = k.bytes; read = k.read; n = n; within = within; breaks = k.breaks; written = k.made })
+    let breaks = subst (λ plan. BreaksIn live plan first n a d (IsOneOf c.loop-n.ended live plan first i.0.bytes)) i.3
+    (c.in_err-load.ensures.failed first n a i.0.bytes c.frame.ensures i.0.read (subst (λ plan. AreTaken c.loop-n.ended live plan first (first + n) i.0.bytes) (sym i.3) i.0.taken)) in
+    rw (p.1 ∙ ap Err p.2)
+    (inl (c.in_err-load.ensures.fault, n, omega (arith, less, many), broken_off live c.args.server.now.base first n c.loop-n.ended a (g.I.Source.known c.loop-n.input) (WroteEach first n (g.O.Sink.known c.args.out.now) (g.O.Sink.known c.loop-n.out)) i.0 d breaks))
 
 pub loop-n-preserved : goal.loop-n-preserved
 loop-n-preserved g c =
     let i = c.loop-n.invariant in
-    let plan : Plan = c.args.server.now.base in
-    let stretch = c.args.stretch in
-    let first : ℕ = first_in stretch in
+    let live = c.args.live.now in
+    let first : ℕ = first_in c.args.stretch in
     let n = c.loop-n.n in
     let a = g.I.Source.known c.args.input.now in
-    let b = g.I.Source.known c.loop-n.input in
-    let d = g.I.Source.known c.load_next.new.input in
+    let d = g.I.Source.known c.load.new.feed in
     let x = g.O.Sink.known c.args.out.now in
     let y = g.O.Sink.known c.loop-n.out in
     let z = g.O.Sink.known c.write_frame.new.out in
-    let e = c.in_ok-load_next.ensures in
-    let at = c.frame.ensures in
-    let next : LoadsNext c.args.live.now first (first + n) c.loop-n.ended c.load_next.new.ended c.loop-n.server c.load_next.new.server i.0.0 b d =
-    subst (λ k. LoadsNext c.args.live.now first k c.loop-n.ended c.load_next.new.ended c.loop-n.server c.load_next.new.server i.0.0 b d) at (e.loaded first i.0.0 (omega (arith, at))) in (
-      (
-        i.0.0 ++ next.got,
-        made_more c.args.live.now plan first n c.loop-n.ended c.load_next.new.ended c.loop-n.server c.load_next.new.server i.0.0 a b d (WroteEach first n x y) (WroteEach first (n + 1) x z) i.3 i.0.1 next
-            (λ other count has at made.
-            wrote_more other first n c.in_ok-write_frame.field-0 x y z made
-            (subst (λ t. WroteFrame other t c.in_ok-write_frame.field-0 y z) at (same_written c.load_next.new.server other has c.in_ok-write_frame.field-0 y z c.in_ok-write_frame.ensures.whole))),
-      ),
+    let e = c.in_ok-load.ensures in
+    let wrote = c.in_ok-write_frame in
+    let next = subst (λ p. HasMade live p first (n + 1) c.load.new.ended a d (λ shown. IsOneOf c.loop-n.ended live p first i.0.bytes shown × HasFrame c.load.new.server shown)) i.3
+    (e.loaded first n a i.0.bytes c.frame.ensures i.0.read (subst (λ p. AreTaken c.loop-n.ended live p first (first + n) i.0.bytes) (sym i.3) i.0.taken)) in (
+      made_more live c.args.server.now.base first n c.loop-n.ended a (g.I.Source.known c.loop-n.input) (WroteEach first n x y) i.0 c.load.new.ended c.load.new.server d (WroteEach first (n + 1) x z) next
+          (λ other count has made.
+          wrote_more other first n wrote.field-0 x y z made
+          (subst (λ t. WroteFrame other t wrote.field-0 y z) (e.at ∙ c.frame.ensures) (same_written c.load.new.server other has wrote.field-0 y z wrote.ensures.whole))),
       e.cause.same (λ failed. cc) ∙ i.1,
-      c.in_ok-write_frame.ensures.cause.same (λ failed. cc) ∙ i.2,
+      wrote.ensures.cause.same (λ failed. cc) ∙ i.2,
       e.base ∙ i.3,
       e.room ∙ i.4,
       refl,
@@ -97,13 +79,13 @@ loop-n-preserved g c =
 pub returns-in_err-write_frame-clause-wrote : goal.returns-in_err-write_frame-clause-wrote
 returns-in_err-write_frame-clause-wrote g c =
     let i = c.loop-n.invariant in
+    let live = c.args.live.now in
     let plan : Plan = c.args.server.now.base in
     let stretch = c.args.stretch in
     let first : ℕ = first_in stretch in
     let n = c.loop-n.n in
     let a = g.I.Source.known c.args.input.now in
-    let b = g.I.Source.known c.loop-n.input in
-    let d = g.I.Source.known c.load_next.new.input in
+    let d = g.I.Source.known c.load.new.feed in
     let x = g.O.Sink.known c.args.out.now in
     let y = g.O.Sink.known c.loop-n.out in
     let z = g.O.Sink.known c.write_frame.new.out in
@@ -111,48 +93,38 @@ returns-in_err-write_frame-clause-wrote g c =
     let less = c.loop-n-test.true in
     let many = c.frames_in-n-end.ensures.frames in
     let within : n < frames_in stretch plan = omega (arith, less, many) in
-    let e = c.in_ok-load_next.ensures in
-    let at = c.frame.ensures in
-    let next : LoadsNext c.args.live.now first (first + n) c.loop-n.ended c.load_next.new.ended c.loop-n.server c.load_next.new.server i.0.0 b d =
-    subst (λ k. LoadsNext c.args.live.now first k c.loop-n.ended c.load_next.new.ended c.loop-n.server c.load_next.new.server i.0.0 b d) at (e.loaded first i.0.0 (omega (arith, at))) in
-    let ended = c.load_next.new.ended in
-    let more = made_more c.args.live.now plan first n c.loop-n.ended ended c.loop-n.server c.load_next.new.server i.0.0 a b d (WroteEach first n x y) (λ other. OutputsText x z (IsPrefixOfCapture other stretch)) i.3 i.0.1 next
-    (λ other count has at made.
-    front_written other stretch n x y z (let many = as_many stretch other plan count in omega (arith, within, many)) made
-    (subst (λ t. OutputsText y z (IsPrefixOfFrame other t)) at (same_front c.load_next.new.server other has y z c.in_err-write_frame.ensures.front))) in
-    let next_is : first + (n + 1) ≡ first + n + 1 = omega arith in
+    let e = c.in_ok-load.ensures in
+    let next = subst (λ p. HasMade live p first (n + 1) c.load.new.ended a d (λ shown. IsOneOf c.loop-n.ended live p first i.0.bytes shown × HasFrame c.load.new.server shown)) i.3
+    (e.loaded first n a i.0.bytes c.frame.ensures i.0.read (subst (λ p. AreTaken c.loop-n.ended live p first (first + n) i.0.bytes) (sym i.3) i.0.taken)) in
     rw (p.1 ∙ ap Err p.2)
-    (record {
-      bytes = i.0.0 ++ next.got;
-      ended = ended;
-      read = more.read;
-      n = n;
-      within = within;
-      taken = subst (λ t. AreTaken ended c.args.live.now plan first t (i.0.0 ++ next.got)) next_is more.taken;
-      written = more.made;
-    })
+    (inr (
+      refl,
+      n,
+      within,
+      c.load.new.ended,
+      made_more live plan first n c.loop-n.ended a (g.I.Source.known c.loop-n.input) (WroteEach first n x y) i.0 c.load.new.ended c.load.new.server d (λ other. OutputsText x z (IsPrefixOfCapture other stretch)) next
+          (λ other count has made.
+          front_written other stretch n x y z (let many = as_many stretch other plan count in omega (arith, within, many)) made
+          (subst (λ t. OutputsText y z (IsPrefixOfFrame other t)) (e.at ∙ c.frame.ensures) (same_front c.load.new.server other has y z c.in_err-write_frame.ensures.front))),
+    ))
 
 pub returns-clause-wrote : goal.returns-clause-wrote
 returns-clause-wrote g c =
     let i = c.loop-n.invariant in
+    let live = c.args.live.now in
     let plan : Plan = c.args.server.now.base in
     let stretch = c.args.stretch in
     let first : ℕ = first_in stretch in
     let n = c.loop-n.n in
+    let a = g.I.Source.known c.args.input.now in
+    let b = g.I.Source.known c.loop-n.input in
     let x = g.O.Sink.known c.args.out.now in
     let y = g.O.Sink.known c.loop-n.out in
-    let ended = c.loop-n.ended in
-    let back : not (not ended) ≡ ended = not_not ended in
     let many = c.frames_in-n-end.ensures.frames in
     let few = c.loop-n.auto.n-end in
     let last = c.loop-n-test.false in
     let all : n ≡ frames_in stretch plan = omega (arith, last, many, few) in
-    record {
-      bytes = i.0.0;
-      read = subst (λ e. HasRead e i.0.0 (g.I.Source.known c.args.input.now) (g.I.Source.known c.loop-n.input)) (sym back) i.0.1.read;
-      taken = subst (λ m. AreTaken (not (not ended)) c.args.live.now plan first (first + m) i.0.0) all (subst (λ e. AreTaken e c.args.live.now plan first (first + n) i.0.0) (sym back) i.0.1.taken);
-      written = λ more ends.
-          let shown : Plan = fed c.args.live.now plan first (i.0.0 ++ more) in
-          let frames : frames_in stretch shown ≡ frames_in stretch plan = as_many stretch shown plan (same_frame_count c.args.live.now (pieces_of c.args.live.now plan first (i.0.0 ++ more)) plan) in
-          capture_written shown stretch n x y (omega (arith, all, frames)) (i.0.1.made more (λ e. ends (back ∙ e)));
-    }
+    rw (not_not c.loop-n.ended)
+    (subst (λ m. HasMade live plan first m c.loop-n.ended a b (λ p. OutputsText x y (IsCapture p stretch))) all
+    (made_so live plan first n c.loop-n.ended a b (WroteEach first n x y) i.0 (λ p. OutputsText x y (IsCapture p stretch))
+    (λ other count made. capture_written other stretch n x y (all ∙ sym (as_many stretch other plan count)) made)))
