@@ -75,7 +75,7 @@ module _ {S O : Type 0} (name : List ℕ) (shelf_known : S → Known Files) (she
   module _ (plan : Plan) (sound : IsSchedule plan) (loads : ReadBy (schedule_named name) (Ok plan) (shelf_known shelf) (shelf_known shelf')) (same : (shelf_known shelf').faults ≡ (shelf_known shelf).faults) (out out' : O) where
     -- a write failed
     pub cut_run : OutputsText (out_known out) (out_known out') (front plan) → HasFailed (out_known out) (out_known out') → CapacityRun name (Err faults.Write) shelf_known shelf shelf' out_known out out'
-    cut_run written once = run_by (Err faults.Write) out out' (Ok plan) loads sound written (inr refl) (counts_none (λ is. cc) same) (counts_one refl once)
+    cut_run written once = run_by (Err faults.Write) out out' (Ok plan) loads sound (refl, written) (inr refl) (counts_none (λ is. cc) same) (counts_one refl once)
 
     pub whole_run : OutputsText (out_known out) (out_known out') (whole plan) → (out_known out').faults ≡ (out_known out).faults → CapacityRun name (Ok (all_fit plan)) shelf_known shelf shelf' out_known out out'
     whole_run written still = run_by (Ok (all_fit plan)) out out' (Ok plan) loads sound written (inl refl) (counts_none (λ is. cc) same) (counts_none (λ is. cc) still)

@@ -1,5 +1,5 @@
 -- What had gone over links that were closed.
-use Rattle.std.proofs.Common.{◌≡◌, ℕ, ◌<◌, List, [], length, slice_index_or, Some, ◌∙◌, ap}
+use Rattle.std.proofs.Common.{◌≡◌, ℕ, ◌<◌, List, [], length, slice_index_or, None, Some, ◌∙◌, ap}
 use Rattle.std.specs.FinMap as map
 use Rattle.drm_links.specs.Dock.{DockContents, Over, address_key, AreDifferent}
 use Rattle.drm_links.specs.declared.dock.Address.{Address}

@@ -1,5 +1,5 @@
 -- A run with live streams is one of the schedule that input makes.
-use Rattle.std.proofs.Common.{◌≡◌, ℕ, ◌+◌, ◌-◌, inl, inr, not, Bool, true, false, List, [], ◌++◌, Result, Ok, Err, refl, ◌∙◌, subst}
+use Rattle.std.proofs.Common.{◌≡◌, ℕ, ◌+◌, inl, inr, not, Bool, true, false, List, [], ◌++◌, Result, Ok, Err, refl, ◌∙◌, subst}
 use Rattle.drm_links.specs.Known.{Known}
 use Rattle.drm_links.specs.Shelf.{Files}
 use Rattle.drm_links.specs.Source.{Input}

@@ -1,17 +1,16 @@
 -- A run with live streams over links that were opened and closed.
-use Rattle.std.proofs.Common.{◌≡◌, ℕ, ◌+◌, ◌*◌, ◌<◌, ◌≤◌, ◌⊎◌, inl, inr, ◌↔◌, Bool, true, false, List, [], ◌∷◌, ◌++◌, length, replicate, Option, None, Some, Result, Err, refl, sym, ◌∙◌, ap, subst, arith, append_assoc}
+use Rattle.std.proofs.Common.{◌≡◌, ℕ, ◌⊎◌, inl, inr, Bool, true, List, [], ◌∷◌, ◌++◌, length, replicate, Option, None, Some, Result, Err, refl, sym, ◌∙◌, ap, subst, append_assoc}
+use Rattle.std.proofs.lemmas.List.{append-nil, length-replicate}
 use Rattle.drm_links.specs.Known.{Known, KnownThrough, IfBothKnown}
 use Rattle.drm_links.specs.Shelf.{Files}
 use Rattle.drm_links.specs.Source.{Input}
 use Rattle.drm_links.specs.Dock.{DockContents, AreDifferent}
 use Rattle.drm_links.specs.History.{GroupEvent, History, EventsHappen, TellsEvents}
-use Rattle.drm_links.specs.Calls.{is_up}
 use Rattle.drm_links.specs.Gathering.{DockGathers, DockDisbands, NothingSent, after_disbanding}
 use Rattle.drm_links.specs.declared.dock.GatheredGroup.TheVariants as gathered
 use Rattle.drm_links.specs.declared.dock.Address.{Address}
 use Rattle.drm_schedule.specs.declared.live.Live.{Live}
 use Rattle.drm_schedule.specs.declared.plan.Plan.{Plan}
-use Rattle.live_streams.specs.Laws.{InputMakesASchedule}
 use Rattle.drm_server.specs.Laws.{HasOneDelivery, FirstOnesArePrefix}
 use Rattle.drm_server.specs.Serving.{FramesCome}
 use Rattle.cmd_load.specs.Loading.{ShelfReading}
@@ -22,30 +21,25 @@ use Rattle.drm_links.proofs.KnownLemmas.{counts_as, counts_one, Tells-then}
 use Rattle.cmd_faults.specs.declared.fault.Fault.{Fault}
 use Rattle.cmd_faults.specs.declared.fault.Fault.TheVariants as faults
 use Rattle.drm_server.specs.declared.stretch.Stretch.{Stretch}
-use Rattle.drm_server.specs.Stretch.{first_in, frames_in}
+use Rattle.drm_server.specs.Stretch.{first_in}
 use Rattle.live_server.specs.Feeding.{fed}
-use Rattle.cmd_serve.specs.Live.{live_named, FedRun, BrokenSend, EndsBroken}
+use Rattle.cmd_serve.specs.Live.{live_named, FedRun, BrokenOver, BrokenSend}
 use Rattle.cmd_serve.specs.OverGroup.{GroupComes, OverGroup}
-use Rattle.cmd_serve.specs.Send.{RunComes, GroupRan, SendRun, ClosedRun, UnopenedRun}
-use Rattle.cmd_serve.proofs.RanLemmas.{many_up}
+use Rattle.cmd_serve.specs.Send.{RunComes, GroupRan, RunOver, SendRun, ClosedRun, UnopenedRun}
 use Rattle.cmd_serve.proofs.SendLemmas.{closed, unopened, over_links, nothing_sent}
 use Rattle.cmd_serve.proofs.LiveLemmas.{unfed}
 use Rattle.cmd_serve.proofs.LiveServeLemmas.{read_of}
 
 -- what a group tells of itself is what it told before, and what happened since
 all_events : (events : List GroupEvent) (x y : History) → EventsHappen events x y → y.events ≡ x.events ++ events
-all_events [] x y happen = ap (λ (h : History). h.events) happen ∙ sym (no_more x.events)
-  where
-    no_more : (xs : List GroupEvent) → xs ++ [] ≡ xs
-    no_more [] = refl
-    no_more (x ∷ xs) = ap (λ l. x ∷ l) (no_more xs)
+all_events [] x y happen = ap (λ (h : History). h.events) happen ∙ sym (append-nil x.events)
 all_events (event ∷ events) x y happen =
     all_events events happen.0 y happen.2 ∙ (ap (λ l. l ++ events) happen.1.events ∙ append_assoc x.events (event ∷ []) events)
 
 -- not for want of memory
-not_memory : (addresses : List Address) (up : List Bool) (ending : Result Bool Fault) → EndsBroken addresses up ending → ending ≡ Err faults.NoMemory → ⊥
-not_memory addresses up ending (inl (is, all)) memory = let both = sym is ∙ memory in cc
-not_memory addresses up ending (inr (is, k, within, down)) memory = let both = sym is ∙ memory in cc
+not_memory : (P Q : Type 0) (ending : Result Bool Fault) → ((ending ≡ Err faults.Read) × P) ⊎ ((ending ≡ Err faults.Link) × Q) → ending ≡ Err faults.NoMemory → ⊥
+not_memory P Q ending (inl (is, p)) memory = let both = sym is ∙ memory in cc
+not_memory P Q ending (inr (is, q)) memory = let both = sym is ∙ memory in cc
 
 module _ {S D : Type 0} (one : HasOneDelivery) (front : FirstOnesArePrefix) (name : List ℕ) (addresses : List Address) (pace : ℕ) (stretch : Stretch) (live : Live)
     (shelf_known : S → Known Files) (shelf shelf' : S) (dock_known : D → Known DockContents) (dock dock' : D) where
@@ -72,12 +66,12 @@ module _ {S D : Type 0} (one : HasOneDelivery) (front : FirstOnesArePrefix) (nam
   pub live_nothing_sent : (ending : Result Bool Fault) (input input' : Known Input) → AreDifferent addresses → Ran ending input input' → ending ≡ Err faults.NoMemory → IfBothKnown (dock_known dock) (dock_known dock') NothingSent
   live_nothing_sent ending input input' different (inl fed) memory =
       nothing_sent one front (live_named name live (first_in stretch) (fed.bytes ++ [])) addresses pace stretch (done_of ending) shelf_known shelf shelf' dock_known dock dock' different (fed.runs [] (λ end. refl)) (ap done_of memory)
-  live_nothing_sent ending input input' different (inr broken) memory = absurd (not_memory addresses broken.up ending broken.ends memory)
+  live_nothing_sent ending input input' different (inr broken) memory = absurd (not_memory _ _ ending broken.over.ends memory)
 
   -- unless a link failed, a read failed, of input or of the shelf, exactly where that is told
   pub sent_read : (ending : Result Bool Fault) (input input' : Known Input) → Ran ending input input' → (ending ≡ Err faults.Link → ⊥) → OneFailed input input' (shelf_known shelf) (shelf_known shelf') (ending ≡ Err faults.Read)
   sent_read ending input input' (inl fed) none = other_alone fed.same (counts_as (λ e. ap done_of e) (λ e. read_of ending faults.Read e) (fed.runs [] (λ end. refl)).read_cause)
-  sent_read ending input input' (inr broken) none = one_alone (counts_one (elim broken.ends [ inl read ↦ read.0 | inr link ↦ absurd (none link.0) ]) broken.run.once) broken.run.loaded
+  sent_read ending input input' (inr broken) none = one_alone (counts_one (elim broken.over.ends [ inl read ↦ read.0 | inr link ↦ absurd (none link.0) ]) broken.over.run.once) broken.over.run.loaded
 
   -- the dock's count of faults rose only where an opening failed
   pub sent_dock : (ending : Result Bool Fault) (input input' : Known Input) → Ran ending input input' → OpeningFailed (dock_known dock) (dock_known dock') (ending ≡ Err faults.Link)
@@ -91,7 +85,7 @@ module _ {S D : Type 0} (one : HasOneDelivery) (front : FirstOnesArePrefix) (nam
   module _ {G : Type 0} (known : G → Known History) (mid : Known DockContents) (group group' : G) (up' : List Bool)
       (opens : KnownThrough (dock_known dock) mid (DockGathers known None addresses (gathered.Group group)))
       (shut : KnownThrough mid (dock_known dock') (DockDisbands (known group') None addresses)) where
-    ran : (Comes : List Bool → List GroupEvent → List Bool → Type 0) → GroupComes Comes (replicate (length addresses) true) up' (known group) (known group')
+    ran : (Comes : List Bool → List GroupEvent → List Bool → Type 0) → GroupComes (replicate (length addresses) true) up' (known group) (known group') Comes
         → KnownThrough (dock_known dock) (dock_known dock') (GroupRan Comes up' addresses)
     ran Comes made =
         Tells-then (DockGathers known None addresses (gathered.Group group)) (DockDisbands (known group') None addresses) (GroupRan Comes up' addresses) (dock_known dock) mid (dock_known dock') opens shut
@@ -110,54 +104,64 @@ module _ {S D : Type 0} (one : HasOneDelivery) (front : FirstOnesArePrefix) (nam
           contents = q.2 ∙ (ap (λ l. after_disbanding None addresses l y) events ∙ ap (after_disbanding None addresses made.0) p.3);
         })
 
-    pub live_over : (makes : InputMakesASchedule) (different : AreDifferent addresses) (up : List Bool) → up ≡ replicate (length addresses) true → (dock_known dock').faults ≡ (dock_known dock).faults
+    -- each of its links was up
+    pub live_over : (different : AreDifferent addresses) (up : List Bool) → up ≡ replicate (length addresses) true → (dock_known dock').faults ≡ (dock_known dock).faults
         → (ending : Result Bool Fault) (input input' : Known Input) → OverGroup name pace stretch live ending shelf_known shelf shelf' input input' up up' (known group) (known group') → Ran ending input input'
-    live_over makes different up is same ending input input' (inl fed) = inl (record {
-      bytes = fed.bytes;
-      ended = fed.ended;
-      read = fed.read;
-      runs = λ more last.
-          let reading = live_named name live (first_in stretch) (fed.bytes ++ more) in
-          let run = fed.runs more last in
-          over_links one front reading addresses pace stretch (done_of ending) shelf_known shelf shelf' dock_known dock dock' different
-          (record {
-            outcome = run.outcome;
-            loads = run.loads;
-            sound = run.sound;
-            ends = run.ends;
-            up = up';
-            contents = ran (RunComes pace stretch run.outcome) (subst (λ l. GroupComes (RunComes pace stretch run.outcome) l up' (known group) (known group')) is run.made);
-            failed = subst (λ n. (done_of ending ≡ Err faults.Link) ↔ ((k : ℕ) × (k < n) × (is_up up' k ≡ false))) (ap (λ (l : List Bool). length l) is ∙ many_up (length addresses)) run.failed;
-            same = same;
-            read_cause = run.read_cause;
-          });
-      same = fed.same;
-      taken = fed.taken;
-    })
-    live_over makes different up is same ending input input' (inr broken) =
-        let run = broken.run in
-        let long : length up' ≡ length addresses = broken.many ∙ (ap (λ (l : List Bool). length l) is ∙ many_up (length addresses)) in
-        inr (record {
-          up = up';
-          left = broken.left;
-          ends = elim broken.ends [
-            | inl read ↦ inl (read.0, λ k within. read.1 k (omega (arith, within, long)))
-            | inr link ↦ inr (link.0, link.1, (let less = link.2 in omega (arith, less, long)), link.3)
-          ];
-          same = same;
-          run = record {
-            plan = run.plan;
-            loads = run.loads;
-            sound = run.sound;
-            bytes = run.bytes;
-            read = run.read;
-            n = run.n;
-            within = run.within;
-            breaks = run.breaks;
-            made = λ more last.
-                let shown : Plan = fed live run.plan (first_in stretch) (run.bytes ++ more) in
-                ran (FramesCome shown (first_in stretch) pace run.n) (subst (λ l. GroupComes (FramesCome shown (first_in stretch) pace run.n) l up' (known group) (known group')) is (run.made more last));
-            once = run.once;
-            loaded = run.loaded;
-          };
+    live_over different up is same ending input input' run =
+        by (subst (λ (links : ℕ). Over links (replicate (length addresses) true)) (length-replicate (length addresses) true) (subst (λ l. Over (length l) l) is run))
+      where
+        Over : ℕ → List Bool → Type 0
+        Over links l =
+            FedRun name live stretch ending shelf_known shelf shelf' input input' (λ reading. RunOver reading pace stretch (done_of ending) shelf_known shelf shelf' links up' (GroupComes l up' (known group) (known group')))
+            ⊎ BrokenOver name pace stretch live ending shelf_known shelf shelf' input input' links up' (GroupComes l up' (known group) (known group'))
+
+        by : Over (length addresses) (replicate (length addresses) true) → Ran ending input input'
+        by (inl run_fed) = inl (record {
+          bytes = run_fed.bytes;
+          ended = run_fed.ended;
+          read = run_fed.read;
+          runs = λ more last.
+              let run = run_fed.runs more last in
+              over_links one front (live_named name live (first_in stretch) (run_fed.bytes ++ more)) addresses pace stretch (done_of ending) shelf_known shelf shelf' dock_known dock dock' different
+              (record {
+                up = up';
+                over = record {
+                  outcome = run.outcome;
+                  loads = run.loads;
+                  sound = run.sound;
+                  ends = run.ends;
+                  made = ran (RunComes pace stretch run.outcome) run.made;
+                  failed = run.failed;
+                  read_cause = run.read_cause;
+                };
+                same = same;
+              });
+          same = run_fed.same;
+          taken = run_fed.taken;
         })
+        by (inr over) =
+            let run = over.run in
+            let broken = run.broken in
+            inr (record {
+              up = up';
+              over = record {
+                left = over.left;
+                ends = over.ends;
+                run = record {
+                  plan = run.plan;
+                  loads = run.loads;
+                  sound = run.sound;
+                  n = run.n;
+                  within = run.within;
+                  broken = record {
+                    bytes = broken.bytes;
+                    read = broken.read;
+                    breaks = broken.breaks;
+                    made = λ more last. ran (FramesCome (fed live run.plan (first_in stretch) (broken.bytes ++ more)) (first_in stretch) pace run.n) (broken.made more last);
+                  };
+                  once = run.once;
+                  loaded = run.loaded;
+                };
+              };
+              same = same;
+            })

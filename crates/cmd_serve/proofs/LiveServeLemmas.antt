@@ -1,5 +1,5 @@
 -- A capture of a schedule with live streams.
-use Rattle.std.proofs.Common.{◌≡◌, ℕ, ◌+◌, ◌*◌, inl, inr, not, Bool, List, [], ◌++◌, Result, Ok, Err, refl, ap}
+use Rattle.std.proofs.Common.{◌≡◌, ℕ, inl, inr, not, Bool, List, [], ◌++◌, Result, Ok, Err, refl, sym, ◌∙◌, ap, subst}
 use Rattle.drm_links.specs.Known.{Known, HasCause}
 use Rattle.drm_links.specs.Shelf.{Files}
 use Rattle.drm_links.specs.Source.{Input}
@@ -16,12 +16,12 @@ use Rattle.cmd_load.specs.declared.loading.ScheduleFault.{ScheduleFault}
 use Rattle.cmd_load.specs.declared.loading.ScheduleFault.TheVariants as schedule
 use Rattle.cmd_faults.specs.Fault.{done_of}
 use Rattle.cmd_faults.specs.Causes.{OneFailed}
-use Rattle.cmd_faults.proofs.CauseLemmas.{one_alone, other_alone}
+use Rattle.cmd_faults.proofs.CauseLemmas.{one_alone, other_alone, inner_fault}
 use Rattle.drm_links.proofs.KnownLemmas.{counts_as, counts_one}
 use Rattle.cmd_faults.specs.declared.fault.Fault.{Fault}
-use Rattle.cmd_faults.specs.declared.fault.Fault.TheVariants.{NoMemory, Words, FacLength, FacOver, FacCrc, Schedule, Script, Capture, CaptureTooLong, PacketSize, Units, Read, Write, Link}
+use Rattle.cmd_faults.specs.declared.fault.Fault.TheVariants.{Read, Write}
 use Rattle.drm_server.specs.declared.stretch.Stretch.{Stretch}
-use Rattle.drm_server.specs.Stretch.{first_in, frames_in}
+use Rattle.drm_server.specs.Stretch.{first_in}
 use Rattle.live_server.specs.Feeding.{fed}
 use Rattle.live_server.specs.Capture.{WroteLive}
 use Rattle.cmd_serve.specs.ScheduleRun.{ScheduleRun}
@@ -67,44 +67,18 @@ module _ {S I O : Type 0} (name : List ℕ) (stretch : Stretch) (live : Live) (s
         (λ more last.
         let bytes = wrote.bytes ++ more in
         whole_run (live_named name live (first_in stretch) bytes) IsSchedule whole front shelf_known shelf shelf' out_known (fed live plan (first_in stretch) bytes) (makes live plan (first_in stretch) bytes valid)
-        (live_reads name live (first_in stretch) bytes (shelf_known shelf) (shelf_known shelf') plan comes) same out out' (wrote.written more last) (write.same (λ is. cc)))
+        (live_reads name live (first_in stretch) bytes (shelf_known shelf) (shelf_known shelf') plan comes) same out out' (wrote.made more last) (write.same (λ is. cc)))
         (λ other is. ((let same : all ≡ other = cc in ap not same), wrote.taken)))
-    live_served (Err Write) read write wrote =
-        inl (was_fed name live stretch shelf_known shelf shelf' (Err Write) (input_known input) (input_known input') (RunOf (Err Write) out out') plan wrote.ended wrote.bytes comes wrote.read (read.same (λ is. cc))
+    live_served (Err fault) read write (inl (is, n, within, breaks)) =
+        inr (ap Err is, record { plan = plan; loads = comes; sound = valid; n = n; within = within; broken = breaks; once = read.once (ap Err is); loaded = same })
+    live_served (Err fault) read write (inr (is, n, within, ended, wrote)) =
+        inl (was_fed name live stretch shelf_known shelf shelf' (Err fault) (input_known input) (input_known input') (RunOf (Err fault) out out') plan ended wrote.bytes comes wrote.read (read.same (λ e. let read : Write ≡ Read = sym is ∙ inner_fault fault Read e in absurd cc))
         (λ more last.
         let bytes = wrote.bytes ++ more in
-        cut_run (live_named name live (first_in stretch) bytes) IsSchedule whole front shelf_known shelf shelf' out_known (fed live plan (first_in stretch) bytes) (makes live plan (first_in stretch) bytes valid)
-        (live_reads name live (first_in stretch) bytes (shelf_known shelf) (shelf_known shelf') plan comes) same out out' (wrote.written more last) (write.once refl))
-        (λ other is. absurd cc))
-    live_served (Err Read) read write wrote =
-        inr (
-          refl,
-          record {
-            plan = plan;
-            loads = comes;
-            sound = valid;
-            bytes = wrote.bytes;
-            read = wrote.read;
-            n = wrote.n;
-            within = wrote.within;
-            breaks = wrote.breaks;
-            made = wrote.written;
-            once = read.once refl;
-            loaded = same;
-          },
-        )
-    live_served (Err NoMemory) read write wrote = absurd wrote
-    live_served (Err Link) read write wrote = absurd wrote
-    live_served (Err Words) read write wrote = absurd wrote
-    live_served (Err (FacLength n)) read write wrote = absurd wrote
-    live_served (Err FacOver) read write wrote = absurd wrote
-    live_served (Err (FacCrc s c)) read write wrote = absurd wrote
-    live_served (Err (Schedule l r)) read write wrote = absurd wrote
-    live_served (Err (Script l r)) read write wrote = absurd wrote
-    live_served (Err (Capture f)) read write wrote = absurd wrote
-    live_served (Err CaptureTooLong) read write wrote = absurd wrote
-    live_served (Err (PacketSize p)) read write wrote = absurd wrote
-    live_served (Err (Units p)) read write wrote = absurd wrote
+        subst (λ f. RunOf (Err f) out out' (live_named name live (first_in stretch) bytes)) (sym is)
+        (cut_run (live_named name live (first_in stretch) bytes) IsSchedule whole front shelf_known shelf shelf' out_known (fed live plan (first_in stretch) bytes) (makes live plan (first_in stretch) bytes valid)
+        (live_reads name live (first_in stretch) bytes (shelf_known shelf) (shelf_known shelf') plan comes) same out out' (wrote.made more last) (write.once (ap Err is))))
+        (λ other e. absurd cc))
 
 module _ {S I O : Type 0} (name : List ℕ) (stretch : Stretch) (live : Live) (ending : Result Bool Fault) (shelf_known : S → Known Files) (shelf shelf' : S) (input_known : I → Known Input) (input input' : I)
     (out_known : O → Known Output) (out out' : O) where

@@ -1,16 +1,16 @@
 -- What went over each link of a group that was opened and closed.
-use Rattle.std.proofs.Common.{◌≡◌, ℕ, zero, suc, ◌+◌, ◌-◌, ◌≤◌, ◌<◌, ◌⊎◌, inl, inr, Bool, true, false, List, [], ◌∷◌, length, replicate, slice_index_or, get_or, Option, None, Some, Result, Ok, Err, refl, sym, ◌∙◌, ap, subst, arith}
+use Rattle.std.proofs.Common.{◌≡◌, ℕ, ◌-◌, ◌<◌, ◌⊎◌, inl, inr, Bool, true, false, List, [], length, replicate, slice_index_or, Option, None, Some, Result, Ok, Err, refl, sym, ◌∙◌, ap, subst, arith}
+use Rattle.std.proofs.lemmas.List.{length-replicate, get_or-replicate}
 use Rattle.drm_links.specs.Dock.{DockContents, LinkStart, OpeningFinds}
 use Rattle.drm_links.specs.declared.dock.Address.{Address}
 use Rattle.drm_links.specs.Transmission.{TakesSends, fewer}
-use Rattle.drm_links.specs.History.{GroupEvent, History}
+use Rattle.drm_links.specs.History.{History}
 use Rattle.drm_links.specs.Alone.{gone_at}
-use Rattle.drm_links.specs.Calls.{is_up, NoneUp}
+use Rattle.drm_links.specs.Calls.{is_up}
 use Rattle.drm_schedule.specs.declared.plan.Plan.{Plan}
 use Rattle.drm_server.specs.declared.stretch.Stretch.{Stretch}
 use Rattle.drm_server.specs.Stretch.{first_in, frames_in}
 use Rattle.drm_server.specs.Datagrams.{AreOfFrames, AreDatagrams, AreBefore}
-use Rattle.drm_server.specs.Serving.{FramesCome}
 use Rattle.drm_server.proofs.CallsAt.{Stands}
 use Rattle.drm_server.proofs.FramesAt.{FramesWent, frames_went}
 use Rattle.cmd_load.specs.declared.loading.ScheduleFault.{ScheduleFault}
@@ -26,15 +26,6 @@ GoFrames stretch schedule false sends gone = (next : List ℕ) × AreBefore sche
 abbrev pub SentDatagrams : Stretch → Result Plan ScheduleFault → Bool → Option ℕ → List (List ℕ) → Type 0
 SentDatagrams stretch (Ok schedule) up sends gone = GoFrames stretch schedule up sends gone
 SentDatagrams stretch (Err fault) up sends gone = gone ≡ []
-
-all_up : (n k : ℕ) → k < n → is_up (replicate n true) k ≡ true
-all_up zero k within = absurd (omega (arith, within))
-all_up (suc n) zero within = refl
-all_up (suc n) (suc k) within = all_up n k (omega (arith, within))
-
-pub many_up : (n : ℕ) → length (replicate n true) ≡ n
-many_up zero = refl
-many_up (suc n) = let more = many_up n in omega (arith, more)
 
 none_left : (taken : Option ℕ) → fewer taken 0 ≡ taken
 none_left None = refl
@@ -67,8 +58,8 @@ module _ (addresses : List Address) (pace : ℕ) (stretch : Stretch) (outcome : 
       by (Ok plan) (n, few, come, some) =
           let s = ran.starts.sends in
           let there = s.each k at None within in
-          let size = many_up (length addresses) in
+          let size = length-replicate (length addresses) true in
           let b = is_up up k in
           let stands : Stands k there.0.sends [] ran.start = record { among = (let many = s.as_many in omega (arith, within, many)); takes = takes_none there.0.sends; left = there.2 ∙ sym (none_left there.0.sends) } in
           frames_by plan stretch pace n k there.0.sends b (gone_of k) ran.last (elim some [ inl all ↦ inl all | inr down ↦ inr (down k) ])
-          (frames_went plan stretch pace k there.0.sends n (replicate (length addresses) true) up ran.events ran.start ran.last come ran.happened (omega (arith, within, size)) (all_up (length addresses) k within) stands few)
+          (frames_went plan stretch pace k there.0.sends n (replicate (length addresses) true) up ran.events ran.start ran.last come ran.happened (omega (arith, within, size)) (get_or-replicate (length addresses) k true false within) stands few)

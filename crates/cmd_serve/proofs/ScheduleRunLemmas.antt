@@ -5,7 +5,7 @@ use Rattle.drm_links.specs.Shelf.{Files, ShelfSupplies}
 use Rattle.drm_links.specs.Sink.{Output, OutputsText}
 use Rattle.drm_links.proofs.KnownLemmas.{Tells-weaker, counts_one, counts_none, counts_as}
 use Rattle.cmd_faults.specs.declared.fault.Fault.{Fault}
-use Rattle.cmd_faults.specs.declared.fault.Fault.TheVariants.{NoMemory, Words, FacLength, FacOver, FacCrc, Schedule, Script, Capture, CaptureTooLong, PacketSize, Units, Read, Write, Link}
+use Rattle.cmd_faults.specs.declared.fault.Fault.TheVariants.{NoMemory, Read, Write}
 use Rattle.cmd_load.specs.declared.loading.ScheduleFault.{ScheduleFault}
 use Rattle.cmd_load.specs.declared.loading.ScheduleFault.TheVariants as schedule
 use Rattle.cmd_load.specs.Faults.{fault_of_schedule}
@@ -18,38 +18,12 @@ module _ {T O : Type 0} (whole front : T → List ℕ → Type 0) where
   -- it ends by what came
   ends_by : (outcome : Result T ScheduleFault) (ending : Result (Unit {0}) Fault) (known : O → Known Output) (out out' : O) → WritesOutcome whole front outcome ending known out out' → ServeEndsBy Write outcome ending
   ends_by (Ok x) (Ok done) known out out' writes = inl refl
-  ends_by (Ok x) (Err Write) known out out' writes = inr refl
-  ends_by (Ok x) (Err NoMemory) known out out' writes = absurd writes
-  ends_by (Ok x) (Err Link) known out out' writes = absurd writes
-  ends_by (Ok x) (Err Words) known out out' writes = absurd writes
-  ends_by (Ok x) (Err (FacLength n)) known out out' writes = absurd writes
-  ends_by (Ok x) (Err FacOver) known out out' writes = absurd writes
-  ends_by (Ok x) (Err (FacCrc s c)) known out out' writes = absurd writes
-  ends_by (Ok x) (Err (Schedule l r)) known out out' writes = absurd writes
-  ends_by (Ok x) (Err (Script l r)) known out out' writes = absurd writes
-  ends_by (Ok x) (Err (Capture f)) known out out' writes = absurd writes
-  ends_by (Ok x) (Err CaptureTooLong) known out out' writes = absurd writes
-  ends_by (Ok x) (Err (PacketSize p)) known out out' writes = absurd writes
-  ends_by (Ok x) (Err (Units p)) known out out' writes = absurd writes
-  ends_by (Ok x) (Err Read) known out out' writes = absurd writes
+  ends_by (Ok x) (Err fault) known out out' writes = inr (ap Err writes.0)
   ends_by (Err fault) ending known out out' writes = writes.0
 
   all_written : (x : T) (ending : Result (Unit {0}) Fault) (known : O → Known Output) (out out' : O) → WritesOutcome whole front (Ok x) ending known out out' → (ending ≡ Err Write → ⊥) → (ending ≡ Ok tt) × OutputsText (known out) (known out') (whole x)
   all_written x (Ok done) known out out' writes none = (refl, writes)
-  all_written x (Err Write) known out out' writes none = absurd (none refl)
-  all_written x (Err NoMemory) known out out' writes none = absurd writes
-  all_written x (Err Link) known out out' writes none = absurd writes
-  all_written x (Err Words) known out out' writes none = absurd writes
-  all_written x (Err (FacLength n)) known out out' writes none = absurd writes
-  all_written x (Err FacOver) known out out' writes none = absurd writes
-  all_written x (Err (FacCrc s c)) known out out' writes none = absurd writes
-  all_written x (Err (Schedule l r)) known out out' writes none = absurd writes
-  all_written x (Err (Script l r)) known out out' writes none = absurd writes
-  all_written x (Err (Capture f)) known out out' writes none = absurd writes
-  all_written x (Err CaptureTooLong) known out out' writes none = absurd writes
-  all_written x (Err (PacketSize p)) known out out' writes none = absurd writes
-  all_written x (Err (Units p)) known out out' writes none = absurd writes
-  all_written x (Err Read) known out out' writes none = absurd writes
+  all_written x (Err fault) known out out' writes none = absurd (none (ap Err writes.0))
 
 -- what comes of a reading where memory didn't run out is what the files come to
 pub outcome_or_memory : {T : Type 0} (reading : ShelfReading T) (outcome : Result T ScheduleFault) (x y : Files) → Comes reading outcome x y → (outcome ≡ Err schedule.NoMemory) ⊎ (outcome ≡ (reading x).outcome)
@@ -130,7 +104,7 @@ module _ {T S O : Type 0} (reading : ShelfReading T) (is_sound : T → Type 0) (
   module _ (x : T) (sound : is_sound x) (comes : ReadBy reading (Ok x) (shelf_known shelf) (shelf_known shelf')) (same : (shelf_known shelf').faults ≡ (shelf_known shelf).faults) (out out' : O) where
     -- a write failed
     pub cut_run : OutputsText (out_known out) (out_known out') (front x) → HasFailed (out_known out) (out_known out') → ScheduleRun reading is_sound whole front (Err Write) shelf_known shelf shelf' out_known out out'
-    cut_run written once = run_by (Err Write) out out' (Ok x) comes sound written (counts_none (λ is. cc) same) (counts_one refl once)
+    cut_run written once = run_by (Err Write) out out' (Ok x) comes sound (refl, written) (counts_none (λ is. cc) same) (counts_one refl once)
 
     pub whole_run : OutputsText (out_known out) (out_known out') (whole x) → (out_known out').faults ≡ (out_known out).faults → ScheduleRun reading is_sound whole front (Ok tt) shelf_known shelf shelf' out_known out out'
     whole_run written still = run_by (Ok tt) out out' (Ok x) comes sound written (counts_none (λ is. cc) same) (counts_none (λ is. cc) still)

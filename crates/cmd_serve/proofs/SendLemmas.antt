@@ -1,9 +1,9 @@
 -- What a run over links says of how it ends and of what has gone.
-use Rattle.std.proofs.Common.{◌≡◌, ℕ, ◌+◌, ◌*◌, ◌<◌, ◌⊎◌, ◌↔◌, inl, inr, Bool, true, false, List, [], ◌∷◌, length, replicate, slice_index_or, Option, None, Some, IsNone, Result, Ok, Err, refl, sym, ◌∙◌, ap, subst, arith, length-append}
+use Rattle.std.proofs.Common.{◌≡◌, ℕ, ◌+◌, ◌<◌, ◌⊎◌, ◌↔◌, inl, inr, Bool, true, false, List, [], ◌∷◌, length, replicate, slice_index_or, Option, None, Some, Result, Ok, Err, refl, sym, ◌∙◌, ap, subst, arith, length-append}
 use Rattle.std.specs.FinMap as map
 use Rattle.drm_links.specs.Known.{Known, IfBothKnown, KnownThrough}
 use Rattle.drm_links.specs.Shelf.{Files, ShelfSupplies}
-use Rattle.drm_links.specs.Dock.{DockContents, LinkStart, address_key, start_at, AreDifferent, OpeningFinds, FindsNone}
+use Rattle.drm_links.specs.Dock.{DockContents, LinkStart, address_key, AreDifferent, OpeningFinds}
 use Rattle.drm_links.specs.Transmission.{TakesSends, TakesFewer}
 use Rattle.drm_links.specs.declared.dock.Address.{Address}
 use Rattle.drm_links.proofs.KnownLemmas.{Tells-weaker, Tells-nothing, counts_none}
@@ -12,6 +12,7 @@ use Rattle.drm_links.specs.History.{GroupEvent}
 use Rattle.drm_links.specs.Alone.{gone_at}
 use Rattle.drm_links.specs.Calls.{is_up}
 use Rattle.drm_links.specs.Gathering.{ReachesNone, ReachesFew, NothingSent}
+use Rattle.drm_links.proofs.BindLemmas.{found_once, is_found}
 use Rattle.drm_links.proofs.OpeningLemmas.{docks_while}
 use Rattle.drm_server.specs.declared.stretch.Stretch.{Stretch}
 use Rattle.drm_server.specs.Datagrams.{AreDatagrams, AreBefore}
@@ -30,14 +31,6 @@ use Rattle.cmd_serve.proofs.ScheduleRunLemmas.{outcome_or_memory, ends_memory, e
 
 -- ---- an opening finds a link, or none
 
--- not both
-both : {A : Type 0} (contents : DockContents) (k : ℕ) (at : Address) (start : LinkStart) → FindsNone contents k at → OpeningFinds contents k at start → A
-both contents k at start (inl failing) finds = absurd (finds.allowed failing)
-both contents k at start (inr none) finds = let p : IsNone (start_at contents at) = none in absurd (let s : start_at contents at ≡ Some start = finds.stands in cc)
-
-one_start : (contents : DockContents) (k : ℕ) (at : Address) (a b : LinkStart) → OpeningFinds contents k at a → OpeningFinds contents k at b → a ≡ b
-one_start contents k at a b x y = let s : start_at contents at ≡ Some a = x.stands in let t : start_at contents at ≡ Some b = y.stands in cc
-
 no_address : Address
 no_address = record { ip = []; port = 0 }
 
@@ -48,7 +41,7 @@ opening_fails addresses x y few = record { k = few.k; within = few.within; fails
 none_fails : {A : Type 0} (Comes : List Bool → List GroupEvent → List Bool → Type 0) (up : List Bool) (addresses : List Address) (x y : DockContents) → GroupRan Comes up addresses x y → ReachesNone x addresses → A
 none_fails Comes up addresses x y ran none =
     let there = ran.starts.sends.each none.k no_address None none.within in
-    both x none.k (slice_index_or addresses none.k no_address) there.0 (none.fails no_address) there.1
+    absurd (is_found x none.k (slice_index_or addresses none.k no_address) there.0 there.1 (none.fails no_address))
 
 -- ---- how it ends, by what came
 
@@ -131,7 +124,7 @@ module _ {S D : Type 0} (one : HasOneDelivery) (front : FirstOnesArePrefix) (rea
     done = Tells-weaker (ReachesFew addresses) _ (dock_known dock) (dock_known dock') run.contents
         (λ x y few. unread _ run.unread (λ files plan datagrams gives are takes.
         let there = takes few.k no_address few.within in
-        both x few.k (slice_index_or addresses few.k no_address) there.0 (few.fails no_address) there.1));
+        absurd (is_found x few.k (slice_index_or addresses few.k no_address) there.0 there.1 (few.fails no_address))));
     alike = λ e. absurd (let other = sym run.fault ∙ e in cc);
     exactly = λ none. absurd (none run.fault);
     dock_cause = inr (run.fault, run.once);
@@ -156,50 +149,50 @@ module _ {S D : Type 0} (one : HasOneDelivery) (front : FirstOnesArePrefix) (rea
 
   module _ (different : AreDifferent addresses) (run : LinksRun reading addresses pace stretch ending shelf_known shelf shelf' dock_known dock dock') where
     abbrev Ran : DockContents → DockContents → Type 0
-    Ran x y = GroupRan (RunComes pace stretch run.outcome) run.up addresses x y
+    Ran x y = GroupRan (RunComes pace stretch run.over.outcome) run.up addresses x y
 
     module _ (x y : DockContents) (ran : Ran x y) where
       gone : ℕ → List (List ℕ)
       gone k = gone_at k ran.events
 
-      goes : (k : ℕ) (at : Address) → k < length addresses → (start : LinkStart) × OpeningFinds x k (slice_index_or addresses k at) start × SentDatagrams stretch run.outcome (is_up run.up k) start.sends (gone_at k ran.events)
-      goes k at within = sent_each addresses pace stretch run.outcome run.up x y ran k at within
+      goes : (k : ℕ) (at : Address) → k < length addresses → (start : LinkStart) × OpeningFinds x k (slice_index_or addresses k at) start × SentDatagrams stretch run.over.outcome (is_up run.up k) start.sends (gone_at k ran.events)
+      goes k at within = sent_each addresses pace stretch run.over.outcome run.up x y ran k at within
 
       -- it fails by a link exactly where one takes too few sends
-      link_by : (ending ≡ Err faults.Link) ↔ (ReachesNone x addresses ⊎ LacksSome stretch run.outcome x addresses)
+      link_by : (ending ≡ Err faults.Link) ↔ (ReachesNone x addresses ⊎ LacksSome stretch run.over.outcome x addresses)
       link_by = (
         λ e.
-            let failed = run.failed.0 e in
-            let outcome = outcome_by run.outcome ending run.ends (inl e) in
+            let failed = run.over.failed.0 e in
+            let outcome = outcome_by run.over.outcome ending run.over.ends (inl e) in
             inr (record {
               k = failed.0;
               within = failed.1;
               lacks = λ at.
                   let there = goes failed.0 at failed.1 in
-                  (there.0, there.1, lacks_by front stretch run.outcome there.0.sends (gone_at failed.0 ran.events) outcome.0 outcome.1 (subst (λ b. SentDatagrams stretch run.outcome b there.0.sends (gone_at failed.0 ran.events)) failed.2 there.2));
+                  (there.0, there.1, lacks_by front stretch run.over.outcome there.0.sends (gone_at failed.0 ran.events) outcome.0 outcome.1 (subst (λ b. SentDatagrams stretch run.over.outcome b there.0.sends (gone_at failed.0 ran.events)) failed.2 there.2));
             }),
         λ why. elim why [
-          | inl none ↦ none_fails (RunComes pace stretch run.outcome) run.up addresses x y ran none
+          | inl none ↦ none_fails (RunComes pace stretch run.over.outcome) run.up addresses x y ran none
           | inr lacks ↦
               let k = lacks.k in
               let here = goes k no_address lacks.within in
               let there = lacks.lacks no_address in
-              let same : there.0 ≡ here.0 = one_start x k (slice_index_or addresses k no_address) there.0 here.0 there.1 here.1 in
-              let few : LacksSends stretch run.outcome here.0.sends = subst (λ (s : LinkStart). LacksSends stretch run.outcome s.sends) same there.2 in
+              let same : there.0 ≡ here.0 = found_once x k (slice_index_or addresses k no_address) there.0 here.0 there.1 here.1 in
+              let few : LacksSends stretch run.over.outcome here.0.sends = subst (λ (s : LinkStart). LacksSends stretch run.over.outcome s.sends) same there.2 in
               elim (is_up_or_not (is_up run.up k)) [
-                | inl up ↦ absurd (takes_by stretch run.outcome here.0.sends (gone_at k ran.events) (subst (λ b. SentDatagrams stretch run.outcome b here.0.sends (gone_at k ran.events)) up here.2) few)
-                | inr down ↦ run.failed.1 (k, lacks.within, down)
+                | inl up ↦ absurd (takes_by stretch run.over.outcome here.0.sends (gone_at k ran.events) (subst (λ b. SentDatagrams stretch run.over.outcome b here.0.sends (gone_at k ran.events)) up here.2) few)
+                | inr down ↦ run.over.failed.1 (k, lacks.within, down)
               ]
         ],
       )
 
       -- all has gone over a link that takes all
-      all_gone : (plan : Plan) (datagrams : List (List ℕ)) → run.outcome ≡ Ok plan → AreDatagrams plan stretch datagrams
+      all_gone : (plan : Plan) (datagrams : List (List ℕ)) → run.over.outcome ≡ Ok plan → AreDatagrams plan stretch datagrams
           → (k : ℕ) (at : Address) (start : LinkStart) → k < length addresses → OpeningFinds x k (slice_index_or addresses k at) start → TakesSends start.sends (length datagrams)
           → (is_up run.up k ≡ true) × (gone_at k ran.events ≡ datagrams)
       all_gone plan datagrams outcome are k at start within finds takes =
           let here = goes k at within in
-          let same : start ≡ here.0 = one_start x k (slice_index_or addresses k at) start here.0 finds here.1 in
+          let same : start ≡ here.0 = found_once x k (slice_index_or addresses k at) start here.0 finds here.1 in
           all_by one front stretch plan (is_up run.up k) here.0.sends (gone_at k ran.events) datagrams
           (subst (λ v. SentDatagrams stretch v (is_up run.up k) here.0.sends (gone_at k ran.events)) outcome here.2) are (subst (λ (s : LinkStart). TakesSends s.sends (length datagrams)) same takes)
 
@@ -208,61 +201,61 @@ module _ {S D : Type 0} (one : HasOneDelivery) (front : FirstOnesArePrefix) (rea
       gone_by k at within = went_at addresses ran.events x y ran.contents different k at within
 
       -- after a run that is done all has gone over each link
-      done_gone : (e : ending ≡ Ok tt) (plan : Plan) → run.outcome ≡ Ok plan → (k : ℕ) → k < length addresses → AreDatagrams plan stretch (gone_at k ran.events)
+      done_gone : (e : ending ≡ Ok tt) (plan : Plan) → run.over.outcome ≡ Ok plan → (k : ℕ) → k < length addresses → AreDatagrams plan stretch (gone_at k ran.events)
       done_gone e plan outcome k within =
           let here = goes k no_address within in
           elim (is_up_or_not (is_up run.up k)) [
             | inl up ↦
                 (subst (λ b. SentDatagrams stretch (Ok plan) b here.0.sends (gone_at k ran.events)) up (subst (λ v. SentDatagrams stretch v (is_up run.up k) here.0.sends (gone_at k ran.events)) outcome here.2)).0
-            | inr down ↦ let link = run.failed.1 (k, within, down) in absurd (let other = sym link ∙ e in cc)
+            | inr down ↦ let link = run.over.failed.1 (k, within, down) in absurd (let other = sym link ∙ e in cc)
           ]
 
     pub over_links : SendRun reading addresses pace stretch ending shelf_known shelf shelf' dock_known dock dock'
     over_links = record {
       run = inr (inl run);
-      unopened = Tells-weaker Ran _ (dock_known dock) (dock_known dock') run.contents (λ x y over none. none_fails (RunComes pace stretch run.outcome) run.up addresses x y over none);
-      cut = Tells-weaker Ran _ (dock_known dock) (dock_known dock') run.contents
-          (λ x y over. Tells-weaker _ _ (shelf_known shelf) (shelf_known shelf') run.loads
-          (λ p q is. elim (outcome_or_memory reading run.outcome p q is) [
-            | inl memory ↦ inl (ends_memory faults.Link run.outcome ending run.ends memory)
+      unopened = Tells-weaker Ran _ (dock_known dock) (dock_known dock') run.over.made (λ x y over none. none_fails (RunComes pace stretch run.over.outcome) run.up addresses x y over none);
+      cut = Tells-weaker Ran _ (dock_known dock) (dock_known dock') run.over.made
+          (λ x y over. Tells-weaker _ _ (shelf_known shelf) (shelf_known shelf') run.over.loads
+          (λ p q is. elim (outcome_or_memory reading run.over.outcome p q is) [
+            | inl memory ↦ inl (ends_memory faults.Link run.over.outcome ending run.over.ends memory)
             | inr outcome ↦ inr (subst (λ v. (ending ≡ Err faults.Link) ↔ (ReachesNone x addresses ⊎ LacksSome stretch v x addresses)) outcome (link_by x y over))
           ]));
-      complete = Tells-weaker Ran _ (dock_known dock) (dock_known dock') run.contents
-          (λ x y over some. Tells-weaker _ _ (shelf_known shelf) (shelf_known shelf') run.loads
-          (λ p q is plan datagrams gives are k at start within finds takes. elim (outcome_or_memory reading run.outcome p q is) [
-            | inl memory ↦ inl (ends_memory faults.Link run.outcome ending run.ends memory)
+      complete = Tells-weaker Ran _ (dock_known dock) (dock_known dock') run.over.made
+          (λ x y over some. Tells-weaker _ _ (shelf_known shelf) (shelf_known shelf') run.over.loads
+          (λ p q is plan datagrams gives are k at start within finds takes. elim (outcome_or_memory reading run.over.outcome p q is) [
+            | inl memory ↦ inl (ends_memory faults.Link run.over.outcome ending run.over.ends memory)
             | inr outcome ↦ inr (gone_by x y over k at within ∙ ap (λ (l : List (List ℕ)). Some l) (all_gone x y over plan datagrams (outcome ∙ gives) are k at start within finds takes).1)
           ]));
-      done = Tells-weaker Ran _ (dock_known dock) (dock_known dock') run.contents
-          (λ x y over. Tells-weaker _ _ (shelf_known shelf) (shelf_known shelf') run.loads
-          (λ p q is plan datagrams gives are takes. elim (outcome_or_memory reading run.outcome p q is) [
-            | inl memory ↦ inl (ends_memory faults.Link run.outcome ending run.ends memory)
-            | inr outcome ↦ inr (elim (subst (λ v. ServeEndsBy faults.Link v ending) (outcome ∙ gives) run.ends) [
+      done = Tells-weaker Ran _ (dock_known dock) (dock_known dock') run.over.made
+          (λ x y over. Tells-weaker _ _ (shelf_known shelf) (shelf_known shelf') run.over.loads
+          (λ p q is plan datagrams gives are takes. elim (outcome_or_memory reading run.over.outcome p q is) [
+            | inl memory ↦ inl (ends_memory faults.Link run.over.outcome ending run.over.ends memory)
+            | inr outcome ↦ inr (elim (subst (λ v. ServeEndsBy faults.Link v ending) (outcome ∙ gives) run.over.ends) [
               | inl done ↦ done
               | inr link ↦
-                  let failed = run.failed.0 link in
+                  let failed = run.over.failed.0 link in
                   let there = takes failed.0 no_address failed.1 in
                   let all = all_gone x y over plan datagrams (outcome ∙ gives) are failed.0 no_address there.0 failed.1 there.1 there.2 in
                   absurd (let other = sym failed.2 ∙ all.0 in cc)
             ])
           ]));
       alike = λ e.
-          let outcome = outcome_by run.outcome ending run.ends (inr e) in
-          Tells-weaker Ran _ (dock_known dock) (dock_known dock') run.contents
+          let outcome = outcome_by run.over.outcome ending run.over.ends (inr e) in
+          Tells-weaker Ran _ (dock_known dock) (dock_known dock') run.over.made
           (λ x y over j k at first second.
           gone_by x y over j at first
           ∙ (ap (λ (l : List (List ℕ)). Some l) (one outcome.0 stretch (gone_at j over.events) (gone_at k over.events)
           (done_gone x y over e outcome.0 outcome.1 j first) (done_gone x y over e outcome.0 outcome.1 k second))
           ∙ sym (gone_by x y over k at second)));
-      exactly = λ none. ends_exactly faults.Link reading run.outcome ending (shelf_known shelf) (shelf_known shelf') run.loads run.ends;
+      exactly = λ none. ends_exactly faults.Link reading run.over.outcome ending (shelf_known shelf) (shelf_known shelf') run.over.loads run.over.ends;
       dock_cause = inl run.same;
-      read_cause = run.read_cause;
+      read_cause = run.over.read_cause;
     }
 
     none_sent : ending ≡ Err faults.NoMemory → IfBothKnown (dock_known dock) (dock_known dock') NothingSent
     none_sent memory =
-        let none = none_by run.outcome ending run.ends memory in
-        docks_while Ran NothingSent (dock_known dock) (dock_known dock') run.contents
+        let none = none_by run.over.outcome ending run.over.ends memory in
+        docks_while Ran NothingSent (dock_known dock) (dock_known dock') run.over.made
         (λ x y over. nothing_went addresses over.events x y over.contents
         (λ k. let come = subst (λ v. RunComes pace stretch v (replicate (length addresses) true) over.events run.up) none.1 over.comes in ap (gone_at k) come.0))
 

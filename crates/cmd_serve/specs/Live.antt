@@ -1,9 +1,9 @@
 -- The command `serve` with live streams: they take their bytes from input.
-use Rattle.std.specs.Prelude.{ℕ, ◌≡◌, ◌+◌, ◌-◌, ◌*◌, ◌<◌, ◌⊎◌, not, Bool, true, false, List, [], ◌++◌, length, Result, Ok, Err}
+use Rattle.std.specs.Prelude.{ℕ, ◌≡◌, ◌+◌, ◌<◌, ◌⊎◌, not, Bool, true, List, [], ◌++◌, length, Result, Ok, Err}
 use Rattle.drm_links.specs.Known.{HasFailed, Known, KnownThrough}
 use Rattle.drm_links.specs.Shelf.{Files, ShelfSupplies}
 use Rattle.drm_links.specs.Source.{Input}
-use Rattle.drm_links.specs.Sink.{Output, OutputsText}
+use Rattle.drm_links.specs.Sink.{Output}
 use Rattle.drm_links.specs.Dock.{DockContents}
 use Rattle.drm_links.specs.declared.dock.Address.{Address}
 use Rattle.drm_schedule.specs.declared.live.Live.{Live}
@@ -11,18 +11,18 @@ use Rattle.drm_schedule.specs.declared.plan.Plan.{Plan}
 use Rattle.drm_schedule.specs.Valid.{IsSchedule}
 use Rattle.drm_server.specs.declared.stretch.Stretch.{Stretch}
 use Rattle.drm_server.specs.Stretch.{first_in, frames_in}
-use Rattle.drm_links.specs.Calls.{is_up}
+use Rattle.drm_links.specs.History.{GroupEvent}
 use Rattle.drm_server.specs.Capture.{IsCapture, IsPrefixOfCapture}
 use Rattle.cmd_load.specs.Loading.{ShelfReading, ReadBy, given, ◌>>=◌}
 use Rattle.cmd_load.specs.Schedule.{schedule_named}
 use Rattle.cmd_faults.specs.Fault.{done_of}
 use Rattle.cmd_faults.specs.declared.fault.Fault.{Fault}
 use Rattle.cmd_faults.specs.declared.fault.Fault.TheVariants as faults
-use Rattle.live_server.specs.Feeding.{fed, AreTaken, HasRead, BreaksOff, OfEach}
-use Rattle.live_server.specs.Capture.{AreWritten}
+use Rattle.live_server.specs.Feeding.{fed, AreTaken, HasRead, BreaksIn}
+use Rattle.live_server.specs.Capture.{WroteEach}
 use Rattle.cmd_serve.specs.ScheduleRun.{ScheduleRun}
 use Rattle.drm_server.specs.Serving.{IsOneUp, FramesCome}
-use Rattle.cmd_serve.specs.Send.{GroupRan, SendRun}
+use Rattle.cmd_serve.specs.Send.{GroupRan, AreUp, IsOneDown, SendRun}
 
 -- The schedule of this name, whose live streams have these bytes of input from frame `first` on: frame by frame its piece, as long as
 -- whole pieces are there, and then their own content.
@@ -51,12 +51,9 @@ pub record BrokenRun {S : Type 0} (name : List ℕ) (live : Live) (stretch : Str
   pub plan : Plan
   pub loads : ReadBy (schedule_named name) (Ok plan) (shelf_known shelf) (shelf_known shelf')
   pub sound : IsSchedule plan
-  pub bytes : List ℕ
-  pub read : HasRead false bytes input input'
   pub n : ℕ
   pub within : n < frames_in stretch plan
-  pub breaks : BreaksOff live plan (first_in stretch) (first_in stretch + n) bytes
-  pub made : OfEach false live plan (first_in stretch) bytes (λ p. Made p n)
+  pub broken : BreaksIn live plan (first_in stretch) n input input' (λ p. Made p n)
   pub once : HasFailed input input'
   pub loaded : (shelf_known shelf').faults ≡ (shelf_known shelf).faults
 
@@ -68,25 +65,23 @@ LiveServeRun name stretch live ending shelf_known shelf shelf' input_known input
     (λ reading. ScheduleRun reading IsSchedule (λ (schedule : Plan). IsCapture schedule stretch) (λ (schedule : Plan). IsPrefixOfCapture schedule stretch) (done_of ending)
     shelf_known shelf shelf' out_known out out')
     ⊎ ((ending ≡ Err faults.Read)
-    × BrokenRun name live stretch shelf_known shelf shelf' (input_known input) (input_known input') (λ p n. OutputsText (out_known out) (out_known out') (AreWritten p (first_in stretch) n)))
+    × BrokenRun name live stretch shelf_known shelf shelf' (input_known input) (input_known input') (λ p n. WroteEach (first_in stretch) n (out_known out) (out_known out') p))
 
--- Some links failed, or none: then the read that failed is told.
-abbrev pub EndsBroken : List Address → List Bool → Result Bool Fault → Type 0
-EndsBroken addresses up ending =
-    ((ending ≡ Err faults.Read) × ((k : ℕ) → k < length addresses → is_up up k ≡ true))
-    ⊎ ((ending ≡ Err faults.Link) × (k : ℕ) × (k < length addresses) × (is_up up k ≡ false))
+-- A run over so many links that a failed read broke off: the frames before were sent, and some link hadn't failed. The read is told, or, where
+-- another link failed, that.
+pub record BrokenOver {S : Type 0} (name : List ℕ) (pace : ℕ) (stretch : Stretch) (live : Live) (ending : Result Bool Fault) (shelf_known : S → Known Files) (shelf shelf' : S)
+    (input input' : Known Input) (links : ℕ) (up : List Bool) (Made : (List Bool → List GroupEvent → List Bool → Type 0) → Type 0) : Type 0 where
+  pub left : IsOneUp up
+  pub ends : ((ending ≡ Err faults.Read) × AreUp links up) ⊎ ((ending ≡ Err faults.Link) × IsOneDown links up)
+  pub run : BrokenRun name live stretch shelf_known shelf shelf' input input' (λ p n. Made (FramesCome p (first_in stretch) pace n))
 
--- A run over links that a failed read broke off: the frames before were sent, and some link hadn't failed.
+-- Such a run over the links at these addresses. No opening failed.
 pub record BrokenSend {S D : Type 0} (name : List ℕ) (addresses : List Address) (pace : ℕ) (stretch : Stretch) (live : Live) (ending : Result Bool Fault)
     (shelf_known : S → Known Files) (shelf shelf' : S) (input input' : Known Input) (dock_known : D → Known DockContents) (dock dock' : D) : Type 0 where
-  -- which links didn't fail
   pub up : List Bool
-  pub left : IsOneUp up
-  pub ends : EndsBroken addresses up ending
-  -- no opening failed
+  pub over : BrokenOver name pace stretch live ending shelf_known shelf shelf' input input' (length addresses) up
+      (λ Comes. KnownThrough (dock_known dock) (dock_known dock') (GroupRan Comes up addresses))
   pub same : (dock_known dock').faults ≡ (dock_known dock).faults
-  pub run : BrokenRun name live stretch shelf_known shelf shelf' input input' (λ p n. KnownThrough (dock_known dock) (dock_known dock')
-      (GroupRan (FramesCome p (first_in stretch) pace n) up addresses))
 
 -- A run of `serve --to` these addresses: what happened at the links is what the schedule that input makes calls for. Where no stream is
 -- live it is the schedule itself, and input is left alone.

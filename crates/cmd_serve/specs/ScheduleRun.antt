@@ -13,8 +13,7 @@ use Rattle.cmd_faults.specs.declared.fault.Fault.TheVariants.{Read, Write}
 -- What out gets: the whole text of what came, or after a failed write a front of it; after another fault nothing.
 abbrev pub WritesOutcome : {T O : Type 0} → (T → List ℕ → Type 0) → (T → List ℕ → Type 0) → Result T ScheduleFault → Result (Unit {0}) Fault → (O → Known Output) → O → O → Type 0
 WritesOutcome whole front (Ok x) (Ok done) known old new = OutputsText (known old) (known new) (whole x)
-WritesOutcome whole front (Ok x) (Err Write) known old new = OutputsText (known old) (known new) (front x)
-WritesOutcome whole front (Ok x) (Err fault) known old new = ⊥
+WritesOutcome whole front (Ok x) (Err fault) known old new = (fault ≡ Write) × OutputsText (known old) (known new) (front x)
 WritesOutcome whole front (Err fault) ending known old new = (ending ≡ Err (fault_of_schedule fault)) × (new ≡ old)
 
 -- A run ends by what came: done, or with this fault of the outside; or refused, with the fault that came.

@@ -1,5 +1,5 @@
 -- The command `serve --to`: a schedule becomes datagrams over links.
-use Rattle.std.specs.Prelude.{ℕ, ◌≡◌, ◌-◌, ◌*◌, ◌<◌, ◌≤◌, ◌⊎◌, ◌↔◌, Bool, true, false, List, [], length, replicate, slice_index_or, Option, None, Some, Result, Ok, Err, IfOk}
+use Rattle.std.specs.Prelude.{ℕ, ◌≡◌, ◌<◌, ◌≤◌, ◌⊎◌, ◌↔◌, Bool, true, false, List, [], length, replicate, slice_index_or, Option, None, Some, Result, Ok, Err, IfOk}
 use Rattle.std.specs.FinMap as map
 use Rattle.drm_links.specs.Known.{HasFailed, Known, HasCause, KnownThrough}
 use Rattle.drm_links.specs.Shelf.{Files, ShelfSupplies}
@@ -64,10 +64,17 @@ pub record ClosedRun {S D : Type 0} (addresses : List Address) (ending : Result 
   pub contents : KnownThrough (dock_known dock) (dock_known dock') (ReachesFew addresses)
   pub once : HasFailed (dock_known dock) (dock_known dock')
 
--- A run whose links were opened, before the schedule was read, and closed at the end.
-pub record LinksRun {S D : Type 0} (reading : ShelfReading Plan) (addresses : List Address) (pace : ℕ) (stretch : Stretch) (ending : Result (Unit {0}) Fault)
-    (shelf_known : S → Known Files) (shelf shelf' : S)
-    (dock_known : D → Known DockContents) (dock dock' : D) : Type 0 where
+-- each of so many links is up
+abbrev pub AreUp : ℕ → List Bool → Type 0
+AreUp links up = (k : ℕ) → k < links → is_up up k ≡ true
+
+-- one of them has failed
+abbrev pub IsOneDown : ℕ → List Bool → Type 0
+IsOneDown links up = (k : ℕ) × (k < links) × (is_up up k ≡ false)
+
+-- A run over so many links, of which these are up at its end. Of what happened at them is told as `Made` says.
+pub record RunOver {S : Type 0} (reading : ShelfReading Plan) (pace : ℕ) (stretch : Stretch) (ending : Result (Unit {0}) Fault)
+    (shelf_known : S → Known Files) (shelf shelf' : S) (links : ℕ) (up : List Bool) (Made : (List Bool → List GroupEvent → List Bool → Type 0) → Type 0) : Type 0 where
   -- the schedule, or why there is none
   pub outcome : Result Plan ScheduleFault
   -- Where the shelf tells, that is what its files come to, and these loads were made.
@@ -75,14 +82,19 @@ pub record LinksRun {S D : Type 0} (reading : ShelfReading Plan) (addresses : Li
   -- Whatever it tells, what came is valid.
   pub sound : IfOk outcome IsSchedule
   pub ends : ServeEndsBy faults.Link outcome ending
-  -- which links didn't fail
-  pub up : List Bool
   -- What happened at the links, in one order, is what the schedule calls for.
-  pub contents : KnownThrough (dock_known dock) (dock_known dock') (GroupRan (RunComes pace stretch outcome) up addresses)
-  pub failed : (ending ≡ Err faults.Link) ↔ ((k : ℕ) × (k < length addresses) × (is_up up k ≡ false))
-  -- No opening failed. The shelf's count of faults rose, by one, exactly where a load ended the run.
-  pub same : (dock_known dock').faults ≡ (dock_known dock).faults
+  pub made : Made (RunComes pace stretch outcome)
+  pub failed : (ending ≡ Err faults.Link) ↔ IsOneDown links up
+  -- The shelf's count of faults rose, by one, exactly where a load ended the run.
   pub read_cause : HasCause (shelf_known shelf) (shelf_known shelf') (ending ≡ Err faults.Read)
+
+-- A run whose links were opened, before the schedule was read, and closed at the end. No opening failed.
+pub record LinksRun {S D : Type 0} (reading : ShelfReading Plan) (addresses : List Address) (pace : ℕ) (stretch : Stretch) (ending : Result (Unit {0}) Fault)
+    (shelf_known : S → Known Files) (shelf shelf' : S)
+    (dock_known : D → Known DockContents) (dock dock' : D) : Type 0 where
+  pub up : List Bool
+  pub over : RunOver reading pace stretch ending shelf_known shelf shelf' (length addresses) up (λ Comes. KnownThrough (dock_known dock) (dock_known dock') (GroupRan Comes up addresses))
+  pub same : (dock_known dock').faults ≡ (dock_known dock).faults
 
 -- A run for which there was no memory before the first opening.
 pub record UnopenedRun {S D : Type 0} (ending : Result (Unit {0}) Fault) (shelf shelf' : S) (dock dock' : D) : Type 0 where

@@ -1,14 +1,14 @@
 //! The command `serve`.
 
-ghost use Rattle.std.specs.Prelude.{ℕ, true, false, ◌≡◌, ◌<◌, ◌≤◌, length, IsErrOf};
+ghost use Rattle.std.specs.Prelude.{true, false, ◌≡◌, ◌≤◌, length, IsErrOf};
 ghost use Rattle.drm_links.specs.Known.{HasCause, IfBothKnown};
 ghost use Rattle.drm_links.specs.Dock.{AreDifferent};
-ghost use Rattle.drm_links.specs.Calls.{is_up};
 ghost use Rattle.drm_links.specs.Gathering.{NothingSent};
 ghost use Rattle.cmd_faults.specs.Causes.{OneFailed, OpeningFailed};
 ghost use Rattle.cmd_serve.specs.Live.{LiveServeRun, LiveSendRun};
 ghost use Rattle.live_server.specs.Loading.{IsFed};
-ghost use Rattle.cmd_serve.specs.OverGroup.{AreUp, OverGroup};
+ghost use Rattle.cmd_serve.specs.Send.{AreUp, IsOneDown};
+ghost use Rattle.cmd_serve.specs.OverGroup.{OverGroup};
 
 use cmd_faults::Fault;
 use cmd_load::read_schedule;
@@ -78,10 +78,9 @@ pub fn send<S: Shelf, I: Source, D: Dock>(
     ensures words { IsErrOf result Fault.Words → ⊥ }
     ensures write { IsErrOf result Fault.Write → ⊥ }
 {
-    // For their clauses alone: a schedule has one list of datagrams, also with bytes of input. The calls do nothing.
+    // For their clauses alone: a schedule has one list of datagrams. The calls do nothing.
     one_delivery();
     first_ones_are_prefix();
-    input_makes_a_schedule();
     match dock.gather(alloc, None, to) {
         GatheredGroup::Group(mut group) => {
             let sent = send_over(alloc, name, pace, stretch, live, shelf, input, &mut group);
@@ -105,7 +104,7 @@ fn send_over<S: Shelf, I: Source, G: Group>(
     group: &mut G,
 ) -> Result<bool, Fault>
     requires at_least_one { 1 ≤ length (G.up group.old) }
-    requires up { AreUp (G.up group.old) }
+    requires up { AreUp (length (G.up group.old)) (G.up group.old) }
     ensures run { OverGroup name.now pace stretch live.now result S.known shelf.old shelf.new
         (I.known input.old) (I.known input.new) (G.up group.old) (G.up group.new) (G.known group.old) (G.known group.new) }
     ensures nothing { IsFed live.now input.old input.new result }
@@ -129,8 +128,8 @@ fn send_over<S: Shelf, I: Source, G: Group>(
 
 // Whether no link has failed.
 fn all_up<G: Group>(group: &G) -> bool
-    ensures yes { result ≡ true → AreUp (G.up group.now) }
-    ensures no { result ≡ false → (k : ℕ) × (k < length (G.up group.now)) × (is_up (G.up group.now) k ≡ false) }
+    ensures yes { result ≡ true → AreUp (length (G.up group.now)) (G.up group.now) }
+    ensures no { result ≡ false → IsOneDown (length (G.up group.now)) (G.up group.now) }
 {
     for k in 0..group.len() {
         if !group.is_up(k) {

@@ -1,6 +1,4 @@
-use Rattle.std.proofs.Common.{◌≡◌, refl, ap, ◌∙◌, Bool, length, inl, inr, Err, sym}
-use Rattle.cmd_faults.proofs.CauseLemmas.{none_failed}
-use Rattle.cmd_faults.specs.declared.fault.Fault.TheVariants as faults
+use Rattle.std.proofs.Common.{refl, ◌∙◌}
 use Rattle.cmd_serve.specs.Live.{LiveSendRun}
 use Rattle.cmd_serve.proofs.LiveSendLemmas.{live_closed, live_unopened, live_over, live_nothing_sent, sent_read, sent_dock}
 use Rattle.cmd_serve.proofs.serve_command.send.Goals as goal
@@ -19,7 +17,7 @@ returns-in-Group g c =
     let sent : LiveSendRun c.args.name.now to c.args.pace c.args.stretch c.args.live.now c.send_over-sent.result g.S.Shelf.known c.args.shelf.now s' g.I.Source.known c.args.input.now c.send_over-sent.new.input g.D.Dock.known c.args.dock.now d' =
     live_over c.one_delivery.ensures c.first_ones_are_prefix.ensures c.args.name.now to c.args.pace c.args.stretch c.args.live.now g.S.Shelf.known c.args.shelf.now s' g.D.Dock.known c.args.dock.now d'
     g.D.G.Group.known mid group after (g.D.G.Group.up after) c.in-Group.ensures.gathered c.disband.ensures.disbanded
-    c.input_makes_a_schedule.ensures c.requires.different (g.D.G.Group.up group) c.in-Group.ensures.fresh.1 same c.send_over-sent.result x y c.send_over-sent.ensures.run in
+    c.requires.different (g.D.G.Group.up group) c.in-Group.ensures.fresh.1 same c.send_over-sent.result x y c.send_over-sent.ensures.run in
     record {
       run = sent;
       nothing = c.send_over-sent.ensures.nothing;
