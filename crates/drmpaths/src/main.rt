@@ -14,6 +14,7 @@
 #![tactic(auto)]
 
 use cli_mistakes::paths_mistake;
+use cli_notices::Edge;
 use cli_program::given_words;
 use cmd_paths::{no_memory, run_paths};
 use drm_adapt::{StreamSink, UdpDock};
