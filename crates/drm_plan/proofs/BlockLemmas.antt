@@ -7,7 +7,7 @@ use Rattle.drm_schedule.specs.declared.timed.Timed.{Timed}
 use Rattle.drm_schedule.specs.Ranges.{EntityInLines, TimedInLines}
 use Rattle.plan_grammar.specs.declared.line.Line.{Line}
 use Rattle.plan_grammar.specs.declared.line.Line.TheVariants as lines
-use Rattle.plan_grammar.specs.declared.first_word.Keyword.TheVariants as keywords
+use Rattle.plan_rows.specs.declared.keyword.Keyword.TheVariants as keywords
 use Rattle.plan_grammar.specs.Said.{keyword_said, LineInLines}
 use Rattle.plan_rules.specs.declared.said.ParsedLine.{ParsedLine}
 use Rattle.plan_rules.specs.ParsedLine.{count}

@@ -12,10 +12,10 @@ use Rattle.drm_schedule.specs.Ranges.{StreamInLines, ServiceInLines, ClockInLine
 use Rattle.drm_schedule.specs.declared.timed.Timed.{Timed}
 use Rattle.plan_grammar.specs.declared.line.Line.{Line}
 use Rattle.plan_grammar.specs.declared.line.Line.TheVariants as lines
-use Rattle.plan_grammar.specs.declared.first_word.Keyword.{Keyword}
-use Rattle.plan_grammar.specs.declared.first_word.Keyword.TheVariants as keywords
+use Rattle.plan_rows.specs.declared.keyword.Keyword.{Keyword}
+use Rattle.plan_rows.specs.declared.keyword.Keyword.TheVariants as keywords
 use Rattle.plan_grammar.specs.Said.{keyword_of_body, keyword_said, LineInLines}
-use Rattle.plan_grammar.specs.Same.{same}
+use Rattle.plan_rows.specs.Keywords.{same}
 use Rattle.plan_rules.specs.declared.said.ParsedLine.{ParsedLine}
 use Rattle.plan_rules.specs.declared.said.ConfigLines.{ConfigLines}
 use Rattle.plan_rules.specs.declared.said.ParsedText.{ParsedText}

@@ -64,7 +64,7 @@ impl ConfigParts {
                 self.block_lines.push(line)?;
             }
             Line::Entity(entity) => self.put_entity(entity)?,
-            _ => {}
+            _says => {}
         }
         Ok(())
     }

@@ -2,7 +2,7 @@
 
 ghost use Rattle.std.specs.Prelude.{◌≡◌, Option, Some, None};
 ghost use Rattle.drm_plan.specs.Projection.{first_said, first_line, line_of, mode_in, occupancy_in, short_depth_in, msc_in, qam4_in, prot_a_in, prot_b_in, room_in, clock_in, carry_in, seq_in, dlfc_in, length_in};
-ghost use Rattle.plan_grammar.specs.declared.first_word.Keyword.TheVariants as keywords;
+ghost use Rattle.plan_rows.specs.declared.keyword.Keyword.TheVariants as keywords;
 ghost use Rattle.drm_plan.specs.Settings.{said_by, line_by};
 
 use drm_schedule::{Carry, Clock, Mode};

@@ -2,18 +2,21 @@
 use Rattle.std.proofs.Common.{◌≡◌, ℕ, ◌+◌, suc, Bool, true, false, List, [], ◌∷◌, ◌++◌, Option, Some, Ok, length, map, refl, sym, ap, subst, ◌∙◌, append_assoc, arith}
 use Rattle.std.specs.Prelude.{◌==◌, slice_index}
 use Rattle.std.specs.List.{AllByRecursion}
+use Rattle.std.proofs.lemmas.List.{append-nil}
 use Rattle.text_lines.specs.Lines.{words_of}
-use Rattle.plan_grammar.specs.declared.first_word.Keyword.{Keyword}
-use Rattle.plan_grammar.specs.declared.first_word.Keyword.TheVariants as keywords
+use Rattle.drm_sdc.specs.declared.body.Body.{Body}
+use Rattle.drm_sdc.specs.declared.body.Body.TheVariants as bodies
+use Rattle.plan_rows.specs.declared.keyword.Keyword.{Keyword}
+use Rattle.plan_rows.specs.declared.keyword.Keyword.TheVariants as keywords
 use Rattle.plan_grammar.specs.declared.version.Version.{Version}
 use Rattle.plan_grammar.specs.declared.version.Version.TheVariants.{Two}
 use Rattle.plan_grammar.specs.declared.line.Line.{Line}
 use Rattle.plan_grammar.specs.declared.line.Line.TheVariants as lines
-use Rattle.plan_grammar.specs.Keywords.{keyword_of, keyword_text}
-use Rattle.plan_grammar.specs.Lines.{shape_of}
-use Rattle.plan_grammar.specs.Same.{same}
-use Rattle.plan_grammar.specs.Said.{keyword_said, words_said, canonical}
-use Rattle.plan_grammar.specs.LineShape.{reading}
+use Rattle.plan_rows.specs.Keywords.{keyword_text, same}
+use Rattle.plan_rows.specs.Tables as tables
+use Rattle.plan_grammar.specs.declared.table.TheConstants.{TABLE}
+use Rattle.plan_grammar.specs.Said.{keyword_of_body, keyword_said, canonical}
+use Rattle.plan_grammar.specs.Says.{line_said}
 use Rattle.plan_rules.specs.declared.said.ParsedLine.{ParsedLine}
 use Rattle.plan_rules.specs.declared.said.ConfigLines.{ConfigLines}
 use Rattle.plan_rules.specs.declared.said.ParsedText.{ParsedText}
@@ -25,26 +28,29 @@ use Rattle.plan_rules.proofs.StepLemmas.{goes_on}
 
 -- A canonical line is cut into its words, and reads as what it says.
 pub record LineAgain (l : Line) : Type 0 where
-  pub cut : words_of (canonical l) ≡ keyword_text (keyword_said l) ∷ words_said l
-  pub reads : reading (shape_of (keyword_said l) (canonical l) (words_said l)) ≡ Ok l
+  pub words : List (List ℕ)
+  pub cut : words_of (canonical l) ≡ keyword_text (keyword_said l) ∷ words
+  pub reads : line_said Two (keyword_said l) (canonical l) words ≡ Ok l
 
-keyword_again : (k : Keyword) → keyword_of (keyword_text k) ≡ Some k
-keyword_again keywords.Drmplan = refl
-keyword_again _ = refl
-
--- in a text that isn't of version 1 each keyword is known
-known_again : (version : Option Version) (k : Keyword) → is_one version ≡ false → keyword_in version (keyword_text k) ≡ Some k
-known_again version k later = rw (keyword_again k, later) refl
+-- in a text that isn't of version 1 the keyword of each line is known
+known_again : (version : Option Version) (l : Line) → is_one version ≡ false → keyword_in version (keyword_text (keyword_said l)) ≡ Some (keyword_said l)
+unfolding keyword_in
+known_again version (lines.Entity e) later = rw later (by e.body)
+  where
+    by : (b : Body) → tables.keyword_in TABLE 2 (keyword_text (keyword_of_body b)) ≡ Some (keyword_of_body b)
+    by (bodies.Mux desc) = refl
+    by _ = refl
+known_again version _ later = rw later refl
 
 no_comment : (k : Keyword) → (slice_index (keyword_text k) 0 == 35) ≡ false
 no_comment keywords.Drmplan = refl
 no_comment _ = refl
 
-pub line_said : (read : ParsedText) (n : ℕ) (l : Line) → LineAgain l → is_one (version_in read.front) ≡ false → ends_incomplete read (keyword_said l) ≡ false → check_of read n (keyword_said l) ≡ Ok tt → said_line read n (canonical l) ≡ Ok (add n l read)
+pub read_as_said : (read : ParsedText) (n : ℕ) (l : Line) → LineAgain l → is_one (version_in read.front) ≡ false → ends_incomplete read (keyword_said l) ≡ false → check_of read n (keyword_said l) ≡ Ok tt → said_line read n (canonical l) ≡ Ok (add n l read)
 unfolding said_line
-line_said read n l again later whole found =
-    rw (again.cut, no_comment (keyword_said l), known_again (version_in read.front) (keyword_said l) later)
-    (goes_on read (add n l read) n (keyword_said l) (shape_of (keyword_said l) (canonical l) (words_said l)) l (Ok tt) whole again.reads (sym found) refl refl)
+read_as_said read n l again later whole found =
+    rw (again.cut, no_comment (keyword_said l), known_again (version_in read.front) l later, later)
+    (goes_on read (add n l read) n (keyword_said l) (line_said Two (keyword_said l) (canonical l) again.words) l (Ok tt) whole again.reads (sym found) refl refl)
 
 -- lines put one behind another
 abbrev pub adds : ℕ → List Line → ParsedText → ParsedText
@@ -59,7 +65,7 @@ Fine read n (l ∷ ls) = (is_one (version_in read.front) ≡ false) × (ends_inc
 pub lines_said : (read : ParsedText) (n : ℕ) (ls : List Line) → AllByRecursion LineAgain ls → Fine read n ls → said_from read n (map canonical ls) ≡ Ok (adds n ls read)
 unfolding lines_say
 lines_said read n [] again fine = refl
-lines_said read n (l ∷ ls) again fine = rw (line_said read n l again.0 fine.0 fine.1 fine.2) (lines_said (add n l read) (n + 1) ls again.1 fine.3)
+lines_said read n (l ∷ ls) again fine = rw (read_as_said read n l again.0 fine.0 fine.1 fine.2) (lines_said (add n l read) (n + 1) ls again.1 fine.3)
 
 pub adds_append : (n : ℕ) (a b : List Line) (read : ParsedText) → adds n (a ++ b) read ≡ adds (n + length a) b (adds n a read)
 adds_append n [] b read =
@@ -139,12 +145,7 @@ inner_fine read block said n (l ∷ ls) version fine = (
 )
 
 pub inner_adds : (read : ParsedText) (block : ConfigLines) (said : List ParsedLine) (n : ℕ) (ls : List Line) → InnerFine said n ls → adds n ls (with_lines read block said) ≡ with_lines read block (said ++ numbered n ls)
-inner_adds read block [] n [] fine = refl
-inner_adds read block (s ∷ said) n [] fine = ap (λ l. with_lines read block l) (sym (append_nil (s ∷ said)))
-  where
-    append_nil : (xs : List ParsedLine) → xs ++ [] ≡ xs
-    append_nil [] = refl
-    append_nil (x ∷ xs) = ap (λ (l : List ParsedLine). x ∷ l) (append_nil xs)
+inner_adds read block said n [] fine = ap (λ l. with_lines read block l) (sym (append-nil said))
 inner_adds read block said n (l ∷ ls) fine =
     ap (adds (n + 1) ls) (inner_add read block said n l fine.0)
     ∙ inner_adds read block (said ++ record { line = n; says = l } ∷ []) (n + 1) ls fine.4

@@ -1,8 +1,9 @@
 -- Files that come one after another make a plan whole, and a whole plan has the bytes that came.
-use Rattle.std.proofs.Common.{◌≡◌, ℕ, zero, suc, ◌+◌, List, [], ◌∷◌, ◌++◌, Some, length, map, refl, sym, ap, subst, ◌∙◌, append_assoc}
+use Rattle.std.proofs.Common.{◌≡◌, ℕ, zero, suc, ◌+◌, List, [], ◌∷◌, ◌++◌, Some, length, map, refl, sym, ap, subst, ◌∙◌, arith}
 use Rattle.std.specs.Prelude.{All}
-use Rattle.std.proofs.lemmas.List.{length-append}
-use Rattle.std.proofs.lemmas.List.Elements.{All-nil, All-cons, All-head, All-tail}
+use Rattle.std.specs.List.{flat_map}
+use Rattle.std.proofs.lemmas.List.Concat.{flat_map-cons}
+use Rattle.std.proofs.lemmas.List.Elements.{All-nil, All-cons, All-head, All-tail, All-weaker}
 use Rattle.drm_schedule.specs.declared.config.Config.{Config}
 use Rattle.drm_schedule.specs.declared.stream.Content.{Content}
 use Rattle.drm_schedule.specs.declared.stream.Content.TheVariants.{Fill, File}
@@ -12,6 +13,7 @@ use Rattle.drm_schedule.specs.Ranges.{InLines}
 use Rattle.drm_plan.specs.declared.files.FileRef.{FileRef}
 use Rattle.drm_plan.specs.Files.{file_here, stream_files, config_files, filled, filled_stream, filled_config, with_file, name_in, name_of_stream, name_of_config, name_of, emptied, without_bytes, config_without_bytes, without_files}
 use Rattle.law_plan.specs.Texts.{OfFile, EachFile}
+use Rattle.law_plan.specs.Whole.{file_in, files_of, files_in}
 use Rattle.drm_plan.specs.Lookup.{at, changed}
 use Rattle.drm_plan.proofs.FileLemmas.{with_file_fits}
 
@@ -20,42 +22,68 @@ abbrev pub Fills : (List ℕ → List ℕ → Type 0) → List FileRef → Plan 
 Fills P [] plan whole = plan ≡ whole
 Fills P (file ∷ files) plan whole = (bytes : List ℕ) × P (name_of file plan) bytes × Fills P files (with_file file bytes plan) whole
 
+-- and these are the bytes
+abbrev pub FillsWith : (List ℕ → List ℕ → Type 0) → List FileRef → List (List ℕ) → Plan → Plan → Type 0
+FillsWith P [] [] plan whole = plan ≡ whole
+FillsWith P [] (bytes ∷ all) plan whole = ⊥
+FillsWith P (file ∷ files) [] plan whole = ⊥
+FillsWith P (file ∷ files) (bytes ∷ all) plan whole = P (name_of file plan) bytes × FillsWith P files all (with_file file bytes plan) whole
+
 pub at_seam : {X : Type 0} (a : List X) (x : X) (b : List X) → at (length a) (a ++ x ∷ b) ≡ Some x
 at_seam [] x b = refl
 at_seam (y ∷ a) x b = at_seam a x b
 
-changed_seam : {X : Type 0} (f : X → X) (a : List X) (x : X) (b : List X) → changed f (length a) (a ++ x ∷ b) ≡ a ++ f x ∷ b
-changed_seam f [] x b = refl
-changed_seam f (y ∷ a) x b = ap (λ l. y ∷ l) (changed_seam f a x b)
-
-pub one_longer : {X : Type 0} (a : List X) (x : X) → length (a ++ x ∷ []) ≡ length a + 1
-one_longer a x = length-append a (x ∷ [])
-
-pub heads : {X : Type 0} (x y : X) (xs ys : List X) → x ∷ xs ≡ y ∷ ys → x ≡ y
+heads : {X : Type 0} (x y : X) (xs ys : List X) → x ∷ xs ≡ y ∷ ys → x ≡ y
 heads x y xs ys e = cc
 
-pub tails : {X : Type 0} (x y : X) (xs ys : List X) → x ∷ xs ≡ y ∷ ys → xs ≡ ys
+tails : {X : Type 0} (x y : X) (xs ys : List X) → x ∷ xs ≡ y ∷ ys → xs ≡ ys
 tails x y xs ys e = cc
 
--- the plan with these configurations, and with these streams in one of them
 abbrev pub with_configs : Plan → List Config → Plan
 with_configs plan configs = record plan { configs = configs }
 
-abbrev pub here : Plan → List Config → Config → List Config → List Stream → Plan
-here plan before c after streams = with_configs plan (before ++ record c { streams = streams } ∷ after)
+abbrev of_content : ℕ → ℕ → Content → Stream
+of_content a b content = record { a = a; b = b; content = content }
 
--- the file of the stream behind these
-abbrev pub file_at : List Config → List Stream → FileRef
-file_at before done = record { config = length before; stream = length done }
+abbrev stream_file : Stream → List (List ℕ)
+stream_file stream = file_in stream.content
 
-module _ (plan : Plan) (before : List Config) (c : Config) (after : List Config) (done : List Stream) (s : Stream) (more : List Stream) where
-  name_here : name_of (file_at before done) (here plan before c after (done ++ s ∷ more)) ≡ name_in s.content
-  name_here = ap (name_of_config (length done)) (at_seam before (record c { streams = done ++ s ∷ more }) after) ∙ ap name_of_stream (at_seam done s more)
+-- a plan that has these configurations from number i on
+record OfConfigs (i : ℕ) (made : List Config → Plan) : Type 0 where
+  named : (k n : ℕ) → n ≡ i + k → (j : ℕ) (cs : List Config) → name_of (record { config = n; stream = j }) (made cs) ≡ name_of_config j (at k cs)
+  given : (k n : ℕ) → n ≡ i + k → (j : ℕ) (bytes : List ℕ) (cs : List Config) → with_file (record { config = n; stream = j }) bytes (made cs) ≡ made (changed (filled_config j bytes) k cs)
 
-  pub filled_here : (bytes : List ℕ) → with_file (file_at before done) bytes (here plan before c after (done ++ s ∷ more)) ≡ here plan before c after (done ++ filled_stream bytes s ∷ more)
-  filled_here bytes =
-      ap (with_configs plan) (changed_seam (filled_config (length done) bytes) before (record c { streams = done ++ s ∷ more }) after)
-      ∙ ap (here plan before c after) (changed_seam (filled_stream bytes) done s more)
+-- a plan of which configuration i has these streams from number j on
+record OfStreams (i j : ℕ) (made : List Stream → Plan) : Type 0 where
+  named : (k n : ℕ) → n ≡ j + k → (ss : List Stream) → name_of (record { config = i; stream = n }) (made ss) ≡ name_of_stream (at k ss)
+  given : (k n : ℕ) → n ≡ j + k → (bytes : List ℕ) (ss : List Stream) → with_file (record { config = i; stream = n }) bytes (made ss) ≡ made (changed (filled_stream bytes) k ss)
+
+from_none : (k n : ℕ) → n ≡ 0 + k → n ≡ k
+from_none k n is = omega (arith, is)
+
+of_plan : (plan : Plan) → OfConfigs 0 (with_configs plan)
+of_plan plan = record {
+  named = λ k n is j cs. ap (λ (m : ℕ). name_of_config j (at m cs)) (from_none k n is);
+  given = λ k n is j bytes cs. ap (λ (m : ℕ). with_configs plan (changed (filled_config j bytes) m cs)) (from_none k n is);
+}
+
+next_config : (i : ℕ) (made : List Config → Plan) → OfConfigs i made → (c : Config) → OfConfigs (i + 1) (λ cs. made (c ∷ cs))
+next_config i made of c = record {
+  named = λ k n is j cs. of.named (suc k) n (omega (arith, is)) j (c ∷ cs);
+  given = λ k n is j bytes cs. of.given (suc k) n (omega (arith, is)) j bytes (c ∷ cs);
+}
+
+first_stream : (i : ℕ) (made : List Config → Plan) → OfConfigs i made → (c : Config) (cs : List Config) → OfStreams i 0 (λ ss. made (record c { streams = ss } ∷ cs))
+first_stream i made of c cs = record {
+  named = λ k n is ss. of.named 0 i (omega arith) n (record c { streams = ss } ∷ cs) ∙ ap (λ (m : ℕ). name_of_stream (at m ss)) (from_none k n is);
+  given = λ k n is bytes ss. of.given 0 i (omega arith) n bytes (record c { streams = ss } ∷ cs) ∙ ap (λ (m : ℕ). made (record c { streams = changed (filled_stream bytes) m ss } ∷ cs)) (from_none k n is);
+}
+
+next_stream : (i j : ℕ) (made : List Stream → Plan) → OfStreams i j made → (s : Stream) → OfStreams i (j + 1) (λ ss. made (s ∷ ss))
+next_stream i j made of s = record {
+  named = λ k n is ss. of.named (suc k) n (omega (arith, is)) (s ∷ ss);
+  given = λ k n is bytes ss. of.given (suc k) n (omega (arith, is)) bytes (s ∷ ss);
+}
 
 module _ (P : List ℕ → List ℕ → Type 0) where
   abbrev Filled : Stream → Type 0
@@ -64,144 +92,178 @@ module _ (P : List ℕ → List ℕ → Type 0) where
   abbrev AllFilled : Config → Type 0
   AllFilled c = All Filled c.streams
 
+  -- ---- with their bytes, and without
+
+  pub fills_some : (files : List FileRef) (all : List (List ℕ)) (plan whole : Plan) → FillsWith P files all plan whole → Fills P files plan whole
+  fills_some [] [] plan whole fills = fills
+  fills_some [] (bytes ∷ all) plan whole fills = absurd fills
+  fills_some (file ∷ files) [] plan whole fills = absurd fills
+  fills_some (file ∷ files) (bytes ∷ all) plan whole fills = (bytes, fills.0, fills_some files all (with_file file bytes plan) whole fills.1)
+
+  abbrev bytes_of : (files : List FileRef) (plan whole : Plan) → Fills P files plan whole → List (List ℕ)
+  bytes_of [] plan whole fills = []
+  bytes_of (file ∷ files) plan whole fills = fills.0 ∷ bytes_of files (with_file file fills.0 plan) whole fills.2
+
+  fills_these : (files : List FileRef) (plan whole : Plan) (fills : Fills P files plan whole) → FillsWith P files (bytes_of files plan whole fills) plan whole
+  fills_these [] plan whole fills = fills
+  fills_these (file ∷ files) plan whole fills = (fills.1, fills_these files (with_file file fills.0 plan) whole fills.2)
+
+  -- as many bytes as files
+  pub fills_count : (files : List FileRef) (all : List (List ℕ)) (plan whole : Plan) → FillsWith P files all plan whole → length all ≡ length files
+  fills_count [] [] plan whole fills = refl
+  fills_count [] (bytes ∷ all) plan whole fills = absurd fills
+  fills_count (file ∷ files) [] plan whole fills = absurd fills
+  fills_count (file ∷ files) (bytes ∷ all) plan whole fills = ap suc (fills_count files all (with_file file bytes plan) whole fills.1)
+
+  -- ---- one run behind another
+
+  fills_then : (first next : List FileRef) (xs ys : List (List ℕ)) (plan middle whole : Plan) → FillsWith P first xs plan middle → FillsWith P next ys middle whole → FillsWith P (first ++ next) (xs ++ ys) plan whole
+  fills_then [] next [] ys plan middle whole fills more = subst (λ (p : Plan). FillsWith P next ys p whole) (sym fills) more
+  fills_then [] next (x ∷ xs) ys plan middle whole fills more = absurd fills
+  fills_then (file ∷ first) next [] ys plan middle whole fills more = absurd fills
+  fills_then (file ∷ first) next (x ∷ xs) ys plan middle whole fills more = (fills.0, fills_then first next xs ys (with_file file x plan) middle whole fills.1 more)
+
+  record Parts (first next : List FileRef) (all : List (List ℕ)) (plan whole : Plan) : Type 0 where
+    xs : List (List ℕ)
+    ys : List (List ℕ)
+    middle : Plan
+    are : xs ++ ys ≡ all
+    fills : FillsWith P first xs plan middle
+    more : FillsWith P next ys middle whole
+
+  parts : (first next : List FileRef) (all : List (List ℕ)) (plan whole : Plan) → FillsWith P (first ++ next) all plan whole → Parts first next all plan whole
+  parts [] next all plan whole fills = record { xs = []; ys = all; middle = plan; are = refl; fills = refl; more = fills }
+  parts (file ∷ first) next [] plan whole fills = absurd fills
+  parts (file ∷ first) next (x ∷ all) plan whole fills =
+      let r = parts first next all (with_file file x plan) whole fills.1 in
+      record { xs = x ∷ r.xs; ys = r.ys; middle = r.middle; are = ap (λ (l : List (List ℕ)). x ∷ l) r.are; fills = (fills.0, r.fills); more = r.more }
+
   -- ---- to the whole plan
 
-  stream_comes : (plan : Plan) (before : List Config) (c : Config) (after : List Config) (done : List Stream) (a b : ℕ) (old content : Content) (more : List Stream) (files : List FileRef) (whole : Plan)
-      → emptied old ≡ emptied content → OfFile P content → Fills P files (here plan before c after (done ++ record { a = a; b = b; content = content } ∷ more)) whole
-      → Fills P (file_here (length before) (length done) (record { a = a; b = b; content = old }) ++ files) (here plan before c after (done ++ record { a = a; b = b; content = old } ∷ more)) whole
-  stream_comes plan before c after done a b (Fill x) (Fill y) more files whole same has rest =
-      subst (λ (k : Content). Fills P files (here plan before c after (done ++ record { a = a; b = b; content = k } ∷ more)) whole) (sym same) rest
-  stream_comes plan before c after done a b (Fill x) (File name bytes) more files whole same has rest = absurd cc
-  stream_comes plan before c after done a b (File name bytes) (Fill y) more files whole same has rest = absurd cc
-  stream_comes plan before c after done a b (File first x) (File name bytes) more files whole same has rest =
-      let s : Stream = record { a = a; b = b; content = File first x } in
-      let names : first ≡ name = ap name_in same in
-      let made : with_file (file_at before done) bytes (here plan before c after (done ++ s ∷ more)) ≡ here plan before c after (done ++ record { a = a; b = b; content = File name bytes } ∷ more) =
-      filled_here plan before c after done s more bytes ∙ ap (λ (n : List ℕ). here plan before c after (done ++ record { a = a; b = b; content = File n bytes } ∷ more)) names in (
-        bytes,
-        subst (λ (n : List ℕ). P n bytes) (sym (name_here plan before c after done s more ∙ names)) has,
-        subst (λ (p : Plan). Fills P files p whole) (sym made) rest,
+  stream_comes : (i j : ℕ) (made : List Stream → Plan) → OfStreams i j made → (a b : ℕ) (old new : Content) (more : List Stream) → emptied old ≡ emptied new → OfFile P new
+      → FillsWith P (file_here i j (of_content a b old)) (file_in new) (made (of_content a b old ∷ more)) (made (of_content a b new ∷ more))
+  stream_comes i j made of a b (Fill x) (Fill y) more same has = ap (λ (k : Content). made (of_content a b k ∷ more)) same
+  stream_comes i j made of a b (Fill x) (File name y) more same has = absurd cc
+  stream_comes i j made of a b (File first x) (Fill y) more same has = absurd cc
+  stream_comes i j made of a b (File first x) (File name y) more same has =
+      let names : first ≡ name = ap name_in same in (
+        subst (λ (n : List ℕ). P n y) (sym (of.named 0 j (omega arith) (of_content a b (File first x) ∷ more) ∙ names)) has,
+        of.given 0 j (omega arith) y (of_content a b (File first x) ∷ more) ∙ ap (λ (n : List ℕ). made (of_content a b (File n y) ∷ more)) names,
       )
 
-  streams_come : (plan : Plan) (before : List Config) (c : Config) (after : List Config) (done old target : List Stream) (files : List FileRef) (whole : Plan)
-      → map without_bytes old ≡ map without_bytes target → All Filled target → Fills P files (here plan before c after (done ++ target)) whole
-      → Fills P (stream_files (length before) (length done) old ++ files) (here plan before c after (done ++ old)) whole
-  streams_come plan before c after done [] [] files whole same all rest = rest
-  streams_come plan before c after done [] (t ∷ target) files whole same all rest = absurd cc
-  streams_come plan before c after done (s ∷ old) [] files whole same all rest = absurd cc
-  streams_come plan before c after done (s ∷ old) (t ∷ target) files whole same all rest =
-      let first : without_bytes s ≡ without_bytes t = heads (without_bytes s) (without_bytes t) (map without_bytes old) (map without_bytes target) same in
-      let others : map without_bytes old ≡ map without_bytes target = tails (without_bytes s) (without_bytes t) (map without_bytes old) (map without_bytes target) same in
-      let one : t ≡ record s { content = t.content } = sym (ap (λ (x : Stream). record x { content = t.content }) first) in
-      let next : List FileRef = stream_files (length before) (length done + 1) old ++ files in
-      let behind : Fills P (stream_files (length before) (length (done ++ t ∷ [])) old ++ files) (here plan before c after ((done ++ t ∷ []) ++ old)) whole =
-      streams_come plan before c after (done ++ t ∷ []) old target files whole others (All-tail Filled t target all)
-      (subst (λ (ss : List Stream). Fills P files (here plan before c after ss) whole) (sym (append_assoc done (t ∷ []) target)) rest) in
-      let counted : Fills P next (here plan before c after ((done ++ t ∷ []) ++ old)) whole =
-      subst (λ (j : ℕ). Fills P (stream_files (length before) j old ++ files) (here plan before c after ((done ++ t ∷ []) ++ old)) whole) (one_longer done t) behind in
-      let placed : Fills P next (here plan before c after (done ++ t ∷ old)) whole =
-      subst (λ (ss : List Stream). Fills P next (here plan before c after ss) whole) (append_assoc done (t ∷ []) old) counted in
-      let seen : Fills P next (here plan before c after (done ++ record s { content = t.content } ∷ old)) whole =
-      subst (λ (x : Stream). Fills P next (here plan before c after (done ++ x ∷ old)) whole) one placed in
-      subst (λ (fs : List FileRef). Fills P fs (here plan before c after (done ++ s ∷ old)) whole)
-      (sym (append_assoc (file_here (length before) (length done) s) (stream_files (length before) (length done + 1) old) files))
-      (stream_comes plan before c after done s.a s.b s.content t.content old next whole (ap (λ (x : Stream). x.content) first) (All-head Filled t target all) seen)
+  streams_come : (i j : ℕ) (made : List Stream → Plan) → OfStreams i j made → (old new : List Stream) → map without_bytes old ≡ map without_bytes new → All Filled new
+      → FillsWith P (stream_files i j old) (flat_map stream_file new) (made old) (made new)
+  streams_come i j made of [] [] same all = refl
+  streams_come i j made of [] (t ∷ new) same all = absurd cc
+  streams_come i j made of (s ∷ old) [] same all = absurd cc
+  streams_come i j made of (s ∷ old) (t ∷ new) same all =
+      let first : without_bytes s ≡ without_bytes t = heads (without_bytes s) (without_bytes t) (map without_bytes old) (map without_bytes new) same in
+      let others : map without_bytes old ≡ map without_bytes new = tails (without_bytes s) (without_bytes t) (map without_bytes old) (map without_bytes new) same in
+      let whole : of_content s.a s.b t.content ≡ t = ap (λ (x : Stream). of_content x.a x.b t.content) first in
+      let now : FillsWith P (file_here i j s) (stream_file t) (made (s ∷ old)) (made (t ∷ old)) =
+      subst (λ (x : Stream). FillsWith P (file_here i j s) (stream_file t) (made (s ∷ old)) (made (x ∷ old))) whole
+      (stream_comes i j made of s.a s.b s.content t.content old (ap (λ (x : Stream). x.content) first) (All-head Filled t new all)) in
+      rw (flat_map-cons stream_file t new)
+      (fills_then (file_here i j s) (stream_files i (j + 1) old) (stream_file t) (flat_map stream_file new) (made (s ∷ old)) (made (t ∷ old)) (made (t ∷ new)) now
+      (streams_come i (j + 1) (λ ss. made (t ∷ ss)) (next_stream i j made of t) old new others (All-tail Filled t new all)))
 
-  configs_come : (plan : Plan) (before old target : List Config) (whole : Plan) → map config_without_bytes old ≡ map config_without_bytes target → All AllFilled target → with_configs plan (before ++ target) ≡ whole
-      → Fills P (config_files (length before) old) (with_configs plan (before ++ old)) whole
-  configs_come plan before [] [] whole same all is = is
-  configs_come plan before [] (d ∷ target) whole same all is = absurd cc
-  configs_come plan before (c ∷ old) [] whole same all is = absurd cc
-  configs_come plan before (c ∷ old) (d ∷ target) whole same all is =
-      let first : config_without_bytes c ≡ config_without_bytes d = heads (config_without_bytes c) (config_without_bytes d) (map config_without_bytes old) (map config_without_bytes target) same in
-      let others : map config_without_bytes old ≡ map config_without_bytes target = tails (config_without_bytes c) (config_without_bytes d) (map config_without_bytes old) (map config_without_bytes target) same in
-      let one : d ≡ record c { streams = d.streams } = sym (ap (λ (x : Config). record x { streams = d.streams }) first) in
-      let next : List FileRef = config_files (length before + 1) old in
-      let behind : Fills P (config_files (length (before ++ d ∷ [])) old) (with_configs plan ((before ++ d ∷ []) ++ old)) whole =
-      configs_come plan (before ++ d ∷ []) old target whole others (All-tail AllFilled d target all) (ap (with_configs plan) (append_assoc before (d ∷ []) target) ∙ is) in
-      let counted : Fills P next (with_configs plan ((before ++ d ∷ []) ++ old)) whole =
-      subst (λ (i : ℕ). Fills P (config_files i old) (with_configs plan ((before ++ d ∷ []) ++ old)) whole) (one_longer before d) behind in
-      let placed : Fills P next (with_configs plan (before ++ d ∷ old)) whole =
-      subst (λ (cs : List Config). Fills P next (with_configs plan cs) whole) (append_assoc before (d ∷ []) old) counted in
-      streams_come plan before c old [] c.streams d.streams next whole (ap (λ (x : Config). x.streams) first) (All-head AllFilled d target all)
-      (subst (λ (x : Config). Fills P next (with_configs plan (before ++ x ∷ old)) whole) one placed)
+  configs_come : (i : ℕ) (made : List Config → Plan) → OfConfigs i made → (old new : List Config) → map config_without_bytes old ≡ map config_without_bytes new → All AllFilled new
+      → FillsWith P (config_files i old) (flat_map files_of new) (made old) (made new)
+  configs_come i made of [] [] same all = refl
+  configs_come i made of [] (d ∷ new) same all = absurd cc
+  configs_come i made of (c ∷ old) [] same all = absurd cc
+  configs_come i made of (c ∷ old) (d ∷ new) same all =
+      let first : config_without_bytes c ≡ config_without_bytes d = heads (config_without_bytes c) (config_without_bytes d) (map config_without_bytes old) (map config_without_bytes new) same in
+      let others : map config_without_bytes old ≡ map config_without_bytes new = tails (config_without_bytes c) (config_without_bytes d) (map config_without_bytes old) (map config_without_bytes new) same in
+      let whole : record c { streams = d.streams } ≡ d = ap (λ (x : Config). record x { streams = d.streams }) first in
+      let now : FillsWith P (stream_files i 0 c.streams) (files_of d) (made (c ∷ old)) (made (d ∷ old)) =
+      subst (λ (x : Config). FillsWith P (stream_files i 0 c.streams) (files_of d) (made (c ∷ old)) (made (x ∷ old))) whole
+      (streams_come i 0 (λ ss. made (record c { streams = ss } ∷ old)) (first_stream i made of c old) c.streams d.streams (ap (λ (x : Config). x.streams) first) (All-head AllFilled d new all)) in
+      rw (flat_map-cons files_of d new)
+      (fills_then (stream_files i 0 c.streams) (config_files (i + 1) old) (files_of d) (flat_map files_of new) (made (c ∷ old)) (made (d ∷ old)) (made (d ∷ new)) now
+      (configs_come (i + 1) (λ cs. made (d ∷ cs)) (next_config i made of d) old new others (All-tail AllFilled d new all)))
 
   -- the files of a schedule, put into a plan that is the same but for them, make the schedule
+  pub plan_fills : (plan schedule : Plan) → without_files plan ≡ without_files schedule → EachFile P schedule → FillsWith P (config_files 0 plan.configs) (files_in schedule) plan schedule
+  plan_fills plan schedule same all =
+      subst (λ (p : Plan). FillsWith P (config_files 0 plan.configs) (files_in schedule) plan p) (ap (λ (p : Plan). with_configs p schedule.configs) same)
+      (configs_come 0 (with_configs plan) (of_plan plan) plan.configs schedule.configs (ap (λ (p : Plan). p.configs) same) all)
+
   pub files_come : (plan schedule : Plan) → without_files plan ≡ without_files schedule → EachFile P schedule → Fills P (config_files 0 plan.configs) plan schedule
-  files_come plan schedule same all =
-      configs_come plan [] plan.configs schedule.configs schedule (ap (λ (p : Plan). p.configs) same) all (ap (λ (p : Plan). with_configs p schedule.configs) same)
+  files_come plan schedule same all = fills_some (config_files 0 plan.configs) (files_in schedule) plan schedule (plan_fills plan schedule same all)
 
   -- ---- from the whole plan
 
-  record StreamIsFilled (plan : Plan) (before : List Config) (c : Config) (after : List Config) (done more : List Stream) (files : List FileRef) (whole : Plan) : Type 0 where
+  record StreamIsFilled (made : List Stream → Plan) (all : List (List ℕ)) (more : List Stream) (whole : Plan) : Type 0 where
     stream : Stream
     has : Filled stream
-    rest : Fills P files (here plan before c after (done ++ stream ∷ more)) whole
+    are : stream_file stream ≡ all
+    is : made (stream ∷ more) ≡ whole
 
-  stream_is_filled : (plan : Plan) (before : List Config) (c : Config) (after : List Config) (done : List Stream) (a b : ℕ) (content : Content) (more : List Stream) (files : List FileRef) (whole : Plan)
-      → Fills P (file_here (length before) (length done) (record { a = a; b = b; content = content }) ++ files) (here plan before c after (done ++ record { a = a; b = b; content = content } ∷ more)) whole
-      → StreamIsFilled plan before c after done more files whole
-  stream_is_filled plan before c after done a b (Fill byte) more files whole fills = record { stream = record { a = a; b = b; content = Fill byte }; has = tt; rest = fills }
-  stream_is_filled plan before c after done a b (File name old) more files whole fills =
-      let s : Stream = record { a = a; b = b; content = File name old } in
-      record {
-        stream = filled_stream fills.0 s;
-        has = subst (λ (n : List ℕ). P n fills.0) (name_here plan before c after done s more) fills.1;
-        rest = subst (λ (p : Plan). Fills P files p whole) (filled_here plan before c after done s more fills.0) fills.2;
-      }
+  stream_is_filled : (i j : ℕ) (made : List Stream → Plan) → OfStreams i j made → (a b : ℕ) (content : Content) (all : List (List ℕ)) (more : List Stream) (whole : Plan)
+      → FillsWith P (file_here i j (of_content a b content)) all (made (of_content a b content ∷ more)) whole → StreamIsFilled made all more whole
+  stream_is_filled i j made of a b (Fill x) [] more whole fills = record { stream = of_content a b (Fill x); has = tt; are = refl; is = fills }
+  stream_is_filled i j made of a b (Fill x) (y ∷ all) more whole fills = absurd fills
+  stream_is_filled i j made of a b (File name x) [] more whole fills = absurd fills
+  stream_is_filled i j made of a b (File name x) (y ∷ z ∷ all) more whole fills = absurd fills.1
+  stream_is_filled i j made of a b (File name x) (y ∷ []) more whole fills = record {
+    stream = of_content a b (File name y);
+    has = subst (λ (n : List ℕ). P n y) (of.named 0 j (omega arith) (of_content a b (File name x) ∷ more)) fills.0;
+    are = refl;
+    is = sym (of.given 0 j (omega arith) y (of_content a b (File name x) ∷ more)) ∙ fills.1;
+  }
 
-  record StreamsAreFilled (plan : Plan) (before : List Config) (c : Config) (after : List Config) (done : List Stream) (files : List FileRef) (whole : Plan) : Type 0 where
+  record StreamsAreFilled (made : List Stream → Plan) (all : List (List ℕ)) (whole : Plan) : Type 0 where
     streams : List Stream
     have : All Filled streams
-    rest : Fills P files (here plan before c after (done ++ streams)) whole
+    are : flat_map stream_file streams ≡ all
+    is : made streams ≡ whole
 
-  streams_are_filled : (plan : Plan) (before : List Config) (c : Config) (after : List Config) (done todo : List Stream) (files : List FileRef) (whole : Plan)
-      → Fills P (stream_files (length before) (length done) todo ++ files) (here plan before c after (done ++ todo)) whole → StreamsAreFilled plan before c after done files whole
-  streams_are_filled plan before c after done [] files whole fills = record { streams = []; have = All-nil Filled; rest = fills }
-  streams_are_filled plan before c after done (s ∷ todo) files whole fills =
-      let next : List FileRef = stream_files (length before) (length done + 1) todo ++ files in
-      let is_filled : StreamIsFilled plan before c after done todo next whole =
-      stream_is_filled plan before c after done s.a s.b s.content todo next whole
-      (subst (λ (fs : List FileRef). Fills P fs (here plan before c after (done ++ s ∷ todo)) whole) (append_assoc (file_here (length before) (length done) s) (stream_files (length before) (length done + 1) todo) files) fills) in
-      let now : List Stream = done ++ is_filled.stream ∷ [] in
-      let placed : Fills P next (here plan before c after (now ++ todo)) whole =
-      subst (λ (ss : List Stream). Fills P next (here plan before c after ss) whole) (sym (append_assoc done (is_filled.stream ∷ []) todo)) is_filled.rest in
-      let counted : Fills P (stream_files (length before) (length now) todo ++ files) (here plan before c after (now ++ todo)) whole =
-      subst (λ (j : ℕ). Fills P (stream_files (length before) j todo ++ files) (here plan before c after (now ++ todo)) whole) (sym (one_longer done is_filled.stream)) placed in
-      let behind = streams_are_filled plan before c after now todo files whole counted in
+  streams_are_filled : (i j : ℕ) (made : List Stream → Plan) → OfStreams i j made → (old : List Stream) (all : List (List ℕ)) (whole : Plan) → FillsWith P (stream_files i j old) all (made old) whole → StreamsAreFilled made all whole
+  streams_are_filled i j made of [] [] whole fills = record { streams = []; have = All-nil Filled; are = refl; is = fills }
+  streams_are_filled i j made of [] (x ∷ all) whole fills = absurd fills
+  streams_are_filled i j made of (s ∷ old) all whole fills =
+      let cut = parts (file_here i j s) (stream_files i (j + 1) old) all (made (s ∷ old)) whole fills in
+      let now = stream_is_filled i j made of s.a s.b s.content cut.xs old cut.middle cut.fills in
+      let behind = streams_are_filled i (j + 1) (λ ss. made (now.stream ∷ ss)) (next_stream i j made of now.stream) old cut.ys whole
+      (subst (λ (p : Plan). FillsWith P (stream_files i (j + 1) old) cut.ys p whole) (sym now.is) cut.more) in
       record {
-        streams = is_filled.stream ∷ behind.streams;
-        have = All-cons Filled is_filled.stream behind.streams is_filled.has behind.have;
-        rest = subst (λ (ss : List Stream). Fills P files (here plan before c after ss) whole) (append_assoc done (is_filled.stream ∷ []) behind.streams) behind.rest;
+        streams = now.stream ∷ behind.streams;
+        have = All-cons Filled now.stream behind.streams now.has behind.have;
+        are = flat_map-cons stream_file now.stream behind.streams ∙ rw (now.are, behind.are) cut.are;
+        is = behind.is;
       }
 
-  record ConfigsAreFilled (plan : Plan) (before : List Config) (whole : Plan) : Type 0 where
+  record ConfigsAreFilled (made : List Config → Plan) (all : List (List ℕ)) (whole : Plan) : Type 0 where
     configs : List Config
     have : All AllFilled configs
-    is : with_configs plan (before ++ configs) ≡ whole
+    are : flat_map files_of configs ≡ all
+    is : made configs ≡ whole
 
-  configs_are_filled : (plan : Plan) (before todo : List Config) (whole : Plan) → Fills P (config_files (length before) todo) (with_configs plan (before ++ todo)) whole → ConfigsAreFilled plan before whole
-  configs_are_filled plan before [] whole fills = record { configs = []; have = All-nil AllFilled; is = fills }
-  configs_are_filled plan before (c ∷ todo) whole fills =
-      let is_filled = streams_are_filled plan before c todo [] c.streams (config_files (length before + 1) todo) whole fills in
-      let full : Config = record c { streams = is_filled.streams } in
-      let now : List Config = before ++ full ∷ [] in
-      let placed : Fills P (config_files (length before + 1) todo) (with_configs plan (now ++ todo)) whole =
-      subst (λ (cs : List Config). Fills P (config_files (length before + 1) todo) (with_configs plan cs) whole) (sym (append_assoc before (full ∷ []) todo)) is_filled.rest in
-      let counted : Fills P (config_files (length now) todo) (with_configs plan (now ++ todo)) whole =
-      subst (λ (i : ℕ). Fills P (config_files i todo) (with_configs plan (now ++ todo)) whole) (sym (one_longer before full)) placed in
-      let behind = configs_are_filled plan now todo whole counted in
+  configs_are_filled : (i : ℕ) (made : List Config → Plan) → OfConfigs i made → (old : List Config) (all : List (List ℕ)) (whole : Plan) → FillsWith P (config_files i old) all (made old) whole → ConfigsAreFilled made all whole
+  configs_are_filled i made of [] [] whole fills = record { configs = []; have = All-nil AllFilled; are = refl; is = fills }
+  configs_are_filled i made of [] (x ∷ all) whole fills = absurd fills
+  configs_are_filled i made of (c ∷ old) all whole fills =
+      let cut = parts (stream_files i 0 c.streams) (config_files (i + 1) old) all (made (c ∷ old)) whole fills in
+      let now = streams_are_filled i 0 (λ ss. made (record c { streams = ss } ∷ old)) (first_stream i made of c old) c.streams cut.xs cut.middle cut.fills in
+      let full : Config = record c { streams = now.streams } in
+      let behind = configs_are_filled (i + 1) (λ cs. made (full ∷ cs)) (next_config i made of full) old cut.ys whole
+      (subst (λ (p : Plan). FillsWith P (config_files (i + 1) old) cut.ys p whole) (sym now.is) cut.more) in
       record {
         configs = full ∷ behind.configs;
-        have = All-cons AllFilled full behind.configs is_filled.have behind.have;
-        is = sym (ap (with_configs plan) (append_assoc before (full ∷ []) behind.configs)) ∙ behind.is;
+        have = All-cons AllFilled full behind.configs now.have behind.have;
+        are = flat_map-cons files_of full behind.configs ∙ rw (now.are, behind.are) cut.are;
+        is = behind.is;
       }
 
-  -- what holds of the files that came holds of those of the whole plan
+  -- the bytes that came are those of the whole plan, and P holds of them
+  pub plan_filled : (plan whole : Plan) (all : List (List ℕ)) → FillsWith P (config_files 0 plan.configs) all plan whole → EachFile P whole × (files_in whole ≡ all)
+  plan_filled plan whole all fills =
+      let r = configs_are_filled 0 (with_configs plan) (of_plan plan) plan.configs all whole fills in
+      subst (λ (p : Plan). EachFile P p × (files_in p ≡ all)) r.is (r.have, r.are)
+
   pub files_are_filled : (plan whole : Plan) → Fills P (config_files 0 plan.configs) plan whole → EachFile P whole
-  files_are_filled plan whole fills =
-      let is_filled = configs_are_filled plan [] plan.configs whole fills in
-      subst (EachFile P) is_filled.is is_filled.have
+  files_are_filled plan whole fills = (plan_filled plan whole _ (fills_these (config_files 0 plan.configs) plan whole fills)).0
 
   -- a plan that a text can give is still one
   pub fills_fit : (files : List FileRef) (plan whole : Plan) → Fills P files plan whole → InLines plan → InLines whole
@@ -214,15 +276,9 @@ content_weaker : (P Q : List ℕ → List ℕ → Type 0) → ((name bytes : Lis
 content_weaker P Q weaker (Fill byte) has = tt
 content_weaker P Q weaker (File name bytes) has = weaker name bytes has
 
-both_all : {X : Type 0} (P Q R : X → Type 0) → ((x : X) → P x → Q x → R x) → (xs : List X) → All P xs → All Q xs → All R xs
-both_all P Q R of [] all also = All-nil R
-both_all P Q R of (x ∷ xs) all also = All-cons R x xs (of x (All-head P x xs all) (All-head Q x xs also)) (both_all P Q R of xs (All-tail P x xs all) (All-tail Q x xs also))
-
 pub each_weaker : (P Q : List ℕ → List ℕ → Type 0) → ((name bytes : List ℕ) → P name bytes → Q name bytes) → (plan : Plan) → EachFile P plan → EachFile Q plan
 each_weaker P Q weaker plan each =
-    both_all (AllFilled P) (AllFilled P) (AllFilled Q)
-    (λ c has _. both_all (Filled P) (Filled P) (Filled Q) (λ s file _. content_weaker P Q weaker s.content file) c.streams has has)
-    plan.configs each each
+    All-weaker (AllFilled P) (AllFilled Q) (λ c. All-weaker (Filled P) (Filled Q) (λ s. content_weaker P Q weaker s.content) c.streams) plan.configs each
 
 -- ---- what stays
 

@@ -1,11 +1,11 @@
 -- The lines of a configuration, written and read again, give the configuration.
 use Rattle.std.proofs.Common.{◌≡◌, ℕ, ◌+◌, ◌≤◌, ◌<◌, suc, Bool, true, false, eqb, List, [], ◌∷◌, ◌++◌, Option, Some, None, length, map, filter, refl, sym, ap, subst, ◌∙◌, append_assoc, arith}
-use Rattle.std.specs.Prelude.{All, nat_le, not, ◌||◌, if◌then◌else◌}
+use Rattle.std.specs.Prelude.{All, nat_le, if◌then◌else◌}
 use Rattle.std.specs.List.{flat_map}
 use Rattle.std.proofs.lemmas.Bool.{ne_eqb}
 use Rattle.std.proofs.lemmas.List.Concat.{flat_map-cons}
 use Rattle.std.proofs.lemmas.Bool.Decides.{nat_tests}
-use Rattle.std.proofs.lemmas.List.{length-append}
+use Rattle.std.proofs.lemmas.List.{append-nil, length-append}
 use Rattle.std.proofs.lemmas.List.Elements.{filter-append, All-head, All-tail}
 use Rattle.drm_fac.specs.declared.service.Service.{Service}
 use Rattle.drm_sdc.specs.declared.body.Body.{Body}
@@ -16,22 +16,18 @@ use Rattle.drm_schedule.specs.declared.config.Config.{Config}
 use Rattle.drm_schedule.specs.declared.timed.Timed.{Timed}
 use Rattle.drm_schedule.specs.Ranges.{TimedInLines}
 use Rattle.drm_schedule.specs.declared.stream.Stream.{Stream}
-use Rattle.plan_grammar.specs.declared.first_word.Keyword.{Keyword}
-use Rattle.plan_grammar.specs.declared.first_word.Keyword.TheVariants as keywords
+use Rattle.plan_rows.specs.declared.keyword.Keyword.{Keyword}
+use Rattle.plan_rows.specs.declared.keyword.Keyword.TheVariants as keywords
 use Rattle.plan_grammar.specs.declared.line.Line.{Line}
 use Rattle.plan_grammar.specs.declared.line.Line.TheVariants as lines
-use Rattle.plan_grammar.specs.Same.{same}
+use Rattle.plan_rows.specs.Keywords.{same}
 use Rattle.plan_grammar.specs.Said.{keyword_said, keyword_of_body}
 use Rattle.plan_rules.specs.declared.said.ParsedLine.{ParsedLine}
 use Rattle.plan_rules.specs.ParsedLine.{count}
-use Rattle.plan_rules.specs.Rules.{is_entity, is_front, count_with, count_entities, is_out_of_order, is_second, is_too_many}
+use Rattle.plan_rules.specs.Rules.{is_entity, count_with, count_entities, is_out_of_order, is_second, is_too_many}
 use Rattle.plan_writer.specs.Canonical.{service_lines, stream_lines, clock_lines, entity_lines, block_lines}
 use Rattle.law_plan.proofs.AgainLemmas.{two, numbered, is_inner, InnerFine}
 use Rattle.plan_rules.proofs.KeywordLemmas.{one, entity_is_one, entity_is_no_block}
-
-append_nil : {X : Type 0} (xs : List X) → xs ++ [] ≡ xs
-append_nil [] = refl
-append_nil (x ∷ xs) = ap (λ l. x ∷ l) (append_nil xs)
 
 pub numbered_append : (n : ℕ) (a b : List Line) → numbered n (a ++ b) ≡ numbered n a ++ numbered (n + length a) b
 numbered_append n [] b =
@@ -44,7 +40,7 @@ numbered_append n (l ∷ a) b =
 pub inner_append : (said : List ParsedLine) (n : ℕ) (a b : List Line) → InnerFine said n a → InnerFine (said ++ numbered n a) (n + length a) b → InnerFine said n (a ++ b)
 inner_append said n [] b first behind =
     let same : n + 0 ≡ n = omega arith in
-    subst (λ (s : List ParsedLine). InnerFine s n b) (append_nil said) (subst (λ k. InnerFine (said ++ []) k b) same behind)
+    subst (λ (s : List ParsedLine). InnerFine s n b) (append-nil said) (subst (λ k. InnerFine (said ++ []) k b) same behind)
 inner_append said n (l ∷ a) b first behind =
     let next : n + suc (length a) ≡ n + 1 + length a = omega arith in
     let moved : InnerFine ((said ++ record { line = n; says = l } ∷ []) ++ numbered (n + 1) a) (n + 1 + length a) b =
@@ -55,7 +51,7 @@ inner_append said n (l ∷ a) b first behind =
 abbrev pub tested : (Keyword → Bool) → List ParsedLine → ℕ
 tested test said = length (filter (λ s. test (keyword_said s.says)) said)
 
-pub tested_append : (test : Keyword → Bool) (a b : List ParsedLine) → tested test (a ++ b) ≡ tested test a + tested test b
+tested_append : (test : Keyword → Bool) (a b : List ParsedLine) → tested test (a ++ b) ≡ tested test a + tested test b
 tested_append test a b =
     ap (λ (l : List ParsedLine). length l) (filter-append (λ s. test (keyword_said s.says)) a b) ∙ length-append (filter (λ s. test (keyword_said s.says)) a) (filter (λ s. test (keyword_said s.says)) b)
 
@@ -76,13 +72,13 @@ tested_push : (test : Keyword → Bool) (said : List ParsedLine) (n : ℕ) (l : 
 tested_push test said n l = tested_append test said (record { line = n; says = l } ∷ []) ∙ ap (λ k. tested test said + k) (tested_one test n l)
 
 -- lines of one kind, none of which meets the test
-pub tested_none : {X : Type 0} (test : Keyword → Bool) (f : X → Line) → ((x : X) → test (keyword_said (f x)) ≡ false) → (n : ℕ) (xs : List X) → tested test (numbered n (map f xs)) ≡ 0
+tested_none : {X : Type 0} (test : Keyword → Bool) (f : X → Line) → ((x : X) → test (keyword_said (f x)) ≡ false) → (n : ℕ) (xs : List X) → tested test (numbered n (map f xs)) ≡ 0
 tested_none test f none n [] = refl
 tested_none test f none n (x ∷ xs) = rw (none x) (tested_none test f none (n + 1) xs)
 
-pub tested_all : {X : Type 0} (test : Keyword → Bool) (f : X → Line) → ((x : X) → test (keyword_said (f x)) ≡ true) → (n : ℕ) (xs : List X) → tested test (numbered n (map f xs)) ≡ length xs
-tested_all test f all n [] = refl
-tested_all test f all n (x ∷ xs) = rw (all x) (ap suc (tested_all test f all (n + 1) xs))
+-- behind lines of which none meets it
+still : {X : Type 0} (test : Keyword → Bool) (f : X → Line) → ((x : X) → test (keyword_said (f x)) ≡ false) → (said : List ParsedLine) (n : ℕ) (xs : List X) → tested test said ≡ 0 → tested test (said ++ numbered n (map f xs)) ≡ 0
+still test f none said n xs before = tested_append test said (numbered n (map f xs)) ∙ rw (before, tested_none test f none n xs) refl
 
 -- a line from mode to clock stands before the first block line
 no_block_yet : (k : Keyword) (said : List ParsedLine) → is_entity k ≡ false → count keywords.Block said ≡ 0 → is_out_of_order two k said ≡ false
@@ -98,8 +94,8 @@ services_fine said n [] none = tt
 services_fine said n (s ∷ services) none =
     (refl, no_block_yet keywords.Service said refl none, refl, refl, services_fine (said ++ record { line = n; says = lines.Service s } ∷ []) (n + 1) services (still_none said n (lines.Service s) refl none))
 
-few_streams : (c : ℕ) → c < 4 → nat_le 4 c ≡ false
-few_streams c few = grind (arith, nat_tests)
+pub below : (most c : ℕ) → c < most → nat_le most c ≡ false
+below most c few = grind (arith, nat_tests)
 
 streams_fine : (said : List ParsedLine) (n : ℕ) (streams : List Stream) → count keywords.Stream said + length streams ≤ 4 → count keywords.Block said ≡ 0 → InnerFine said n (stream_lines streams)
 unfolding is_second is_too_many
@@ -109,7 +105,7 @@ streams_fine said n (s ∷ streams) few none =
       refl,
       no_block_yet keywords.Stream said refl none,
       refl,
-      few_streams (count keywords.Stream said) (omega (arith, few)),
+      below 4 (count keywords.Stream said) (omega (arith, few)),
       streams_fine (said ++ record { line = n; says = lines.Stream s } ∷ []) (n + 1) streams (omega (arith, few, pushed)) (still_none said n (lines.Stream s) refl none),
     )
 
@@ -122,34 +118,15 @@ entity_inner : (b : Body) → is_inner (keyword_of_body b) ≡ true
 entity_inner (bodies.Mux desc) = refl
 entity_inner _ = refl
 
-entity_single : (k : Keyword) (said : List ParsedLine) → is_entity k ≡ true → is_second k said ≡ false
+entity_single : (b : Body) (said : List ParsedLine) → is_second (keyword_of_body b) said ≡ false
 unfolding is_second
-entity_single keywords.Drmplan said e = absurd cc
-entity_single keywords.Mode said e = absurd cc
-entity_single keywords.Occupancy said e = absurd cc
-entity_single keywords.Depth said e = absurd cc
-entity_single keywords.Msc said e = absurd cc
-entity_single keywords.Sdc said e = absurd cc
-entity_single keywords.Protection said e = absurd cc
-entity_single keywords.Room said e = absurd cc
-entity_single keywords.Clock said e = absurd cc
-entity_single _ said e = refl
+entity_single (bodies.Mux desc) said = refl
+entity_single _ said = refl
 
-entity_few : (k : Keyword) (said : List ParsedLine) → is_entity k ≡ true → nat_le 64 (count_entities 0 said) ≡ false → is_too_many k said ≡ false
+entity_few : (b : Body) (said : List ParsedLine) → nat_le 64 (count_entities 0 said) ≡ false → is_too_many (keyword_of_body b) said ≡ false
 unfolding is_too_many
-entity_few keywords.Stream said e few = absurd cc
-entity_few keywords.Block said e few = absurd cc
-entity_few keywords.Label said e few = few
-entity_few keywords.Freq said e few = few
-entity_few keywords.When said e few = few
-entity_few keywords.App said e few = few
-entity_few keywords.Audio said e few = few
-entity_few keywords.Language said e few = few
-entity_few keywords.Raw said e few = few
-entity_few _ said e few = absurd cc
-
-below_64 : (c : ℕ) → c < 64 → nat_le 64 c ≡ false
-below_64 c few = grind (arith, nat_tests)
+entity_few (bodies.Mux desc) said few = few
+entity_few _ said few = few
 
 -- one more line behind the last block line
 entities_push : (m : ℕ) (said : List ParsedLine) (n : ℕ) (l : Line) → count_entities m (said ++ record { line = n; says = l } ∷ []) ≡ count_with (count_entities m said) (keyword_said l)
@@ -161,17 +138,11 @@ entity_counts c b = rw (entity_is_no_block b, entity_is_one b) refl
 
 -- an entity line stands behind a block line
 behind_block : (b : Body) (said : List ParsedLine) → 1 ≤ count keywords.Block said → is_out_of_order two (keyword_of_body b) said ≡ false
-behind_block b said some =
-    by (is_front (keyword_of_body b)) (same (keyword_of_body b) keywords.Config) (same (keyword_of_body b) keywords.Block) (is_entity (keyword_of_body b)) (eqb (count keywords.Block said) 0)
-    (ne_eqb (count keywords.Block said) 0 (λ e. omega (arith, some, e))) (entity_is_one b)
+behind_block b said some = by b (ne_eqb (count keywords.Block said) 0 (λ e. omega (arith, some, e)))
   where
-    by : (f c k e none : Bool) → none ≡ false → e ≡ true → (if none then e else not (f || c || k || e)) ≡ false
-    by f c k e true is one = absurd cc
-    by f c k false false is one = absurd cc
-    by true c k true false is one = refl
-    by false true k true false is one = refl
-    by false false true true false is one = refl
-    by false false false true false is one = refl
+    by : (b : Body) → eqb (count keywords.Block said) 0 ≡ false → is_out_of_order two (keyword_of_body b) said ≡ false
+    by (bodies.Mux desc) none = rw none refl
+    by _ none = rw none refl
 
 -- a block line may stand anywhere
 block_anywhere : (said : List ParsedLine) → is_out_of_order two keywords.Block said ≡ false
@@ -188,8 +159,8 @@ entities_fine said n (e ∷ entities) some few =
     let blocks : count keywords.Block (said ++ record { line = n; says = lines.Entity e } ∷ []) ≡ count keywords.Block said + one (same (keyword_of_body e.body) keywords.Block) = tested_push (λ k. same k keywords.Block) said n (lines.Entity e) in (
       entity_inner e.body,
       behind_block e.body said some,
-      entity_single (keyword_of_body e.body) said (entity_is_one e.body),
-      entity_few (keyword_of_body e.body) said (entity_is_one e.body) (below_64 (count_entities 0 said) (omega (arith, few))),
+      entity_single e.body said,
+      entity_few e.body said (below 64 (count_entities 0 said) (omega (arith, few))),
       entities_fine (said ++ record { line = n; says = lines.Entity e } ∷ []) (n + 1) entities (omega (arith, some, blocks)) (omega (arith, few, one_more)),
     )
 
@@ -199,10 +170,7 @@ block_fine said n b few entities =
     let behind : List ParsedLine = said ++ record { line = n; says = lines.Block b.from } ∷ [] in
     let blocks : count keywords.Block behind ≡ count keywords.Block said + 1 = tested_push (λ k. same k keywords.Block) said n (lines.Block b.from) in
     let none : count_entities 0 behind ≡ 0 = entities_push 0 said n (lines.Block b.from) in
-    (refl, block_anywhere said, refl, below_64 (count keywords.Block said) few, entities_fine behind (n + 1) b.entities (omega (arith, blocks)) (omega (arith, none, entities)))
-
-entity_lines_no_block : (n : ℕ) (entities : List Entity) → count keywords.Block (numbered n (entity_lines entities)) ≡ 0
-entity_lines_no_block n entities = tested_none (λ k. same k keywords.Block) (λ (e : Entity). lines.Entity e) (λ e. entity_is_no_block e.body) n entities
+    (refl, block_anywhere said, refl, below 64 (count keywords.Block said) few, entities_fine behind (n + 1) b.entities (omega (arith, blocks)) (omega (arith, none, entities)))
 
 -- the blocks, one after another
 blocks_fine : (said : List ParsedLine) (n : ℕ) (blocks : List Timed) → count keywords.Block said + length blocks ≤ 64 → All TimedInLines blocks → InnerFine said n (flat_map block_lines blocks)
@@ -210,10 +178,11 @@ blocks_fine said n [] few fit = tt
 blocks_fine said n (b ∷ blocks) few fit =
     let behind : List ParsedLine = said ++ numbered n (block_lines b) in
     let own : count keywords.Block (numbered n (block_lines b)) ≡ suc (count keywords.Block (numbered (n + 1) (entity_lines b.entities))) = refl in
+    let none : count keywords.Block (numbered (n + 1) (entity_lines b.entities)) ≡ 0 = tested_none (λ k. same k keywords.Block) (λ (e : Entity). lines.Entity e) (λ e. entity_is_no_block e.body) (n + 1) b.entities in
     let counted : count keywords.Block behind ≡ count keywords.Block said + count keywords.Block (numbered n (block_lines b)) = tested_append (λ k. same k keywords.Block) said (numbered n (block_lines b)) in
     subst (λ (ls : List Line). InnerFine said n ls) (sym (flat_map-cons block_lines b blocks))
     (inner_append said n (block_lines b) (flat_map block_lines blocks) (block_fine said n b (omega (arith, few)) (All-head TimedInLines b blocks fit).few_entities)
-    (blocks_fine behind (n + length (block_lines b)) blocks (omega (arith, few, counted, own, entity_lines_no_block (n + 1) b.entities)) (All-tail TimedInLines b blocks fit)))
+    (blocks_fine behind (n + length (block_lines b)) blocks (omega (arith, few, counted, own, none)) (All-tail TimedInLines b blocks fit)))
 
 -- the settings after the config line
 abbrev pub rest_settings : Config → List Line
@@ -227,16 +196,6 @@ settings_fine n c =
 -- the lines after the config line
 abbrev pub inner_lines : Config → List Line
 inner_lines c = rest_settings c ++ (service_lines c.services ++ (stream_lines c.streams ++ (clock_lines c.clock ++ flat_map block_lines c.blocks)))
-
--- the numbers of the first lines
-abbrev after_settings : ℕ → Config → List ParsedLine
-after_settings n c = [] ++ numbered n (rest_settings c)
-
-pub services_of : (test : Keyword → Bool) → test keywords.Service ≡ false → (n : ℕ) (services : List Service) → tested test (numbered n (service_lines services)) ≡ 0
-services_of test none n services = tested_none test (λ s. lines.Service s) (λ s. none) n services
-
-streams_of : (test : Keyword → Bool) → test keywords.Stream ≡ false → (n : ℕ) (streams : List Stream) → tested test (numbered n (stream_lines streams)) ≡ 0
-streams_of test none n streams = tested_none test (λ s. lines.Stream s) (λ s. none) n streams
 
 clock_count : (test : Keyword → Bool) → test keywords.Clock ≡ false → (n : ℕ) (clock : Option Clock) → tested test (numbered n (clock_lines clock)) ≡ 0
 clock_count test none n None = refl
@@ -253,16 +212,11 @@ all_fine n c streams blocks fit =
     let n3 : ℕ = n2 + length (stream_lines c.streams) in
     let l4 : List ParsedLine = l3 ++ numbered n3 (clock_lines c.clock) in
     let n4 : ℕ = n3 + length (clock_lines c.clock) in
-    let stream_2 : count keywords.Stream l2 ≡ 0 =
-    tested_append (λ k. same k keywords.Stream) l1 (numbered n1 (service_lines c.services)) ∙ rw (services_of (λ k. same k keywords.Stream) refl n1 c.services) refl in
-    let clock_2 : count keywords.Clock l2 ≡ 0 =
-    tested_append (λ k. same k keywords.Clock) l1 (numbered n1 (service_lines c.services)) ∙ rw (services_of (λ k. same k keywords.Clock) refl n1 c.services) refl in
-    let clock_3 : count keywords.Clock l3 ≡ 0 =
-    tested_append (λ k. same k keywords.Clock) l2 (numbered n2 (stream_lines c.streams)) ∙ rw (clock_2, streams_of (λ k. same k keywords.Clock) refl n2 c.streams) refl in
-    let block_2 : count keywords.Block l2 ≡ 0 =
-    tested_append (λ k. same k keywords.Block) l1 (numbered n1 (service_lines c.services)) ∙ rw (services_of (λ k. same k keywords.Block) refl n1 c.services) refl in
-    let block_3 : count keywords.Block l3 ≡ 0 =
-    tested_append (λ k. same k keywords.Block) l2 (numbered n2 (stream_lines c.streams)) ∙ rw (block_2, streams_of (λ k. same k keywords.Block) refl n2 c.streams) refl in
+    let stream_2 : count keywords.Stream l2 ≡ 0 = still (λ k. same k keywords.Stream) (λ s. lines.Service s) (λ s. refl) l1 n1 c.services refl in
+    let clock_2 : count keywords.Clock l2 ≡ 0 = still (λ k. same k keywords.Clock) (λ s. lines.Service s) (λ s. refl) l1 n1 c.services refl in
+    let clock_3 : count keywords.Clock l3 ≡ 0 = still (λ k. same k keywords.Clock) (λ s. lines.Stream s) (λ s. refl) l2 n2 c.streams clock_2 in
+    let block_2 : count keywords.Block l2 ≡ 0 = still (λ k. same k keywords.Block) (λ s. lines.Service s) (λ s. refl) l1 n1 c.services refl in
+    let block_3 : count keywords.Block l3 ≡ 0 = still (λ k. same k keywords.Block) (λ s. lines.Stream s) (λ s. refl) l2 n2 c.streams block_2 in
     let block_4 : count keywords.Block l4 ≡ 0 =
     tested_append (λ k. same k keywords.Block) l3 (numbered n3 (clock_lines c.clock)) ∙ rw (block_3, clock_count (λ k. same k keywords.Block) refl n3 c.clock) refl in
     inner_append [] n (rest_settings c) (service_lines c.services ++ (stream_lines c.streams ++ (clock_lines c.clock ++ flat_map block_lines c.blocks))) (settings_fine n c)

@@ -1,11 +1,3 @@
-pub mod Parts
-pub mod FrequencyLaws
-pub mod LabelLaws
-pub mod SettingsAgain
-pub mod EntitiesAgain
-pub mod Tokens
-pub mod SaidAgain
-pub mod LineAgain
 pub mod AgainLemmas
 pub mod ConfigLemmas
 pub mod ProjectionLemmas
@@ -13,5 +5,4 @@ pub mod CanonicalLaw
 pub mod PlanLaw
 pub mod GivenLaw
 pub mod AttachLaw
-pub mod FillLaw
 pub mod WholeLaw

@@ -1,5 +1,5 @@
 -- Reading the canonical text of a plan gives the plan again, but for the bytes of its files.
-use Rattle.std.proofs.Common.{◌≡◌, ℕ, false, List, [], ◌∷◌, ◌++◌, Option, Some, None, Result, Ok, map, refl, sym, ap, subst, ◌∙◌, arith}
+use Rattle.std.proofs.Common.{◌≡◌, ℕ, false, List, [], ◌∷◌, ◌++◌, Option, Some, None, Ok, map, refl, sym, ap, subst, ◌∙◌, arith}
 use Rattle.std.specs.Prelude.{All, IfSome, IsUtf8}
 use Rattle.std.specs.List.{flat_map, AllByRecursion}
 use Rattle.std.proofs.lemmas.List.{length-map}
@@ -21,12 +21,12 @@ use Rattle.plan_grammar.specs.declared.version.Version.TheVariants.{Two}
 use Rattle.plan_grammar.specs.declared.line.Line.{Line}
 use Rattle.plan_grammar.specs.declared.line.Line.TheVariants as lines
 use Rattle.plan_grammar.specs.Said.{canonical as line_of, line_text, detached, LineInLines}
-use Rattle.law_plan.proofs.LineAgain.{line_again}
-use Rattle.law_plan.proofs.SaidAgain.{said_again}
+use Rattle.plan_grammar.proofs.SaidAgain.{said_again}
+use Rattle.plan_rows.proofs.TokenLemmas.{lacks_from}
 use Rattle.plan_rules.specs.declared.said.ConfigLines.{ConfigLines}
 use Rattle.plan_rules.specs.declared.said.ParsedText.{ParsedText}
 use Rattle.plan_rules.specs.ParsedLine.{nothing}
-use Rattle.plan_rules.specs.Rules.{ScheduleTextFault, version_in, ended, is_incomplete, said_from, said}
+use Rattle.plan_rules.specs.Rules.{version_in, ended, is_incomplete, said_from, said}
 use Rattle.plan_writer.specs.Canonical.{front_lines, settings_lines, service_lines, stream_lines, clock_lines, block_lines, config_lines, plan_lines, text_of, canonical}
 use Rattle.drm_plan.specs.Files.{emptied, without_bytes, config_without_bytes, without_files}
 use Rattle.law_plan.specs.Texts.{IsReadAgain}
@@ -34,6 +34,7 @@ use Rattle.drm_plan.specs.Projection.{DraftContents, drafted}
 use Rattle.drm_plan.specs.Text.{lines_give}
 use Rattle.law_plan.proofs.AgainLemmas.{two, LineAgain, lines_said}
 use Rattle.law_plan.proofs.CanonicalLaw.{plan_read}
+use Rattle.law_plan.proofs.GivenLaw.{ok_is}
 use Rattle.drm_plan.proofs.TextLemmas.{text_gives}
 use Rattle.plan_writer.proofs.TextLemmas.{text_append, no_text}
 use Rattle.drm_plan.proofs.FileLemmas.{with_streams}
@@ -46,8 +47,12 @@ record Clean (l : Line) : Type 0 where
 
 clean : (l : Line) → LineInLines l → detached l ≡ l → Clean l
 clean l fits same =
-    let cut = line_again l fits in
-    record { again = record { cut = cut.words; reads = said_again l fits ∙ ap (λ (x : Line). Ok x) same }; line = cut.one_line; utf8 = cut.utf8 }
+    let said = said_again l fits in
+    record {
+      again = record { words = said.words; cut = said.cut; reads = said.said ∙ ap (λ (x : Line). Ok x) same };
+      line = lacks_from 10 (line_of l) said.one_line;
+      utf8 = said.utf8;
+    }
 
 both : (a b : List Line) → AllByRecursion Clean a → AllByRecursion Clean b → AllByRecursion Clean (a ++ b)
 both [] b first behind = behind
@@ -75,9 +80,9 @@ stream_clean s fits = clean (lines.Stream (without_bytes s)) (stream_fits s fits
     by (Fill byte) = refl
     by (File name bytes) = refl
 
-mapped : {X Y : Type 0} (f : Y → Line) (g : X → Y) (xs : List X) → map f (map g xs) ≡ map (λ x. f (g x)) xs
-mapped f g [] = refl
-mapped f g (x ∷ xs) = ap (λ l. f (g x) ∷ l) (mapped f g xs)
+all_mapped : {X Y : Type 0} (P : X → Type 0) (Q : Y → Type 0) (f : X → Y) → ((x : X) → P x → Q (f x)) → (xs : List X) → All P xs → All Q (map f xs)
+all_mapped P Q f gives [] all = All-nil Q
+all_mapped P Q f gives (x ∷ xs) all = All-cons Q (f x) (map f xs) (gives x (All-head P x xs all)) (all_mapped P Q f gives xs (All-tail P x xs all))
 
 clock_clean : (clock : Option Clock) → IfSome clock ClockInLines → AllByRecursion Clean (clock_lines clock)
 clock_clean None fits = tt
@@ -119,7 +124,7 @@ blocks_clean (b ∷ blocks) fit =
 config_clean : (c : Config) → ConfigInLines c → AllByRecursion Clean (config_lines (config_without_bytes c))
 config_clean c fits =
     let streams : AllByRecursion Clean (stream_lines (map without_bytes c.streams)) =
-    subst (λ (ls : List Line). AllByRecursion Clean ls) (sym (mapped (λ s. lines.Stream s) without_bytes c.streams)) (each (λ s. lines.Stream (without_bytes s)) StreamInLines stream_clean c.streams fits.each_stream) in
+    each (λ s. lines.Stream s) (λ s. Clean (lines.Stream s)) (λ s is. is) (map without_bytes c.streams) (all_mapped StreamInLines (λ s. Clean (lines.Stream s)) without_bytes stream_clean c.streams fits.each_stream) in
     both (settings_lines c) (service_lines c.services ++ (stream_lines (map without_bytes c.streams) ++ (clock_lines c.clock ++ flat_map block_lines c.blocks))) (settings_clean c fits)
     (both (service_lines c.services) (stream_lines (map without_bytes c.streams) ++ (clock_lines c.clock ++ flat_map block_lines c.blocks)) (each (λ s. lines.Service s) ServiceInLines (λ s is. clean (lines.Service s) is refl) c.services fits.each_service)
     (both (stream_lines (map without_bytes c.streams)) (clock_lines c.clock ++ flat_map block_lines c.blocks) streams
@@ -139,15 +144,7 @@ plan_clean plan fits =
 
 -- the ranges stay
 config_stays : (c : Config) → ConfigInLines c → ConfigInLines (config_without_bytes c)
-config_stays c fits = with_streams c (map without_bytes c.streams) (length-map c.streams without_bytes) (all_mapped StreamInLines without_bytes stream_fits c.streams fits.each_stream) fits
-  where
-    all_mapped : {X : Type 0} (P : X → Type 0) (f : X → X) → ((x : X) → P x → P (f x)) → (xs : List X) → All P xs → All P (map f xs)
-    all_mapped P f keeps [] all = All-nil P
-    all_mapped P f keeps (x ∷ xs) all = All-cons P (f x) (map f xs) (keeps x (All-head P x xs all)) (all_mapped P f keeps xs (All-tail P x xs all))
-
-configs_stay : (cs : List Config) → All ConfigInLines cs → All ConfigInLines (map config_without_bytes cs)
-configs_stay [] all = All-nil ConfigInLines
-configs_stay (c ∷ cs) all = All-cons ConfigInLines (config_without_bytes c) (map config_without_bytes cs) (config_stays c (All-head ConfigInLines c cs all)) (configs_stay cs (All-tail ConfigInLines c cs all))
+config_stays c fits = with_streams c (map without_bytes c.streams) (length-map c.streams without_bytes) (all_mapped StreamInLines StreamInLines without_bytes stream_fits c.streams fits.each_stream) fits
 
 -- the bytes of files stand in no line
 stream_text : (s : Stream) → line_text (lines.Stream (without_bytes s)) ≡ line_text (lines.Stream s)
@@ -169,32 +166,26 @@ streams_text (s ∷ streams) =
     ∙ ap (λ t. line_text (lines.Stream s) ++ t) (streams_text streams)
     ∙ sym (text_cons (lines.Stream s) (stream_lines streams))
 
+text_both : (a b c d : List Line) → text_of a ≡ text_of b → text_of c ≡ text_of d → text_of (a ++ c) ≡ text_of (b ++ d)
+text_both a b c d front behind = text_append a c ∙ ap (λ t. t ++ text_of c) front ∙ ap (λ t. text_of b ++ t) behind ∙ sym (text_append b d)
+
 config_text : (c : Config) → text_of (config_lines (config_without_bytes c)) ≡ text_of (config_lines c)
 config_text c =
     let rest : List Line = clock_lines c.clock ++ flat_map block_lines c.blocks in
-    let streams : text_of (stream_lines (map without_bytes c.streams) ++ rest) ≡ text_of (stream_lines c.streams ++ rest) =
-    text_append (stream_lines (map without_bytes c.streams)) rest ∙ ap (λ t. t ++ text_of rest) (streams_text c.streams) ∙ sym (text_append (stream_lines c.streams) rest) in
-    let services : text_of (service_lines c.services ++ (stream_lines (map without_bytes c.streams) ++ rest)) ≡ text_of (service_lines c.services ++ (stream_lines c.streams ++ rest)) =
-    text_append (service_lines c.services) (stream_lines (map without_bytes c.streams) ++ rest) ∙ ap (λ t. text_of (service_lines c.services) ++ t) streams ∙ sym (text_append (service_lines c.services) (stream_lines c.streams ++ rest)) in
-    text_append (settings_lines c) (service_lines c.services ++ (stream_lines (map without_bytes c.streams) ++ rest))
-    ∙ ap (λ t. text_of (settings_lines c) ++ t) services
-    ∙ sym (text_append (settings_lines c) (service_lines c.services ++ (stream_lines c.streams ++ rest)))
+    let bare : List Line = stream_lines (map without_bytes c.streams) in
+    text_both (settings_lines c) (settings_lines c) (service_lines c.services ++ (bare ++ rest)) (service_lines c.services ++ (stream_lines c.streams ++ rest)) refl
+    (text_both (service_lines c.services) (service_lines c.services) (bare ++ rest) (stream_lines c.streams ++ rest) refl
+    (text_both bare (stream_lines c.streams) rest rest (streams_text c.streams) refl))
 
 configs_text : (cs : List Config) → text_of (flat_map config_lines (map config_without_bytes cs)) ≡ text_of (flat_map config_lines cs)
 configs_text [] = refl
 configs_text (c ∷ cs) =
     ap text_of (flat_map-cons config_lines (config_without_bytes c) (map config_without_bytes cs))
-    ∙ text_append (config_lines (config_without_bytes c)) (flat_map config_lines (map config_without_bytes cs))
-    ∙ ap (λ t. t ++ text_of (flat_map config_lines (map config_without_bytes cs))) (config_text c)
-    ∙ ap (λ t. text_of (config_lines c) ++ t) (configs_text cs)
-    ∙ sym (text_append (config_lines c) (flat_map config_lines cs))
+    ∙ text_both (config_lines (config_without_bytes c)) (config_lines c) (flat_map config_lines (map config_without_bytes cs)) (flat_map config_lines cs) (config_text c) (configs_text cs)
     ∙ ap text_of (sym (flat_map-cons config_lines c cs))
 
 pub same_text : (plan : Plan) → canonical (without_files plan) ≡ canonical plan
-same_text plan =
-    text_append (front_lines plan) (flat_map config_lines (map config_without_bytes plan.configs))
-    ∙ ap (λ t. text_of (front_lines plan) ++ t) (configs_text plan.configs)
-    ∙ sym (text_append (front_lines plan) (flat_map config_lines plan.configs))
+same_text plan = text_both (front_lines plan) (front_lines plan) (flat_map config_lines (map config_without_bytes plan.configs)) (flat_map config_lines plan.configs) refl (configs_text plan.configs)
 
 -- the lines of a text of lines
 all_again : (ls : List Line) → AllByRecursion Clean ls → AllByRecursion LineAgain ls
@@ -217,31 +208,22 @@ said_whole ls read b e last version whole =
     let lacking : is_incomplete (version_in read.front) b.lines ≡ false = subst (λ v. is_incomplete v b.lines ≡ false) (sym version) whole in
     rw (e, last, lacking) refl
 
-abbrev ok_read : ParsedText → Result ParsedText ScheduleTextFault
-ok_read read = Ok read
-
 -- the canonical text of a plan gives the plan again
 pub read_again : (plan : Plan) → InLines plan → IsReadAgain plan
 read_again plan fits =
     let bare : Plan = without_files plan in
     let count = length-map plan.configs config_without_bytes in
-    let read = plan_read bare (rw count fits.some_config) (rw count fits.few_configs) (configs_stay plan.configs fits.each_config) in
+    let read = plan_read bare (rw count fits.some_config) (rw count fits.few_configs) (all_mapped ConfigInLines ConfigInLines config_without_bytes config_stays plan.configs fits.each_config) in
     let are = plan_clean plan fits in
     let ls : List (List ℕ) = map line_of (plan_lines bare) in
     let lines_are : lines_of (canonical plan) ≡ ls = ap lines_of (sym (same_text plan) ∙ text_is (plan_lines bare)) ∙ lines_again ls (all_lines (plan_lines bare) are) in
-    let from_start : said_from nothing 1 ls ≡ Ok read.read = lines_said nothing 1 (plan_lines bare) (all_again (plan_lines bare) are) read.fine ∙ ap ok_read read.is in
+    let from_start : said_from nothing 1 ls ≡ Ok read.read = lines_said nothing 1 (plan_lines bare) (all_again (plan_lines bare) are) read.fine ∙ ap (λ (r : ParsedText). Ok r) read.is in
     let all : said ls ≡ Ok read.read = said_whole ls read.read read.block from_start read.last read.version read.whole in
     record {
       draft = drafted read.read;
       lines = ap lines_give lines_are ∙ text_gives ls read.read all;
       same = read.gives;
     }
-
-abbrev ok_draft : DraftContents → Result DraftContents ScheduleTextFault
-ok_draft draft = Ok draft
-
-ok_is : (a b : DraftContents) → ok_draft a ≡ ok_draft b → a ≡ b
-ok_is a b e = cc
 
 -- two plans with one text
 pub one_text : (a b : Plan) → InLines a → InLines b → canonical a ≡ canonical b → without_files a ≡ without_files b

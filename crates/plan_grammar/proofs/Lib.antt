@@ -1,3 +1,2 @@
-pub mod Faults
-pub mod Clean
-pub mod Keywords
+pub mod SaidAgain
+pub mod SaysFits

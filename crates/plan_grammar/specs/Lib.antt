@@ -1,10 +1,4 @@
 pub mod Gives
-pub mod LineShape
-pub mod Asked
-pub mod Keywords
-pub mod Same
-pub mod Frequencies
-pub mod Settings
-pub mod Entities
-pub mod Lines
 pub mod Said
+pub mod Says
+pub mod Law

@@ -1,30 +1,27 @@
-//! The grammar of a schedule's text: the 23 keywords that begin a line, what the words behind each
-//! may be, and what a line says (`Line`). Beside that stands the reading of single words: numbers,
-//! numbers in a range, bytes in hex.
+//! The grammar of a schedule's text: a table of its lines (`TABLE`), a row for each form of a line,
+//! and what the values of a line say (`Line`).
 //!
-//! The values that a line gives (carry, service, stream, SDC entity) are those of `drm_schedule`;
-//! words are cut by `text_lines`. `plan_lines` reads lines by this grammar, `plan_writer` writes
-//! them, `plan_rules` says which may stand together.
+//! What a word of a row may be, and how rows are read and written, is in `plan_rows`. The values that
+//! a line gives (carry, service, stream, SDC entity) are those of `drm_schedule`. `plan_lines` reads
+//! lines by this grammar, `plan_writer` writes them, `plan_rules` says which may stand together.
 //!
-//! No whole line is read here: that is `read_line` of `plan_lines`. Where a line may stand is said
-//! by `plan_rules`. Scripts have a grammar of their own, in `plan_script`.
+//! No line is read here: that is `read_line` of `plan_lines`. Where a line may stand is said by
+//! `plan_rules`. Scripts have a table of their own, in `plan_script`.
 //!
-//! Begin with `Keyword` in `src/first_word.rt` and `Line` in `src/line.rt`; `shape_of` in
-//! `specs/Lines.antt` has one row for each keyword, with its form in `specs/Settings.antt` or
-//! `specs/Entities.antt`.
+//! Begin with `TABLE` in `src/table.rt` and `Line` in `src/line.rt`; `specs/Says.antt` has what the
+//! values of a line say (`says`) and the values of what is said (`values_of`), and `lines_are_said_again`
+//! in `src/laws.rt` is the law that both agree.
 #![tactic(auto)]
 
 mod fault;
-mod first_word;
+mod laws;
 mod line;
-mod ranges;
-mod said;
-mod spelling;
+mod table;
 mod version;
 
 pub use fault::LineFault;
-pub use first_word::Keyword;
+pub use laws::lines_are_said_again;
 pub use line::Line;
-pub use ranges::{numbers, small_numbers};
-pub use spelling::{at_most, bytes, hex, number, optional_byte, within};
+pub use plan_rows::Keyword;
+pub use table::TABLE;
 pub use version::Version;

@@ -7,10 +7,10 @@ use Rattle.std.proofs.lemmas.List.{length-append}
 use Rattle.std.proofs.lemmas.List.Elements.{All-nil, All-cons, All-append, filter-append}
 use Rattle.plan_grammar.specs.declared.line.Line.{Line}
 use Rattle.plan_grammar.specs.declared.line.Line.TheVariants as lines
-use Rattle.plan_grammar.specs.declared.first_word.Keyword.{Keyword}
-use Rattle.plan_grammar.specs.declared.first_word.Keyword.TheVariants as keywords
+use Rattle.plan_rows.specs.declared.keyword.Keyword.{Keyword}
+use Rattle.plan_rows.specs.declared.keyword.Keyword.TheVariants as keywords
 use Rattle.plan_grammar.specs.Said.{keyword_said, LineInLines}
-use Rattle.plan_grammar.specs.Same.{same}
+use Rattle.plan_rows.specs.Keywords.{same}
 use Rattle.plan_rules.specs.declared.said.ParsedLine.{ParsedLine}
 use Rattle.plan_rules.specs.declared.said.ConfigLines.{ConfigLines}
 use Rattle.plan_rules.specs.declared.said.ParsedText.{ParsedText}
@@ -146,22 +146,4 @@ add_fits read n (lines.Config start countdown) here fits whole found =
     let full = checked _ _ _ n found in
     let both = neither _ _ full.none in
     begin_fits read n start countdown here.0 here.1 fits whole both.1
-add_fits read n (lines.Entity entity) here fits whole found =
-    let full = checked _ _ _ n found in
-    let both = neither _ _ full.none in
-    put_fits read n (lines.Entity entity) here fits both.0
-add_fits read n (lines.Stream stream) here fits whole found = put_fits read n (lines.Stream stream) here fits (neither _ _ (checked _ _ _ n found).none).0
-add_fits read n (lines.Block from) here fits whole found = put_fits read n (lines.Block from) here fits (neither _ _ (checked _ _ _ n found).none).0
-add_fits read n (lines.Version version) here fits whole found = put_fits read n (lines.Version version) here fits (neither _ _ (checked _ _ _ n found).none).0
-add_fits read n (lines.Carry carry) here fits whole found = put_fits read n (lines.Carry carry) here fits (neither _ _ (checked _ _ _ n found).none).0
-add_fits read n (lines.First seq dlfc) here fits whole found = put_fits read n (lines.First seq dlfc) here fits (neither _ _ (checked _ _ _ n found).none).0
-add_fits read n (lines.Length x) here fits whole found = put_fits read n (lines.Length x) here fits (neither _ _ (checked _ _ _ n found).none).0
-add_fits read n (lines.Mode mode) here fits whole found = put_fits read n (lines.Mode mode) here fits (neither _ _ (checked _ _ _ n found).none).0
-add_fits read n (lines.Occupancy x) here fits whole found = put_fits read n (lines.Occupancy x) here fits (neither _ _ (checked _ _ _ n found).none).0
-add_fits read n (lines.Depth short) here fits whole found = put_fits read n (lines.Depth short) here fits (neither _ _ (checked _ _ _ n found).none).0
-add_fits read n (lines.Msc x) here fits whole found = put_fits read n (lines.Msc x) here fits (neither _ _ (checked _ _ _ n found).none).0
-add_fits read n (lines.Sdc qam4) here fits whole found = put_fits read n (lines.Sdc qam4) here fits (neither _ _ (checked _ _ _ n found).none).0
-add_fits read n (lines.Protection a b) here fits whole found = put_fits read n (lines.Protection a b) here fits (neither _ _ (checked _ _ _ n found).none).0
-add_fits read n (lines.Room x) here fits whole found = put_fits read n (lines.Room x) here fits (neither _ _ (checked _ _ _ n found).none).0
-add_fits read n (lines.Service service) here fits whole found = put_fits read n (lines.Service service) here fits (neither _ _ (checked _ _ _ n found).none).0
-add_fits read n (lines.Clock clock) here fits whole found = put_fits read n (lines.Clock clock) here fits (neither _ _ (checked _ _ _ n found).none).0
+add_fits read n l here fits whole found = put_fits read n l here fits (neither _ _ (checked _ _ _ n found).none).0

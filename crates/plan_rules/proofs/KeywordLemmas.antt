@@ -2,9 +2,9 @@
 use Rattle.std.proofs.Common.{◌≡◌, ℕ, Bool, true, false, refl}
 use Rattle.drm_sdc.specs.declared.body.Body.{Body}
 use Rattle.drm_sdc.specs.declared.body.Body.TheVariants as bodies
-use Rattle.plan_grammar.specs.declared.first_word.Keyword.TheVariants as keywords
+use Rattle.plan_rows.specs.declared.keyword.Keyword.TheVariants as keywords
 use Rattle.plan_grammar.specs.Said.{keyword_of_body}
-use Rattle.plan_grammar.specs.Same.{same}
+use Rattle.plan_rows.specs.Keywords.{same}
 use Rattle.plan_rules.specs.Rules.{is_entity}
 
 -- how many there are of what lines list

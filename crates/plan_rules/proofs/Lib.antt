@@ -2,3 +2,4 @@ pub mod StepLemmas
 pub mod EndLemmas
 pub mod KeywordLemmas
 pub mod KeptLemmas
+pub mod CountLemmas

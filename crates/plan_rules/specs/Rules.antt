@@ -1,20 +1,20 @@
 -- What the lines of a text say, or the first fault of the text.
-use Rattle.std.specs.Prelude.{ℕ, zero, suc, ◌+◌, ◌==◌, ◌&&◌, ◌||◌, not, nat_le, nat_lt, Bool, true, false, is_none, length, List, [], ◌∷◌, Option, Some, None, Result, Err, if◌then◌else◌}
-use Rattle.std.specs.List.{list_all, list_any}
+use Rattle.std.specs.Prelude.{ℕ, zero, suc, ◌+◌, ◌==◌, ◌&&◌, ◌||◌, not, nat_le, nat_lt, Bool, true, false, is_err, length, List, [], ◌∷◌, Option, Some, None, Result, Ok, Err, if◌then◌else◌}
+use Rattle.std.specs.List.{list_any}
 use Rattle.text_lines.specs.Faults.{FaultOf, fault, first_fault, ok_unless, words_say, lines_say, ◌>>=◌}
 use Rattle.text_lines.specs.Lines.{words_of}
 use Rattle.drm_schedule.specs.declared.invalid.Reason.{Reason}
-use Rattle.drm_schedule.specs.declared.invalid.Reason.TheVariants.{Word, Order, Number, Range, Twice, TooLong, Missing}
+use Rattle.drm_schedule.specs.declared.invalid.Reason.TheVariants.{Word, Order, Twice, TooLong, Missing}
 use Rattle.plan_grammar.specs.declared.version.Version.{Version}
 use Rattle.plan_grammar.specs.declared.version.Version.TheVariants.{One, Two}
 use Rattle.plan_grammar.specs.declared.line.Line.{Line}
 use Rattle.plan_grammar.specs.declared.line.Line.TheVariants as lines
-use Rattle.plan_grammar.specs.declared.first_word.Keyword.{Keyword}
-use Rattle.plan_grammar.specs.declared.first_word.Keyword.TheVariants as keywords
-use Rattle.plan_grammar.specs.LineShape.{LineShape}
-use Rattle.plan_grammar.specs.Keywords.{keyword_of}
-use Rattle.plan_grammar.specs.Lines.{shape_of}
-use Rattle.plan_grammar.specs.Same.{same}
+use Rattle.plan_rows.specs.declared.keyword.Keyword.{Keyword}
+use Rattle.plan_rows.specs.declared.keyword.Keyword.TheVariants as keywords
+use Rattle.plan_rows.specs.Tables as tables
+use Rattle.plan_grammar.specs.declared.table.TheConstants.{TABLE}
+use Rattle.plan_grammar.specs.Says.{line_said, number_of}
+use Rattle.plan_rows.specs.Keywords.{same}
 use Rattle.plan_grammar.specs.Said.{keyword_said}
 use Rattle.plan_rules.specs.declared.said.ParsedLine.{ParsedLine}
 use Rattle.plan_rules.specs.declared.said.ConfigLines.{ConfigLines}
@@ -95,17 +95,13 @@ abbrev pub is_two : Option Version → Bool
 is_two (Some Two) = true
 is_two _ = false
 
--- a block line is unknown in version 1
-abbrev pub known_in : Option Version → Keyword → Option Keyword
-known_in version keyword = if is_one version && same keyword keywords.Block then None else Some keyword
+-- the version by whose rows a line is read: where none is said yet, the newest
+abbrev pub reads_as : Option Version → Version
+reads_as version = if is_one version then One else Two
 
 -- the keyword that a word is in a text of this version
-abbrev pub keyword_in : Option Version → List ℕ → Option Keyword
-keyword_in version word = of (keyword_of word)
-  where
-    of : Option Keyword → Option Keyword
-    of None = None
-    of (Some keyword) = known_in version keyword
+unfoldable pub keyword_in : Option Version → List ℕ → Option Keyword
+keyword_in version word = tables.keyword_in TABLE (number_of (reads_as version)) word
 
 -- ---- the rules
 
@@ -157,43 +153,42 @@ abbrev pub current_line : Option ConfigLines → ℕ
 current_line None = 0
 current_line (Some block) = block.line
 
--- the parts of a line that are words, and their ranges
-abbrev pub is_spelled : Option LineShape → Bool
-is_spelled None = true
-is_spelled (Some s) = list_all (λ p. p.is_spelled) s.parts
+-- a line that isn't of the words of its keyword
+abbrev pub is_wordless : Result Line Reason → Bool
+is_wordless (Err Word) = true
+is_wordless _ = false
 
-abbrev pub is_in_range : Option LineShape → Bool
-is_in_range None = true
-is_in_range (Some s) = list_all (λ p. p.in_range) s.parts
+-- a fault that a line has by itself
+abbrev pub own_fault : ℕ → Result Line Reason → ScheduleTextFault
+own_fault n (Ok line) = fault n Word
+own_fault n (Err reason) = fault n reason
 
 -- a config line ends the configuration before it, which then lacks something
 abbrev pub ends_incomplete : ParsedText → Keyword → Bool
 ends_incomplete read keyword = same keyword keywords.Config && in_current (is_incomplete (version_in read.front)) read.current
 
--- The rows for line n, a line of this keyword after these lines: the first that holds is the fault. A line that isn't of
--- the right words has no shape.
-abbrev pub rows_of : ParsedText → ℕ → Keyword → Option LineShape → List (Bool × ScheduleTextFault)
-rows_of read n keyword shape =
+-- The rows for line n, a line of this keyword that by itself says this, after these lines: the first that holds is the fault.
+abbrev pub rows_of : ParsedText → ℕ → Keyword → Result Line Reason → List (Bool × ScheduleTextFault)
+rows_of read n keyword says =
     (ends_incomplete read keyword, fault (current_line read.current) Missing)
-    ∷ (is_none shape, fault n Word)
+    ∷ (is_wordless says, fault n Word)
     ∷ (is_misplaced read keyword, fault n Order)
-    ∷ (not (is_spelled shape), fault n Number)
-    ∷ (not (is_in_range shape), fault n Range)
+    ∷ (is_err says, own_fault n says)
     ∷ (in_current (is_second keyword) read.current, fault n Twice)
     ∷ (in_current (is_too_many keyword) read.current || is_17th read keyword, fault n TooLong)
     ∷ []
 
-abbrev pub add_shape : ℕ → Option LineShape → ParsedText → ParsedText
-add_shape n None read = read
-add_shape n (Some s) read = add n s.says read
+abbrev pub add_said : ℕ → Result Line Reason → ParsedText → ParsedText
+add_said n (Ok line) read = add n line read
+add_said n (Err reason) read = read
 
--- a line of this shape after these lines
-unfoldable pub said_shape : ParsedText → ℕ → Keyword → Option LineShape → Result ParsedText ScheduleTextFault
-said_shape read n keyword shape = ok_unless (first_fault (rows_of read n keyword shape)) (add_shape n shape read)
+-- a line that by itself says this, after these lines
+unfoldable pub said_after : ParsedText → ℕ → Keyword → Result Line Reason → Result ParsedText ScheduleTextFault
+said_after read n keyword says = ok_unless (first_fault (rows_of read n keyword says)) (add_said n says read)
 
 abbrev pub said_keyword : ParsedText → ℕ → Option Keyword → List ℕ → List (List ℕ) → Result ParsedText ScheduleTextFault
 said_keyword read n None line words = Err (fault n Word)
-said_keyword read n (Some keyword) line words = said_shape read n keyword (shape_of keyword line words)
+said_keyword read n (Some keyword) line words = said_after read n keyword (line_said (reads_as (version_in read.front)) keyword line words)
 
 -- a line of these words
 abbrev pub said_words : ParsedText → ℕ → List ℕ → List (List ℕ) → Result ParsedText ScheduleTextFault

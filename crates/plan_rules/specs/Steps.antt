@@ -3,7 +3,7 @@ use Rattle.std.specs.Prelude.{ℕ, ◌+◌, ◌||◌, Bool, Option, Some, None, 
 use Rattle.drm_schedule.specs.declared.invalid.Reason.{Reason}
 use Rattle.drm_schedule.specs.declared.invalid.Reason.TheVariants.{Word, Order, Twice, TooLong, Missing}
 use Rattle.plan_grammar.specs.declared.version.Version.{Version}
-use Rattle.plan_grammar.specs.declared.first_word.Keyword.{Keyword}
+use Rattle.plan_rows.specs.declared.keyword.Keyword.{Keyword}
 use Rattle.plan_rules.specs.declared.said.ConfigLines.{ConfigLines}
 use Rattle.plan_rules.specs.declared.said.ParsedText.{ParsedText}
 use Rattle.plan_rules.specs.declared.fault.PlanFault.{PlanFault}

@@ -1,8 +1,11 @@
 //! What the lines of a configuration have, and lack.
 
 ghost use Rattle.std.specs.Prelude.{◌≡◌, ◌==◌, length};
+ghost use Rattle.std.specs.List.{list_any};
+ghost use Rattle.plan_rows.specs.Keywords.{same};
+ghost use Rattle.plan_grammar.specs.Said.{keyword_said};
 ghost use Rattle.plan_rules.specs.ParsedLine.{count};
-ghost use Rattle.plan_grammar.specs.declared.first_word.Keyword.TheVariants as keywords;
+ghost use Rattle.plan_rows.specs.declared.keyword.Keyword.TheVariants as keywords;
 ghost use Rattle.plan_rules.specs.Rules.{count_entities, is_out_of_order, lacks_a_line, is_incomplete, is_second, is_too_many};
 
 use crate::keywords::{is_entity, is_setting, is_single};
@@ -19,17 +22,18 @@ fn count(keyword: Keyword, lines: &[ParsedLine]) -> usize
         .count()
 }
 
-// How many entity lines stand behind the last block line.
+// How many entity lines stand behind the last block line, which is looked for from behind: a block has few lines, a configuration many.
 fn count_entities(lines: &[ParsedLine]) -> usize
     ensures { result ≡ count_entities 0 lines.now }
 {
     let mut count = 0;
     let mut left = lines;
-    while let [said, more @ ..] = left {
+    while let [more @ .., said] = left {
         let keyword = said.says.keyword();
         if keyword.is(Keyword::Block) {
-            count = 0;
-        } else if is_entity(keyword) {
+            return count;
+        }
+        if is_entity(keyword) {
             count += 1;
         }
         left = more;
@@ -37,10 +41,16 @@ fn count_entities(lines: &[ParsedLine]) -> usize
     count
 }
 
+fn has(keyword: Keyword, lines: &[ParsedLine]) -> bool
+    ensures { result ≡ list_any (λ said. same (keyword_said said.says) keyword) lines.now }
+{
+    lines.iter().any(|said| said.says.keyword().is(keyword))
+}
+
 fn lacks(keyword: Keyword, lines: &[ParsedLine]) -> bool
     ensures { result ≡ (count keyword lines.now == 0) }
 {
-    count(keyword, lines) == 0
+    !has(keyword, lines)
 }
 
 /// Whether there is no block line.

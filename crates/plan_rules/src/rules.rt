@@ -1,14 +1,13 @@
 //! The rules of the lines, judged in their order.
 
-ghost use Rattle.std.specs.Prelude.{◌≡◌, ◌||◌, ◌<◌, ◌^◌, ◌-◌, false, length, map, List, ℕ, ◌∷◌, All, Option, IfOk, OnOk};
+ghost use Rattle.std.specs.Prelude.{◌≡◌, ◌||◌, ◌<◌, ◌^◌, ◌-◌, false, length, map, List, ℕ, ◌∷◌, All, Result, IfOk, OnOk};
 ghost use Rattle.text_lines.specs.Lines.{words_of};
-ghost use Rattle.plan_grammar.specs.LineShape.{LineShape, reading};
 ghost use Rattle.plan_grammar.specs.Gives.{ReaderGives};
 ghost use Rattle.plan_grammar.specs.Said.{LineInLines, keyword_said};
 ghost use Rattle.plan_rules.specs.InLines.{IsSingle, ReadInLines, EndsComplete};
-ghost use Rattle.plan_grammar.specs.Lines.{shape_of};
+ghost use Rattle.plan_grammar.specs.Says.{line_said};
 ghost use Rattle.plan_rules.specs.ParsedLine.{nothing};
-ghost use Rattle.plan_rules.specs.Rules.{version_in, keyword_in, is_misplaced, in_current, is_second, is_too_many, is_17th, ends_incomplete, current_line, said_shape, said_words, said_line, said_from, said};
+ghost use Rattle.plan_rules.specs.Rules.{version_in, reads_as, keyword_in, is_misplaced, in_current, is_second, is_too_many, is_17th, ends_incomplete, current_line, said_after, said_words, said_line, said_from, said};
 ghost use Rattle.plan_rules.specs.Steps.{LinesStep, ReadsLines, check_of, refused_of, end_check};
 
 use crate::counts;
@@ -17,7 +16,9 @@ use crate::keywords::{is_front, keyword_at};
 use crate::said::ParsedText;
 use crate::version::is_one;
 use drm_schedule::Reason;
-use plan_lines::{Keyword, Line, LineFault, Version, keyword, read_line};
+use plan_grammar::TABLE;
+use plan_lines::{Keyword, Line, LineFault, Version, read_line};
+use plan_rows::keyword_in;
 use std::alloc::Global;
 use text_lines::{is_comment, words};
 
@@ -35,15 +36,23 @@ impl ParsedText {
         }
     }
 
+    // The version by whose rows its lines are read.
+    fn reads_as(&self) -> Version
+        ensures { result ≡ reads_as (version_in self.now.front) }
+    {
+        if is_one(self.version()) {
+            Version::One
+        } else {
+            Version::Two
+        }
+    }
+
     // The keyword that a word is in a text of this version.
+    #[tactic(auto, unfolding(crate::specs::Rules::keyword_in))]
     fn keyword_in(&self, word: &str) -> Option<Keyword>
         ensures { result ≡ keyword_in (version_in self.now.front) word.now }
     {
-        let keyword = keyword(word)?;
-        if is_one(self.version()) && keyword.is(Keyword::Block) {
-            return None;
-        }
-        Some(keyword)
+        keyword_in(&TABLE, self.reads_as().number(), word)
     }
 
     fn is_misplaced(&self, keyword: Keyword) -> bool
@@ -140,8 +149,8 @@ impl ParsedText {
         line: Result<Line, LineFault>,
     ) -> Result<(), PlanFault>
         requires { ends_incomplete self.old keyword ≡ false }
-        ensures steps { (s : Option LineShape) → ReaderGives line (reading s)
-            → LinesStep result self.new (said_shape self.old n keyword s) }
+        ensures steps { (says : Result Line Reason) → ReaderGives line says
+            → LinesStep result self.new (said_after self.old n keyword says) }
         ensures kept { IfOk line LineInLines → IfOk line (λ l. keyword_said l ≡ keyword) → ReadInLines self.old
             → OnOk result (ReadInLines self.new) }
     {
@@ -167,14 +176,14 @@ impl ParsedText {
         words: &[&str],
     ) -> Result<(), PlanFault>
         ensures steps { LinesStep result self.new
-            (said_shape self.old n keyword (shape_of keyword line.now (map (λ w. w.now) words.now))) }
+            (said_after self.old n keyword (line_said (reads_as (version_in self.old.front)) keyword line.now (map (λ w. w.now) words.now))) }
         ensures kept { (first : List ℕ) → words_of line.now ≡ first ∷ map (λ w. w.now) words.now → IsSingle line.now
             → ReadInLines self.old → OnOk result (ReadInLines self.new) }
     {
         if self.ends_incomplete(keyword) {
             return Err(fault_at_line(self.current_line(), Reason::Missing));
         }
-        let read = read_line(alloc, keyword, line, words);
+        let read = read_line(alloc, self.reads_as(), keyword, line, words);
         self.judge(alloc, n, keyword, read)
     }
 

@@ -1,13 +1,17 @@
 -- The feeds of a text without a fault are of the schedule's fragments, and within the limits.
 use Rattle.std.proofs.Common.{◌≡◌, ℕ, ◌+◌, ◌-◌, ◌<◌, ◌≤◌, zero, suc, nat_lt, Bool, true, false, List, [], ◌∷◌, ◌++◌, map, reverse, length, sum_by, Option, Some, None, Result, Ok, Err, refl, sym, subst, ◌∙◌, arith}
-use Rattle.std.specs.Prelude.{◌==◌, ◌&&◌, ◌||◌, not, nat_le, All, IfOk, slice_index, if◌then◌else◌}
-use Rattle.std.specs.List.{list_all, flat_map, range_with_len}
+use Rattle.std.specs.Prelude.{◌==◌, ◌||◌, nat_le, All, IfOk, slice_index, if◌then◌else◌}
+use Rattle.std.specs.List.{flat_map, range_with_len}
 use Rattle.std.proofs.lemmas.Bool.{and_parts}
 use Rattle.std.proofs.lemmas.Bool.Decides.{nat_tests}
 use Rattle.std.proofs.lemmas.List.{length-reverse, get_or-reverse}
 use Rattle.std.proofs.lemmas.List.Elements.{All-nil, All-cons, All-append, All-push, All-head, All-tail}
 use Rattle.text_lines.specs.Lines.{words_of}
-use Rattle.text_lines.specs.Numbers.{is_number}
+use Rattle.plan_rows.specs.declared.fault.Wrong.{Wrong}
+use Rattle.plan_rows.specs.declared.keyword.Keyword.{Keyword}
+use Rattle.plan_rows.specs.declared.value.LineValue.{LineValue}
+use Rattle.plan_rows.specs.Tables.{keyword_in, line_reads}
+use Rattle.plan_script.specs.declared.table.TheConstants.{TABLE}
 use Rattle.drm_schedule.specs.declared.invalid.Reason.TheVariants as reasons
 use Rattle.drm_schedule.specs.declared.plan.Plan.{Plan}
 use Rattle.plan_script.specs.declared.delivery.Delivery.{Delivery}
@@ -18,8 +22,8 @@ use Rattle.plan_script.specs.declared.line.Delivers.{Delivers}
 use Rattle.plan_script.specs.declared.line.Delivers.TheVariants as delivers
 use Rattle.text_lines.specs.Faults.{fault, first_fault, ok_unless, ◌>>=◌, lines_say}
 use Rattle.drm_timeline.specs.Numbers.{frame_count}
-use Rattle.plan_script.specs.Script.{LineForm, ScriptTextFault, IsDelivery, IsScript, fragment_count, delivery_size, delivery, all_of, delivered, has_packet, in_schedule, in_range, is_feed, is_too_long, form_of, ended, script_of}
-use Rattle.plan_script.specs.Steps.{ReadsScript, to_last, with_line, form_after, words_after, lines_after}
+use Rattle.plan_script.specs.Script.{ScriptTextFault, IsDelivery, IsScript, fragment_count, delivery_size, delivery, all_of, delivered, has_packet, in_schedule, in_range, says, said_by, said_keyword, line_said, lacks_feed, rows, is_too_long, ended, script_of}
+use Rattle.plan_script.specs.Steps.{ReadsScript, to_last, with_line, feeds_after, words_after, line_after, lines_after}
 use Rattle.plan_script.proofs.SaidLemmas.{script_is}
 
 abbrev AreOf : Plan → List Delivery → Type 0
@@ -66,6 +70,28 @@ more_of plan more (feed ∷ []) new all =
 more_of plan more (feed ∷ next ∷ feeds) new all =
     All-cons (AreOf plan) feed (to_last more (next ∷ feeds)) (All-head (AreOf plan) feed (next ∷ feeds) all) (more_of plan more (next ∷ feeds) new (All-tail (AreOf plan) feed (next ∷ feeds) all))
 
+abbrev said_is : ScriptLine → Result ScriptLine ScriptTextFault
+said_is line = Ok line
+
+-- what a line says is within range
+pub said_in_range : (plan : Plan) (n : ℕ) (line first : List ℕ) (words : List (List ℕ)) (l : ScriptLine) → line_said plan n line first words ≡ said_is l → in_range plan l ≡ true
+unfolding line_said
+said_in_range plan n line first words l e = by (keyword_in TABLE 1 first) e
+  where
+    tested : (says : ScriptLine) (within : Bool) → within ≡ in_range plan says → (if within then said_is says else Err (fault n reasons.Range)) ≡ said_is l → in_range plan l ≡ true
+    tested says true is e =
+        let same : says ≡ l = cc in
+        subst (λ (x : ScriptLine). in_range plan x ≡ true) same (sym is)
+    tested says false is e = absurd cc
+
+    spelled : (keyword : Keyword) (read : Result (List LineValue) Wrong) → said_by plan n keyword read ≡ said_is l → in_range plan l ≡ true
+    spelled keyword (Ok v) e = tested (says keyword v) (in_range plan (says keyword v)) refl e
+    spelled keyword (Err wrong) e = absurd cc
+
+    by : (keyword : Option Keyword) → said_keyword plan n keyword line words ≡ said_is l → in_range plan l ≡ true
+    by None e = absurd cc
+    by (Some keyword) e = spelled keyword (line_reads TABLE 1 keyword line words) e
+
 line_of : (plan : Plan) (line : ScriptLine) (feeds : List (List Delivery)) → in_range plan line ≡ true → All (AreOf plan) feeds → All (AreOf plan) (with_line plan line feeds)
 line_of plan lines.Feed feeds e all = All-push (AreOf plan) feeds [] all (All-nil (IsDelivery plan))
 line_of plan (lines.Deliver d) feeds e all = more_of plan (delivered plan d) feeds (line_of_schedule plan d e) all
@@ -79,48 +105,43 @@ abbrev gives : List (List Delivery) → Result (List (List Delivery)) ScriptText
 gives feeds = Ok feeds
 
 -- no row holds
-record NoRow (within long : Bool) (feeds new : List (List Delivery)) : Type 0 where
-  in_range : within ≡ true
+record NoRow (long : Bool) (feeds new : List (List Delivery)) : Type 0 where
   short : long ≡ false
   same : feeds ≡ new
 
-no_row : (spelled within missing long : Bool) (n : ℕ) (feeds new : List (List Delivery))
-    → ok_unless (first_fault ((false, fault n reasons.Word) ∷ (spelled, fault n reasons.Number) ∷ (not within, fault n reasons.Range) ∷ (missing, fault n reasons.Missing) ∷ (long, fault n reasons.TooLong) ∷ [])) feeds ≡ gives new
-    → NoRow within long feeds new
-no_row true within missing long n feeds new e = absurd cc
-no_row false false missing long n feeds new e = absurd cc
-no_row false true true long n feeds new e = absurd cc
-no_row false true false true n feeds new e = absurd cc
-no_row false true false false n feeds new e = record { in_range = refl; short = refl; same = cc }
+no_row : (missing long : Bool) (n : ℕ) (feeds new : List (List Delivery)) → ok_unless (first_fault (rows n missing long)) feeds ≡ gives new → NoRow long feeds new
+no_row true long n feeds new e = absurd cc
+no_row false true n feeds new e = absurd cc
+no_row false false n feeds new e = record { short = refl; same = cc }
 
-form_kept : (plan : Plan) (feeds new : List (List Delivery)) (n : ℕ) (form : Option LineForm) → Kept plan feeds → form_after plan feeds n form ≡ gives new → Kept plan new
-unfolding form_after
-form_kept plan feeds new n None kept e = absurd cc
-form_kept plan feeds new n (Some f) kept e =
-    let no = no_row (not (list_all is_number f.numbers)) (in_range plan f.says) (not (is_feed f.says) && length feeds == 0) (is_too_long plan (with_line plan f.says feeds)) n (with_line plan f.says feeds) new e in
-    subst (Kept plan) no.same (record { each = line_of plan f.says feeds no.in_range kept.each; short = no.short })
+line_kept : (plan : Plan) (feeds new : List (List Delivery)) (n : ℕ) (line : ScriptLine) → in_range plan line ≡ true → Kept plan feeds → feeds_after plan feeds n line ≡ gives new → Kept plan new
+unfolding feeds_after
+line_kept plan feeds new n line within kept e =
+    let no = no_row (lacks_feed feeds line) (is_too_long plan (with_line plan line feeds)) n (with_line plan line feeds) new e in
+    subst (Kept plan) no.same (record { each = line_of plan line feeds within kept.each; short = no.short })
 
-words_kept : (plan : Plan) (feeds new : List (List Delivery)) (n : ℕ) (words : List (List ℕ)) → Kept plan feeds → words_after plan feeds n words ≡ gives new → Kept plan new
-words_kept plan feeds new n [] kept e =
+words_kept : (plan : Plan) (feeds new : List (List Delivery)) (n : ℕ) (line : List ℕ) (words : List (List ℕ)) → Kept plan feeds → words_after plan feeds n line words ≡ gives new → Kept plan new
+words_kept plan feeds new n line [] kept e =
     let same : feeds ≡ new = cc in
     subst (Kept plan) same kept
-words_kept plan feeds new n (first ∷ words) kept e = by (slice_index first 0 == 35) e
+words_kept plan feeds new n line (first ∷ words) kept e = by (slice_index first 0 == 35) (line_said plan n line first words) refl e
   where
-    by : (x : Bool) → (if x then gives feeds else form_after plan feeds n (form_of first words)) ≡ gives new → Kept plan new
-    by true is =
+    by : (x : Bool) (r : Result ScriptLine ScriptTextFault) → line_said plan n line first words ≡ r → (if x then gives feeds else (r >>= feeds_after plan feeds n)) ≡ gives new → Kept plan new
+    by true r said is =
         let same : feeds ≡ new = cc in
         subst (Kept plan) same kept
-    by false is = form_kept plan feeds new n (form_of first words) kept is
+    by false (Ok l) said is = line_kept plan feeds new n l (said_in_range plan n line first words l said) kept is
+    by false (Err f) said is = absurd cc
 
 lines_kept : (plan : Plan) (feeds new : List (List Delivery)) (n : ℕ) (lines : List (List ℕ)) → Kept plan feeds → lines_after plan feeds n lines ≡ gives new → Kept plan new
 unfolding lines_say
 lines_kept plan feeds new n [] kept e =
     let same : feeds ≡ new = cc in
     subst (Kept plan) same kept
-lines_kept plan feeds new n (line ∷ lines) kept e = by (words_after plan feeds n (words_of line)) refl (λ more. lines_kept plan more new (n + 1) lines) e
+lines_kept plan feeds new n (line ∷ lines) kept e = by (line_after plan feeds n line) refl (λ more. lines_kept plan more new (n + 1) lines) e
   where
-    by : (r : Result (List (List Delivery)) ScriptTextFault) → r ≡ words_after plan feeds n (words_of line) → ((more : List (List Delivery)) → Kept plan more → lines_after plan more (n + 1) lines ≡ gives new → Kept plan new) → (r >>= λ more. lines_after plan more (n + 1) lines) ≡ gives new → Kept plan new
-    by (Ok more) is rest all = rest more (words_kept plan feeds more n (words_of line) kept (sym is)) all
+    by : (r : Result (List (List Delivery)) ScriptTextFault) → r ≡ line_after plan feeds n line → ((more : List (List Delivery)) → Kept plan more → lines_after plan more (n + 1) lines ≡ gives new → Kept plan new) → (r >>= λ more. lines_after plan more (n + 1) lines) ≡ gives new → Kept plan new
+    by (Ok more) is rest all = rest more (words_kept plan feeds more n line (words_of line) kept (sym is)) all
     by (Err p) is rest all = absurd cc
 
 none_kept : (plan : Plan) → Kept plan []

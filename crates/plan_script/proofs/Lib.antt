@@ -1,6 +1,5 @@
 pub mod PacketLemmas
 pub mod Putting
-pub mod RuleLemmas
 pub mod FeedLemmas
 pub mod StepLemmas
 pub mod EndLemmas

@@ -12,8 +12,8 @@ use Rattle.plan_script.specs.declared.fault.ScriptFault.TheVariants as faults
 use Rattle.plan_script.specs.declared.line.ScriptLine.{ScriptLine}
 use Rattle.plan_script.specs.declared.line.ScriptLine.TheVariants as lines
 use Rattle.text_lines.specs.Faults.{first_fault, ok_unless, ◌>>=◌, lines_say}
-use Rattle.plan_script.specs.Script.{LineForm, ScriptTextFault, rows, is_feed, line_delivers, feeds_of, form_of, with_form, lacks_feed, is_too_long, said_form, said_words, said_from, ended, script_of}
-use Rattle.plan_script.specs.Steps.{FailsAs, to_last, with_line, feeds_with, form_after, words_after, lines_after}
+use Rattle.plan_script.specs.Script.{ScriptTextFault, rows, is_feed, line_delivers, feeds_of, lacks_feed, is_too_long, line_said, said_after, said_words, said_from, ended, script_of}
+use Rattle.plan_script.specs.Steps.{FailsAs, to_last, with_line, feeds_after, words_after, line_after, lines_after}
 
 -- one more line for the last part
 abbrev last_part : ScriptLine → List (List ScriptLine) → List (List ScriptLine)
@@ -95,10 +95,6 @@ line_more plan said (lines.Deliver d) =
     ∙ ap (map (all_in plan)) (behind_last (lines.Deliver d) (slice_split is_feed said))
     ∙ last_delivers plan (lines.Deliver d) (drop 1 (slice_split is_feed said))
 
-form_more : (plan : Plan) (said : List ScriptLine) (form : Option LineForm) → feeds_of plan (with_form said form) ≡ feeds_with plan (feeds_of plan said) form
-form_more plan said None = refl
-form_more plan said (Some f) = line_more plan said f.says
-
 -- what lines say, as the feeds that they give
 abbrev given : Plan → Result (List ScriptLine) ScriptTextFault → Result (List (List Delivery)) ScriptTextFault
 given plan said = said >>= λ all. Ok (feeds_of plan all)
@@ -107,28 +103,29 @@ unless_given : (plan : Plan) (f : Option ScriptTextFault) (all : List ScriptLine
 unless_given plan None all = refl
 unless_given plan (Some f) all = refl
 
-form_given : (plan : Plan) (said : List ScriptLine) (n : ℕ) (form : Option LineForm) → given plan (said_form plan said n form) ≡ form_after plan (feeds_of plan said) n form
-unfolding said_form form_after
-form_given plan said n form =
-    unless_given plan (first_fault (rows plan n form (lacks_feed (feeds_of plan said) form) (is_too_long plan (feeds_of plan (with_form said form))))) (with_form said form)
-    ∙ ap (λ (fs : List (List Delivery)). ok_unless (first_fault (rows plan n form (lacks_feed (feeds_of plan said) form) (is_too_long plan fs))) fs) (form_more plan said form)
+line_given : (plan : Plan) (said : List ScriptLine) (n : ℕ) (line : ScriptLine) → given plan (said_after plan said n line) ≡ feeds_after plan (feeds_of plan said) n line
+unfolding said_after feeds_after
+line_given plan said n line =
+    unless_given plan (first_fault (rows n (lacks_feed (feeds_of plan said) line) (is_too_long plan (feeds_of plan (said ++ line ∷ []))))) (said ++ line ∷ [])
+    ∙ ap (λ (fs : List (List Delivery)). ok_unless (first_fault (rows n (lacks_feed (feeds_of plan said) line) (is_too_long plan fs))) fs) (line_more plan said line)
 
-words_given : (plan : Plan) (said : List ScriptLine) (n : ℕ) (words : List (List ℕ)) → given plan (said_words plan said n words) ≡ words_after plan (feeds_of plan said) n words
-words_given plan said n [] = refl
-words_given plan said n (first ∷ words) = by (slice_index first 0 == 35)
+words_given : (plan : Plan) (said : List ScriptLine) (n : ℕ) (line : List ℕ) (words : List (List ℕ)) → given plan (said_words plan said n line words) ≡ words_after plan (feeds_of plan said) n line words
+words_given plan said n line [] = refl
+words_given plan said n line (first ∷ words) = by (slice_index first 0 == 35) (line_said plan n line first words)
   where
-    by : (x : Bool) → given plan (if x then Ok said else said_form plan said n (form_of first words)) ≡ (if x then Ok (feeds_of plan said) else form_after plan (feeds_of plan said) n (form_of first words))
-    by true = refl
-    by false = form_given plan said n (form_of first words)
+    by : (x : Bool) (r : Result ScriptLine ScriptTextFault) → given plan (if x then Ok said else (r >>= said_after plan said n)) ≡ (if x then Ok (feeds_of plan said) else (r >>= feeds_after plan (feeds_of plan said) n))
+    by true r = refl
+    by false (Ok l) = line_given plan said n l
+    by false (Err e) = refl
 
 lines_given : (plan : Plan) (said : List ScriptLine) (n : ℕ) (lines : List (List ℕ)) → given plan (said_from plan said n lines) ≡ lines_after plan (feeds_of plan said) n lines
 unfolding lines_say
 lines_given plan said n [] = refl
-lines_given plan said n (line ∷ lines) = by (said_words plan said n (words_of line)) (words_given plan said n (words_of line)) (λ more. lines_given plan more (n + 1) lines)
+lines_given plan said n (line ∷ lines) = by (said_words plan said n line (words_of line)) (words_given plan said n line (words_of line)) (λ more. lines_given plan more (n + 1) lines)
   where
-    by : (r : Result (List ScriptLine) ScriptTextFault) → given plan r ≡ words_after plan (feeds_of plan said) n (words_of line)
+    by : (r : Result (List ScriptLine) ScriptTextFault) → given plan r ≡ line_after plan (feeds_of plan said) n line
         → ((more : List ScriptLine) → given plan (said_from plan more (n + 1) lines) ≡ lines_after plan (feeds_of plan more) (n + 1) lines)
-        → given plan (r >>= λ more. said_from plan more (n + 1) lines) ≡ (words_after plan (feeds_of plan said) n (words_of line) >>= λ more. lines_after plan more (n + 1) lines)
+        → given plan (r >>= λ more. said_from plan more (n + 1) lines) ≡ (line_after plan (feeds_of plan said) n line >>= λ more. lines_after plan more (n + 1) lines)
     by (Ok more) is rest = rest more ∙ rw (sym is) refl
     by (Err e) is rest = rw (sym is) refl
 

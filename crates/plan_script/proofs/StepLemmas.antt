@@ -1,5 +1,5 @@
 -- What a line does to the feeds.
-use Rattle.std.proofs.Common.{◌≡◌, ℕ, ◌+◌, ◌<◌, ◌≤◌, nat_lt, Bool, true, false, List, [], ◌∷◌, ◌++◌, length, Option, Some, None, Result, Ok, Err, refl, sym, ap, subst, ◌∙◌, arith}
+use Rattle.std.proofs.Common.{◌≡◌, ℕ, ◌+◌, ◌<◌, ◌≤◌, nat_lt, true, false, List, [], ◌∷◌, ◌++◌, length, Option, Some, None, Result, Ok, Err, refl, sym, ap, subst, ◌∙◌, arith}
 use Rattle.std.specs.Prelude.{◌==◌, OnOk}
 use Rattle.std.proofs.lemmas.Bool.Decides.{nat_tests}
 use Rattle.std.proofs.lemmas.List.{length-append}
@@ -12,10 +12,9 @@ use Rattle.plan_script.specs.declared.fault.ScriptFault.TheVariants as faults
 use Rattle.plan_script.specs.declared.feeds.Feeds.{Feeds}
 use Rattle.plan_script.specs.declared.line.ScriptLine.TheVariants as lines
 use Rattle.plan_script.specs.declared.line.Delivers.{Delivers}
-use Rattle.text_lines.specs.Faults.{fault, first_fault, ok_unless}
-use Rattle.plan_script.specs.Script.{LineForm, ScriptTextFault, is_too_long, delivered}
-use Rattle.plan_script.specs.Steps.{AreCounted, FeedBegins, KeepsPackets, ScriptSteps, begun, feeds_in, form_after, reading, to_last, with_all}
-use Rattle.plan_script.proofs.RuleLemmas.{left}
+use Rattle.text_lines.specs.Faults.{fault}
+use Rattle.plan_script.specs.Script.{ScriptTextFault, is_too_long, delivered}
+use Rattle.plan_script.specs.Steps.{AreCounted, FeedBegins, KeepsPackets, ScriptSteps, begun, feeds_in, feeds_after, to_last, with_all}
 use Rattle.plan_script.proofs.FeedLemmas.{begun_counted, begun_long, more_counted, more_feeds, more_long}
 
 abbrev pub gives : List (List Delivery) → Result (List (List Delivery)) ScriptTextFault
@@ -24,15 +23,6 @@ gives feeds = Ok feeds
 abbrev pub breaks : ℕ → Reason → Result (List (List Delivery)) ScriptTextFault
 breaks n reason = Err (fault n reason)
 
--- the last row alone
-last_row : (long : Bool) (n : ℕ) (feeds : List (List Delivery)) → long ≡ false → ok_unless (first_fault ((false, fault n reasons.Missing) ∷ (long, fault n reasons.TooLong) ∷ [])) feeds ≡ gives feeds
-last_row true n feeds e = absurd cc
-last_row false n feeds e = refl
-
-last_holds : (long : Bool) (n : ℕ) (feeds : List (List Delivery)) → long ≡ true → ok_unless (first_fault ((false, fault n reasons.Missing) ∷ (long, fault n reasons.TooLong) ∷ [])) feeds ≡ breaks n reasons.TooLong
-last_holds true n feeds e = refl
-last_holds false n feeds e = absurd cc
-
 below : (n : ℕ) → n ≤ 15 → nat_lt 15 n ≡ false
 below n few = grind (arith, nat_tests)
 
@@ -40,17 +30,11 @@ above : (n : ℕ) → 15 < n → nat_lt 15 n ≡ true
 above n many = grind (arith, nat_tests)
 
 -- a line with which a feed begins
-pub begins : (plan : Plan) (old new : Feeds) (n : ℕ) (form : Option LineForm) (r : Result (Unit {0}) ScriptFault) → AreCounted plan old → reading plan form ≡ Ok lines.Feed → FeedBegins r n new (begun old)
-    → ScriptSteps r (feeds_in new) (form_after plan (feeds_in old) n form)
-begins plan old new n form (Ok done) counted read e =
-    left plan (feeds_in old) n form lines.Feed read
-    ∙ last_row (is_too_long plan (feeds_in old ++ [] ∷ [])) n (feeds_in old ++ [] ∷ []) (begun_long plan old counted ∙ below (length (feeds_in old)) e.1)
-    ∙ ap (λ (f : Feeds). gives (feeds_in f)) (sym e.0)
-begins plan old new n form (Err faults.NoMemory) counted read e = tt
-begins plan old new n form (Err (faults.Line line reason)) counted read e =
-    left plan (feeds_in old) n form lines.Feed read
-    ∙ last_holds (is_too_long plan (feeds_in old ++ [] ∷ [])) n (feeds_in old ++ [] ∷ []) (begun_long plan old counted ∙ above (length (feeds_in old)) e.2)
-    ∙ rw (e.0, e.1) refl
+pub begins : (plan : Plan) (old new : Feeds) (n : ℕ) (r : Result (Unit {0}) ScriptFault) → AreCounted plan old → FeedBegins r n new (begun old) → ScriptSteps r (feeds_in new) (feeds_after plan (feeds_in old) n lines.Feed)
+unfolding feeds_after
+begins plan old new n (Ok done) counted e = rw (begun_long plan old counted ∙ below (length (feeds_in old)) e.1, e.0) refl
+begins plan old new n (Err faults.NoMemory) counted e = tt
+begins plan old new n (Err (faults.Line line reason)) counted e = rw (begun_long plan old counted ∙ above (length (feeds_in old)) e.2, e.0, e.1) refl
 
 pub begins_counted : (plan : Plan) (old new : Feeds) (n : ℕ) (r : Result (Unit {0}) ScriptFault) → AreCounted plan old → FeedBegins r n new (begun old) → OnOk r (AreCounted plan new)
 begins_counted plan old new n (Ok done) counted e = subst (AreCounted plan) (sym e.0) (begun_counted plan old counted e.1)
@@ -62,20 +46,18 @@ some_length closed feed =
     grind (arith, nat_tests)
 
 -- a line that delivers to the last feed
-puts : (plan : Plan) (old new : Feeds) (feed : List Delivery) (n : ℕ) (d : Delivers) (form : Option LineForm) (r : Result (Unit {0}) ScriptFault) → AreCounted plan old → old.current ≡ Some feed → reading plan form ≡ Ok (lines.Deliver d)
-    → KeepsPackets r n new (with_all plan (delivered plan d) old) → ScriptSteps r (feeds_in new) (form_after plan (feeds_in old) n form)
-puts plan old new feed n d form (Ok done) counted is read e =
+puts : (plan : Plan) (old new : Feeds) (feed : List Delivery) (n : ℕ) (d : Delivers) (r : Result (Unit {0}) ScriptFault) → AreCounted plan old → old.current ≡ Some feed
+    → KeepsPackets r n new (with_all plan (delivered plan d) old) → ScriptSteps r (feeds_in new) (feeds_after plan (feeds_in old) n (lines.Deliver d))
+unfolding feeds_after
+puts plan old new feed n d (Ok done) counted is e =
     let some : (length (feeds_in old) == 0) ≡ false = rw is (some_length old.closed feed) in
     let long : is_too_long plan (to_last (delivered plan d) (feeds_in old)) ≡ false = more_long plan (delivered plan d) old feed counted is ∙ e.1 in
-    left plan (feeds_in old) n form (lines.Deliver d) read
-    ∙ rw (some, long) refl
-    ∙ ap gives (sym (more_feeds plan (delivered plan d) old feed is))
-    ∙ ap (λ (f : Feeds). gives (feeds_in f)) (sym e.0)
-puts plan old new feed n d form (Err faults.NoMemory) counted is read e = tt
-puts plan old new feed n d form (Err (faults.Line line reason)) counted is read e =
+    rw (some, long) (ap gives (sym (more_feeds plan (delivered plan d) old feed is)) ∙ ap (λ (f : Feeds). gives (feeds_in f)) (sym e.0))
+puts plan old new feed n d (Err faults.NoMemory) counted is e = tt
+puts plan old new feed n d (Err (faults.Line line reason)) counted is e =
     let some : (length (feeds_in old) == 0) ≡ false = rw is (some_length old.closed feed) in
     let long : is_too_long plan (to_last (delivered plan d) (feeds_in old)) ≡ true = more_long plan (delivered plan d) old feed counted is ∙ e.2 in
-    left plan (feeds_in old) n form (lines.Deliver d) read ∙ rw (some, long, e.0, e.1) refl
+    rw (some, long, e.0, e.1) refl
 
 puts_counted : (plan : Plan) (old new : Feeds) (feed : List Delivery) (n : ℕ) (d : Delivers) (r : Result (Unit {0}) ScriptFault) → AreCounted plan old → old.current ≡ Some feed
     → KeepsPackets r n new (with_all plan (delivered plan d) old) → OnOk r (AreCounted plan new)
@@ -86,22 +68,22 @@ pub no_feeds : (old : Feeds) → old.current ≡ None → old.closed ≡ [] → 
 no_feeds old none empty = rw (none, empty) refl
 
 -- a line that delivers where there is no feed
-misses : (plan : Plan) (old : Feeds) (n : ℕ) (d : Delivers) (form : Option LineForm) → AreCounted plan old → old.current ≡ None → reading plan form ≡ Ok (lines.Deliver d) → form_after plan (feeds_in old) n form ≡ breaks n reasons.Missing
-misses plan old n d form counted none read =
-    left plan (feeds_in old) n form (lines.Deliver d) read ∙ rw (no_feeds old none (counted.closed none)) refl
+misses : (plan : Plan) (old : Feeds) (n : ℕ) (d : Delivers) → AreCounted plan old → old.current ≡ None → feeds_after plan (feeds_in old) n (lines.Deliver d) ≡ breaks n reasons.Missing
+unfolding feeds_after
+misses plan old n d counted none = rw (no_feeds old none (counted.closed none)) refl
 
 -- a line that delivers
 pub record Adds (plan : Plan) (old new : Feeds) (n : ℕ) (d : Delivers) (r : Result (Unit {0}) ScriptFault) : Type 0 where
   pub without : old.current ≡ None → r ≡ Err (faults.Line n reasons.Missing)
   pub within : (old.current ≡ None → ⊥) → KeepsPackets r n new (with_all plan (delivered plan d) old)
 
-pub adds : (plan : Plan) (old new : Feeds) (n : ℕ) (d : Delivers) (form : Option LineForm) (r : Result (Unit {0}) ScriptFault) → AreCounted plan old → reading plan form ≡ Ok (lines.Deliver d) → Adds plan old new n d r
-    → ScriptSteps r (feeds_in new) (form_after plan (feeds_in old) n form)
-adds plan old new n d form r counted read e = by old.current refl
+pub adds : (plan : Plan) (old new : Feeds) (n : ℕ) (d : Delivers) (r : Result (Unit {0}) ScriptFault) → AreCounted plan old → Adds plan old new n d r
+    → ScriptSteps r (feeds_in new) (feeds_after plan (feeds_in old) n (lines.Deliver d))
+adds plan old new n d r counted e = by old.current refl
   where
-    by : (o : Option (List Delivery)) → o ≡ old.current → ScriptSteps r (feeds_in new) (form_after plan (feeds_in old) n form)
-    by None is = rw (e.without (sym is)) (misses plan old n d form counted (sym is) read)
-    by (Some feed) is = puts plan old new feed n d form r counted (sym is) read (e.within (λ none. absurd cc))
+    by : (o : Option (List Delivery)) → o ≡ old.current → ScriptSteps r (feeds_in new) (feeds_after plan (feeds_in old) n (lines.Deliver d))
+    by None is = rw (e.without (sym is)) (misses plan old n d counted (sym is))
+    by (Some feed) is = puts plan old new feed n d r counted (sym is) (e.within (λ none. absurd cc))
 
 pub adds_counted : (plan : Plan) (old new : Feeds) (n : ℕ) (d : Delivers) (r : Result (Unit {0}) ScriptFault) → AreCounted plan old → Adds plan old new n d r → OnOk r (AreCounted plan new)
 adds_counted plan old new n d r counted e = by old.current refl

@@ -1,12 +1,17 @@
 -- Scripts: which fragments of which packets are delivered to each feed, and in which order; and what can be wrong with one.
-use Rattle.std.specs.Prelude.{ℕ, ◌+◌, ◌-◌, ◌<◌, ◌≤◌, ◌==◌, ◌&&◌, ◌||◌, not, nat_le, nat_lt, Bool, true, false, is_none, length, sum_by, All, List, [], ◌∷◌, ◌++◌, map, reverse, drop, codes, Option, Some, None, Result, Err, if◌then◌else◌}
-use Rattle.std.specs.List.{list_all, flat_map, range_with_len, slice_split}
-use Rattle.std.specs.Str.{bytes_eq, is_utf8}
-use Rattle.std.specs.Str.Parse.{digits_value}
+use Rattle.std.specs.Prelude.{ℕ, ◌+◌, ◌-◌, ◌<◌, ◌≤◌, ◌==◌, ◌&&◌, ◌||◌, not, nat_le, nat_lt, Bool, true, false, length, sum_by, All, List, [], ◌∷◌, ◌++◌, map, reverse, drop, Option, Some, None, Result, Ok, Err, if◌then◌else◌}
+use Rattle.std.specs.List.{flat_map, range_with_len, slice_split}
+use Rattle.std.specs.Str.{is_utf8}
 use Rattle.text_lines.specs.Faults.{FaultOf, fault, first_fault, ok_unless, words_say, lines_say, ◌>>=◌}
 use Rattle.text_lines.specs.Lines.{lines_of, words_of, bad_line_of}
-use Rattle.text_lines.specs.Numbers.{is_number}
 use Rattle.text_lines.specs.Texts.{longest_text}
+use Rattle.plan_rows.specs.declared.fault.Wrong.{Wrong}
+use Rattle.plan_rows.specs.declared.fault.Wrong.TheVariants as wrongs
+use Rattle.plan_rows.specs.declared.keyword.Keyword.{Keyword}
+use Rattle.plan_rows.specs.declared.keyword.Keyword.TheVariants as keywords
+use Rattle.plan_rows.specs.declared.value.LineValue.{LineValue}
+use Rattle.plan_rows.specs.Values.{number_at}
+use Rattle.plan_rows.specs.Tables.{keyword_in, line_reads}
 use Rattle.drm_schedule.specs.declared.invalid.Reason.{Reason}
 use Rattle.drm_schedule.specs.declared.invalid.Reason.TheVariants.{Word, Number, Range, Missing, TooLong, Utf8}
 use Rattle.drm_schedule.specs.declared.plan.Plan.{Plan}
@@ -17,6 +22,7 @@ use Rattle.plan_script.specs.declared.line.ScriptLine.{ScriptLine}
 use Rattle.plan_script.specs.declared.line.ScriptLine.TheVariants as lines
 use Rattle.plan_script.specs.declared.line.Delivers.{Delivers}
 use Rattle.plan_script.specs.declared.line.Delivers.TheVariants as delivers
+use Rattle.plan_script.specs.declared.table.TheConstants.{TABLE}
 
 -- how many fragments this packet of the schedule has; one, where it is carried whole
 unfoldable pub fragment_count : Plan → ℕ → ℕ
@@ -59,52 +65,13 @@ abbrev pub in_range : Plan → ScriptLine → Bool
 in_range plan lines.Feed = true
 in_range plan (lines.Deliver d) = in_schedule plan d
 
--- a line of the right words: those that have to be numbers, and what it says
-pub record LineForm : Type 0 where
-  pub numbers : List (List ℕ)
-  pub says : ScriptLine
-
-abbrev pub form : List (List ℕ) → ScriptLine → Option LineForm
-form numbers says = Some (record { numbers = numbers; says = says })
-
--- the number that a word spells
-abbrev pub value : List ℕ → ℕ
-value word = digits_value 10 word
-
--- feed
-unfoldable pub feed_line : List (List ℕ) → Option LineForm
-feed_line [] = form [] lines.Feed
-feed_line _ = None
-
--- take PACKET FRAGMENT
-unfoldable pub take_line : List (List ℕ) → Option LineForm
-take_line (packet ∷ i ∷ []) = form (packet ∷ i ∷ []) (lines.Deliver (delivers.Take (value packet) (value i)))
-take_line _ = None
-
--- packet PACKET
-unfoldable pub packet_line : List (List ℕ) → Option LineForm
-packet_line (packet ∷ []) = form (packet ∷ []) (lines.Deliver (delivers.Packet (value packet)))
-packet_line _ = None
-
--- packets FIRST LAST
-unfoldable pub packets_line : List (List ℕ) → Option LineForm
-packets_line (first ∷ last ∷ []) = form (first ∷ last ∷ []) (lines.Deliver (delivers.Packets (value first) (value last)))
-packets_line _ = None
-
--- back PACKET
-unfoldable pub back_line : List (List ℕ) → Option LineForm
-back_line (packet ∷ []) = form (packet ∷ []) (lines.Deliver (delivers.Back (value packet)))
-back_line _ = None
-
--- a line by its first word and those after it
-abbrev pub form_of : List ℕ → List (List ℕ) → Option LineForm
-form_of first words =
-    if bytes_eq first (codes "feed") then feed_line words
-    else if bytes_eq first (codes "take") then take_line words
-    else if bytes_eq first (codes "packet") then packet_line words
-    else if bytes_eq first (codes "packets") then packets_line words
-    else if bytes_eq first (codes "back") then back_line words
-    else None
+-- what a line of this keyword and these values says
+abbrev pub says : Keyword → List LineValue → ScriptLine
+says keywords.Take v = lines.Deliver (delivers.Take (number_at v 0) (number_at v 1))
+says keywords.Packet v = lines.Deliver (delivers.Packet (number_at v 0))
+says keywords.Packets v = lines.Deliver (delivers.Packets (number_at v 0) (number_at v 1))
+says keywords.Back v = lines.Deliver (delivers.Back (number_at v 0))
+says _ v = lines.Feed
 
 abbrev pub is_feed : ScriptLine → Bool
 is_feed lines.Feed = true
@@ -134,49 +101,44 @@ pub record IsScript (plan : Plan) (feeds : List (List Delivery)) : Type 0 where
 abbrev pub ScriptTextFault : Type 0
 ScriptTextFault = FaultOf Reason
 
-abbrev pub are_numbers : Option LineForm → Bool
-are_numbers None = true
-are_numbers (Some f) = list_all is_number f.numbers
+abbrev pub reason_of : Wrong → Reason
+reason_of wrongs.Word = Word
+reason_of wrongs.Number = Number
+reason_of wrongs.Range = Range
 
-abbrev pub is_in_range : Plan → Option LineForm → Bool
-is_in_range plan None = true
-is_in_range plan (Some f) = in_range plan f.says
+-- what line n says by what its row reads, if the schedule has what it delivers
+abbrev pub said_by : Plan → ℕ → Keyword → Result (List LineValue) Wrong → Result ScriptLine ScriptTextFault
+said_by plan n keyword (Ok v) = if in_range plan (says keyword v) then Ok (says keyword v) else Err (fault n Range)
+said_by plan n keyword (Err wrong) = Err (fault n (reason_of wrong))
 
--- these lines, and one of this form after them
-abbrev pub with_form : List ScriptLine → Option LineForm → List ScriptLine
-with_form said None = said
-with_form said (Some f) = said ++ f.says ∷ []
+abbrev pub said_keyword : Plan → ℕ → Option Keyword → List ℕ → List (List ℕ) → Result ScriptLine ScriptTextFault
+said_keyword plan n None line words = Err (fault n Word)
+said_keyword plan n (Some keyword) line words = said_by plan n keyword (line_reads TABLE 1 keyword line words)
+
+-- what line n says by itself, by the whole line, its first word, and those after it
+unfoldable pub line_said : Plan → ℕ → List ℕ → List ℕ → List (List ℕ) → Result ScriptLine ScriptTextFault
+line_said plan n line first words = said_keyword plan n (keyword_in TABLE 1 first) line words
 
 -- a line that delivers, where there is no feed
-abbrev pub lacks_feed : List (List Delivery) → Option LineForm → Bool
-lacks_feed feeds None = false
-lacks_feed feeds (Some f) = not (is_feed f.says) && length feeds == 0
+abbrev pub lacks_feed : List (List Delivery) → ScriptLine → Bool
+lacks_feed feeds line = not (is_feed line) && length feeds == 0
 
--- The rows for line n of this form: the first that holds is the fault. A line that isn't of the right words has no form.
-abbrev pub rows : Plan → ℕ → Option LineForm → Bool → Bool → List (Bool × ScriptTextFault)
-rows plan n line missing long =
-    (is_none line, fault n Word)
-    ∷ (not (are_numbers line), fault n Number)
-    ∷ (not (is_in_range plan line), fault n Range)
-    ∷ (missing, fault n Missing)
-    ∷ (long, fault n TooLong)
-    ∷ []
+-- The rows for line n after others: the first that holds is the fault.
+abbrev pub rows : ℕ → Bool → Bool → List (Bool × ScriptTextFault)
+rows n missing long = (missing, fault n Missing) ∷ (long, fault n TooLong) ∷ []
 
--- those for a line after these: no feed stands before it, or it goes past a limit
-abbrev pub rows_of : Plan → List ScriptLine → ℕ → Option LineForm → List (Bool × ScriptTextFault)
-rows_of plan said n line = rows plan n line (lacks_feed (feeds_of plan said) line) (is_too_long plan (feeds_of plan (with_form said line)))
-
--- a line of this form after these lines
-unfoldable pub said_form : Plan → List ScriptLine → ℕ → Option LineForm → Result (List ScriptLine) ScriptTextFault
-said_form plan said n line = ok_unless (first_fault (rows_of plan said n line)) (with_form said line)
+-- line n, which by itself says this, after these lines: no feed stands before it, or it goes past a limit
+unfoldable pub said_after : Plan → List ScriptLine → ℕ → ScriptLine → Result (List ScriptLine) ScriptTextFault
+said_after plan said n line =
+    ok_unless (first_fault (rows n (lacks_feed (feeds_of plan said) line) (is_too_long plan (feeds_of plan (said ++ line ∷ []))))) (said ++ line ∷ [])
 
 -- a line of these words
-abbrev pub said_words : Plan → List ScriptLine → ℕ → List (List ℕ) → Result (List ScriptLine) ScriptTextFault
-said_words plan said n words = words_say said (λ first more. said_form plan said n (form_of first more)) words
+abbrev pub said_words : Plan → List ScriptLine → ℕ → List ℕ → List (List ℕ) → Result (List ScriptLine) ScriptTextFault
+said_words plan said n line words = words_say said (λ first more. line_said plan n line first more >>= said_after plan said n) words
 
 -- lines from line n on, after these lines
 abbrev pub said_from : Plan → List ScriptLine → ℕ → List (List ℕ) → Result (List ScriptLine) ScriptTextFault
-said_from plan said n lines = lines_say (λ before k line. said_words plan before k (words_of line)) said n lines
+said_from plan said n lines = lines_say (λ before k line. said_words plan before k line (words_of line)) said n lines
 
 -- the end of a text of n lines, where no feed may be missing
 unfoldable pub ended : ℕ → List (List Delivery) → Result (List (List Delivery)) ScriptTextFault

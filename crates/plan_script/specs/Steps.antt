@@ -1,12 +1,9 @@
 -- What a reader keeps of the lines so far, and what its calls answer.
-use Rattle.std.specs.Prelude.{ℕ, ◌≡◌, ◌+◌, ◌<◌, ◌≤◌, ◌||◌, not, nat_lt, Bool, false, true, length, sum_by, List, [], ◌∷◌, ◌++◌, Option, Some, None, option_map, Result, Ok, Err, if◌then◌else◌}
-use Rattle.std.specs.List.{list_all}
+use Rattle.std.specs.Prelude.{ℕ, ◌≡◌, ◌+◌, ◌<◌, ◌≤◌, ◌||◌, nat_lt, Bool, false, true, length, sum_by, List, [], ◌∷◌, ◌++◌, Option, Some, None, option_map, Result, Ok, Err}
 use Rattle.std.specs.Option.{option_to_list}
-use Rattle.text_lines.specs.Faults.{FailsAt, GivesSaid, LeavesSaid, fault, first_fault, ok_unless, words_say, lines_say}
+use Rattle.text_lines.specs.Faults.{FailsAt, GivesSaid, LeavesSaid, fault, first_fault, ok_unless, words_say, lines_say, ◌>>=◌}
 use Rattle.text_lines.specs.Lines.{words_of}
-use Rattle.text_lines.specs.Numbers.{is_number}
-use Rattle.drm_schedule.specs.declared.invalid.Reason.{Reason}
-use Rattle.drm_schedule.specs.declared.invalid.Reason.TheVariants.{Word, Number, Range, TooLong}
+use Rattle.drm_schedule.specs.declared.invalid.Reason.TheVariants.{TooLong}
 use Rattle.drm_schedule.specs.declared.plan.Plan.{Plan}
 use Rattle.drm_timeline.specs.Numbers.{packet_size}
 use Rattle.dcp_pft.specs.Carrying.{cut_of}
@@ -17,26 +14,12 @@ use Rattle.plan_script.specs.declared.feeds.Feeds.{Feeds}
 use Rattle.plan_script.specs.declared.line.ScriptLine.{ScriptLine}
 use Rattle.plan_script.specs.declared.line.ScriptLine.TheVariants as lines
 use Rattle.plan_script.specs.declared.packet.SchedulePacket.{SchedulePacket}
-use Rattle.plan_script.specs.Script.{LineForm, ScriptTextFault, delivery_size, delivered, in_range, form_of, lacks_feed, is_too_long, rows}
+use Rattle.plan_script.specs.Script.{ScriptTextFault, delivery_size, delivered, lacks_feed, is_too_long, rows, line_said}
 
 -- a packet of the schedule, and how it is cut
 pub record IsPacket (plan : Plan) (packet : SchedulePacket) : Type 0 where
   pub size : packet.len ≡ packet_size plan packet.number
   pub cut : packet.cut ≡ cut_of plan.carry packet.len
-
--- the first row that holds of those that ask only for the line
-abbrev pub first_row : List (Bool × Reason) → Option Reason
-first_row [] = None
-first_row (row ∷ rows) = if row.0 then Some row.1 else first_row rows
-
-abbrev pub line_unless : Option Reason → ScriptLine → Result ScriptLine Reason
-line_unless None line = Ok line
-line_unless (Some reason) line = Err reason
-
--- what a line says by itself
-abbrev pub reading : Plan → Option LineForm → Result ScriptLine Reason
-reading plan None = Err Word
-reading plan (Some f) = line_unless (first_row ((not (list_all is_number f.numbers), Number) ∷ (not (in_range plan f.says), Range) ∷ [])) f.says
 
 -- more deliveries for the last feed
 abbrev pub to_last : List Delivery → List (List Delivery) → List (List Delivery)
@@ -49,20 +32,16 @@ abbrev pub with_line : Plan → ScriptLine → List (List Delivery) → List (Li
 with_line plan lines.Feed feeds = feeds ++ [] ∷ []
 with_line plan (lines.Deliver d) feeds = to_last (delivered plan d) feeds
 
-abbrev pub feeds_with : Plan → List (List Delivery) → Option LineForm → List (List Delivery)
-feeds_with plan feeds None = feeds
-feeds_with plan feeds (Some f) = with_line plan f.says feeds
+-- line n, which by itself says this, after these feeds
+unfoldable pub feeds_after : Plan → List (List Delivery) → ℕ → ScriptLine → Result (List (List Delivery)) ScriptTextFault
+feeds_after plan feeds n line = ok_unless (first_fault (rows n (lacks_feed feeds line) (is_too_long plan (with_line plan line feeds)))) (with_line plan line feeds)
 
--- a line of this form after these feeds
-unfoldable pub form_after : Plan → List (List Delivery) → ℕ → Option LineForm → Result (List (List Delivery)) ScriptTextFault
-form_after plan feeds n line = ok_unless (first_fault (rows plan n line (lacks_feed feeds line) (is_too_long plan (feeds_with plan feeds line)))) (feeds_with plan feeds line)
-
-abbrev pub words_after : Plan → List (List Delivery) → ℕ → List (List ℕ) → Result (List (List Delivery)) ScriptTextFault
-words_after plan feeds n words = words_say feeds (λ first more. form_after plan feeds n (form_of first more)) words
+abbrev pub words_after : Plan → List (List Delivery) → ℕ → List ℕ → List (List ℕ) → Result (List (List Delivery)) ScriptTextFault
+words_after plan feeds n line words = words_say feeds (λ first more. line_said plan n line first more >>= feeds_after plan feeds n) words
 
 -- what line n does to the feeds
 abbrev pub line_after : Plan → List (List Delivery) → ℕ → List ℕ → Result (List (List Delivery)) ScriptTextFault
-line_after plan feeds n line = words_after plan feeds n (words_of line)
+line_after plan feeds n line = words_after plan feeds n line (words_of line)
 
 abbrev pub lines_after : Plan → List (List Delivery) → ℕ → List (List ℕ) → Result (List (List Delivery)) ScriptTextFault
 lines_after plan feeds n lines = lines_say (line_after plan) feeds n lines

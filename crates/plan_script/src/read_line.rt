@@ -1,92 +1,94 @@
 //! What a line says by itself.
 
 ghost use Rattle.std.specs.Prelude.{◌≡◌, true, map, IfOk};
-ghost use Rattle.plan_script.specs.Script.{feed_line, take_line, packet_line, packets_line, back_line, form_of, in_range};
-ghost use Rattle.plan_script.specs.Steps.{reading};
+ghost use Rattle.plan_script.specs.Script.{says, has_packet, in_range, reason_of, line_said};
+ghost use Rattle.plan_script.specs.Steps.{ReadsScript};
 
+use crate::fault::{ScriptFault, fault_at_line};
 use crate::line::{Delivers, ScriptLine};
-use crate::spelling::{fragment, in_order, number, packet};
+use crate::packet::SchedulePacket;
+use crate::table::TABLE;
 use drm_schedule::{Reason, Schedule};
+use drm_timeline::frame_count;
+use plan_rows::{Keyword, LineValue, RowFault, Wrong, keyword_in, number_at};
+use std::alloc::Global;
 
-#[tactic(auto, unfolding(crate::specs::Script::feed_line))]
-fn feed(plan: &Schedule, words: &[&str]) -> Result<ScriptLine, Reason>
-    ensures { result ≡ reading plan.now (feed_line (map (λ w. w.now) words.now)) }
+// What a line of these values says.
+fn made(keyword: Keyword, values: &[LineValue]) -> ScriptLine
+    ensures { result ≡ says keyword values.now }
 {
-    let _ = plan;
-    if words.is_empty() {
-        Ok(ScriptLine::Feed)
-    } else {
-        Err(Reason::Word)
+    let (first, second) = (number_at(values, 0), number_at(values, 1));
+    match keyword {
+        Keyword::Take => ScriptLine::Deliver(Delivers::Take {
+            packet: first,
+            fragment: second,
+        }),
+        Keyword::Packet => ScriptLine::Deliver(Delivers::Packet(first)),
+        Keyword::Packets => ScriptLine::Deliver(Delivers::Packets {
+            first,
+            last: second,
+        }),
+        Keyword::Back => ScriptLine::Deliver(Delivers::Back(first)),
+        _ => ScriptLine::Feed,
     }
 }
 
-#[tactic(auto, unfolding(crate::specs::Script::take_line, crate::specs::Script::in_schedule))]
-fn take(plan: &Schedule, words: &[&str]) -> Result<ScriptLine, Reason>
-    ensures { result ≡ reading plan.now (take_line (map (λ w. w.now) words.now)) }
+fn has_packet(plan: &Schedule, packet: u32) -> bool
+    ensures { result ≡ has_packet plan.now packet }
 {
-    let [number_word, fragment_word] = words else {
-        return Err(Reason::Word);
-    };
-    let (p, i) = (number(number_word)?, number(fragment_word)?);
-    let packet = packet(plan, p)?;
-    let fragment = fragment(plan, packet, i)?;
-    Ok(ScriptLine::Deliver(Delivers::Take { packet, fragment }))
+    packet < frame_count(plan)
 }
 
-#[tactic(auto, unfolding(crate::specs::Script::packet_line, crate::specs::Script::in_schedule))]
-fn one_packet(plan: &Schedule, words: &[&str]) -> Result<ScriptLine, Reason>
-    ensures { result ≡ reading plan.now (packet_line (map (λ w. w.now) words.now)) }
+// Whether the schedule has what a line delivers.
+#[tactic(auto, unfolding(crate::specs::Script::in_schedule))]
+fn in_range(plan: &Schedule, line: ScriptLine) -> bool
+    ensures { result ≡ in_range plan.now line }
 {
-    let [word] = words else {
-        return Err(Reason::Word);
-    };
-    let packet = packet(plan, number(word)?)?;
-    Ok(ScriptLine::Deliver(Delivers::Packet(packet)))
+    match line {
+        ScriptLine::Feed => true,
+        ScriptLine::Deliver(Delivers::Take { packet, fragment }) => {
+            has_packet(plan, packet) && fragment < SchedulePacket::of(plan, packet).count()
+        }
+        ScriptLine::Deliver(Delivers::Packets { first, last }) => {
+            first <= last && has_packet(plan, last)
+        }
+        ScriptLine::Deliver(Delivers::Packet(packet) | Delivers::Back(packet)) => {
+            has_packet(plan, packet)
+        }
+    }
 }
 
-#[tactic(auto, unfolding(crate::specs::Script::packets_line, crate::specs::Script::in_schedule))]
-fn packets(plan: &Schedule, words: &[&str]) -> Result<ScriptLine, Reason>
-    ensures { result ≡ reading plan.now (packets_line (map (λ w. w.now) words.now)) }
+fn reason_of(wrong: Wrong) -> Reason
+    ensures { result ≡ reason_of wrong }
 {
-    let [first, last] = words else {
-        return Err(Reason::Word);
-    };
-    let (first, last) = (number(first)?, number(last)?);
-    in_order(first, last)?;
-    let last = packet(plan, last)?;
-    let first = first as u32;
-    Ok(ScriptLine::Deliver(Delivers::Packets { first, last }))
+    match wrong {
+        Wrong::Word => Reason::Word,
+        Wrong::Number => Reason::Number,
+        Wrong::Range => Reason::Range,
+    }
 }
 
-#[tactic(auto, unfolding(crate::specs::Script::back_line, crate::specs::Script::in_schedule))]
-fn back(plan: &Schedule, words: &[&str]) -> Result<ScriptLine, Reason>
-    ensures { result ≡ reading plan.now (back_line (map (λ w. w.now) words.now)) }
-{
-    let [word] = words else {
-        return Err(Reason::Word);
-    };
-    let packet = packet(plan, number(word)?)?;
-    Ok(ScriptLine::Deliver(Delivers::Back(packet)))
-}
-
-/// What a line says, by its first word and those after it. The fault is `Word` where the words aren't those of a line,
-/// else `Number` where one isn't spelled as a number, else `Range`.
-pub fn read_line(plan: &Schedule, first: &str, words: &[&str]) -> Result<ScriptLine, Reason>
-    ensures line { result ≡ reading plan.now (form_of first.now (map (λ w. w.now) words.now)) }
+/// What line `n` says, by the whole line, its first word, and those after it. The fault is `Word` where the words aren't
+/// those of a line, else `Number` where one isn't spelled as a number, else `Range`.
+#[tactic(auto, unfolding(crate::specs::Script::line_said))]
+pub fn read_line(
+    alloc: Global,
+    plan: &Schedule,
+    n: u32,
+    line: &str,
+    first: &str,
+    words: &[&str],
+) -> Result<ScriptLine, ScriptFault>
+    ensures said { ReadsScript result (line_said plan.now n line.now first.now (map (λ w. w.now) words.now)) }
     ensures within { IfOk result (λ line. in_range plan.now line ≡ true) }
 {
-    line_of(plan, first, words)
-}
-
-fn line_of(plan: &Schedule, first: &str, words: &[&str]) -> Result<ScriptLine, Reason>
-    ensures { result ≡ reading plan.now (form_of first.now (map (λ w. w.now) words.now)) }
-{
-    match first {
-        "feed" => feed(plan, words),
-        "take" => take(plan, words),
-        "packet" => one_packet(plan, words),
-        "packets" => packets(plan, words),
-        "back" => back(plan, words),
-        _ => Err(Reason::Word),
+    let Some(keyword) = keyword_in(&TABLE, 1, first) else {
+        return Err(fault_at_line(n, Reason::Word));
+    };
+    match plan_rows::read_line(alloc, &TABLE, 1, keyword, line, words) {
+        Ok(values) if in_range(plan, made(keyword, &values)) => Ok(made(keyword, &values)),
+        Ok(_) => Err(fault_at_line(n, Reason::Range)),
+        Err(RowFault::Broken(wrong)) => Err(fault_at_line(n, reason_of(wrong))),
+        Err(RowFault::NoMemory) => Err(ScriptFault::NoMemory),
     }
 }

@@ -1,9 +1,8 @@
 //! The rules of the lines, judged in their order.
 
-ghost use Rattle.std.specs.Prelude.{◌≡◌, ◌+◌, ◌-◌, ◌<◌, ◌≤◌, ◌^◌, ◌∷◌, [], true, length, map, Option, Err, IfOk, OnOk};
-ghost use Rattle.text_lines.specs.Lines.{words_of};
-ghost use Rattle.plan_script.specs.Script.{LineForm, delivered, in_range, in_schedule, script_of, IsScript};
-ghost use Rattle.plan_script.specs.Steps.{AreCounted, KeepsPackets, ReadsScript, ReadsFeeds, ScriptSteps, feeds_in, form_after, lines_after, reading, with_all, words_after};
+ghost use Rattle.std.specs.Prelude.{◌≡◌, ◌+◌, ◌-◌, ◌<◌, ◌≤◌, ◌^◌, ◌∷◌, [], true, length, map, Err, IfOk, OnOk};
+ghost use Rattle.plan_script.specs.Script.{delivered, in_range, in_schedule, script_of, IsScript};
+ghost use Rattle.plan_script.specs.Steps.{AreCounted, KeepsPackets, ReadsScript, ReadsFeeds, ScriptSteps, feeds_in, feeds_after, line_after, lines_after, with_all, words_after};
 ghost use Rattle.plan_script.specs.declared.fault.ScriptFault.TheVariants as faults;
 
 use crate::fault::{ScriptFault, fault_at_line};
@@ -30,25 +29,22 @@ impl Feeds {
         self.deliver(plan, n, delivers)
     }
 
+    // Line `n`, which by itself says this.
     fn judge(
         &mut self,
         alloc: Global,
         plan: &Schedule,
         n: u32,
-        line: Result<ScriptLine, Reason>,
+        line: ScriptLine,
     ) -> Result<(), ScriptFault>
         requires counted { AreCounted plan.now self.old }
-        requires within { IfOk line (λ l. in_range plan.now l ≡ true) }
-        ensures steps { (form : Option LineForm) → line ≡ reading plan.now form
-            → ScriptSteps result (feeds_in self.new) (form_after plan.now (feeds_in self.old) n form) }
+        requires within { in_range plan.now line ≡ true }
+        ensures steps { ScriptSteps result (feeds_in self.new) (feeds_after plan.now (feeds_in self.old) n line) }
         ensures counted { OnOk result (AreCounted plan.now self.new) }
     {
         match line {
-            Err(reason) => Err(fault_at_line(n, reason)),
-            Ok(line) => match line {
-                ScriptLine::Feed => self.begin(alloc, n),
-                ScriptLine::Deliver(delivers) => self.add(plan, n, delivers),
-            },
+            ScriptLine::Feed => self.begin(alloc, n),
+            ScriptLine::Deliver(delivers) => self.add(plan, n, delivers),
         }
     }
 
@@ -57,11 +53,12 @@ impl Feeds {
         alloc: Global,
         plan: &Schedule,
         n: u32,
+        line: &str,
         words: &[&str],
     ) -> Result<(), ScriptFault>
         requires counted { AreCounted plan.now self.old }
         ensures steps { ScriptSteps result (feeds_in self.new)
-            (words_after plan.now (feeds_in self.old) n (map (λ w. w.now) words.now)) }
+            (words_after plan.now (feeds_in self.old) n line.now (map (λ w. w.now) words.now)) }
         ensures counted { OnOk result (AreCounted plan.now self.new) }
     {
         let [first, words @ ..] = words else {
@@ -70,8 +67,8 @@ impl Feeds {
         if is_comment(first) {
             return Ok(());
         }
-        let line = read_line(plan, first, words);
-        self.judge(alloc, plan, n, line)
+        let said = read_line(alloc, plan, n, line, first, words)?;
+        self.judge(alloc, plan, n, said)
     }
 
     /// Reads line `n`, from 1.
@@ -84,11 +81,11 @@ impl Feeds {
     ) -> Result<(), ScriptFault>
         requires counted { AreCounted plan.now self.old }
         ensures steps { ScriptSteps result (feeds_in self.new)
-            (words_after plan.now (feeds_in self.old) n (words_of line.now)) }
+            (line_after plan.now (feeds_in self.old) n line.now) }
         ensures counted { OnOk result (AreCounted plan.now self.new) }
     {
         let words = words(alloc, line)?;
-        self.take_words(alloc, plan, n, &words)
+        self.take_words(alloc, plan, n, line, &words)
     }
 }
 

@@ -3,32 +3,15 @@ use Rattle.std.proofs.Common.{◌≡◌, ℕ, ◌+◌, ◌≤◌, ◌<◌, List,
 use Rattle.std.specs.List.{flat_map}
 use Rattle.std.proofs.lemmas.List.{nil_from_length, length-drop}
 use Rattle.std.proofs.lemmas.List.Concat.{flat_map-cons}
+use Rattle.std.proofs.lemmas.List.Folds.{flat_map-map}
 use Rattle.std.proofs.lemmas.Grind.{flat_map-append}
 use Rattle.plan_grammar.specs.declared.line.Line.{Line}
 use Rattle.plan_grammar.specs.Said.{line_text}
-use Rattle.plan_writer.specs.Canonical.{text_of, block_lines, config_lines}
+use Rattle.plan_writer.specs.Canonical.{text_of}
 
 -- what a list is written as, one element after another
 abbrev pub WritesEach : {X : Type 0} → (List X → List ℕ) → (X → List ℕ) → Type 0
 WritesEach {X} whole one = (x : X) (rest : List X) → whole (x ∷ rest) ≡ one x ++ whole rest
-
-pub lines_each : WritesEach text_of line_text
-unfolding text_of
-lines_each l rest = flat_map-cons line_text l rest
-
-pub mapped_each : {X : Type 0} (f : X → Line) → WritesEach (λ xs. text_of (map f xs)) (λ x. line_text (f x))
-unfolding text_of
-mapped_each f x rest = flat_map-cons line_text (f x) (map f rest)
-
-pub configs_each : WritesEach (λ configs. text_of (flat_map config_lines configs)) (λ config. text_of (config_lines config))
-unfolding text_of
-configs_each config rest =
-    ap text_of (flat_map-cons config_lines config rest) ∙ flat_map-append line_text (config_lines config) (flat_map config_lines rest)
-
-pub blocks_each : WritesEach (λ blocks. text_of (flat_map block_lines blocks)) (λ block. text_of (block_lines block))
-unfolding text_of
-blocks_each block rest =
-    ap text_of (flat_map-cons block_lines block rest) ∙ flat_map-append line_text (block_lines block) (flat_map block_lines rest)
 
 -- one element more is written
 pub one_written : {X : Type 0} (whole : List X → List ℕ) (one : X → List ℕ) → WritesEach whole one → (out new : List ℕ) (i : ℕ) (xs : List X) (x d : X) (all : List ℕ) → i < length xs → x ≡ get_or xs i d
@@ -59,6 +42,20 @@ pub no_text : text_of [] ≡ []
 unfolding text_of
 no_text = refl
 
+-- the lines of elements, one of each or some
+pub text_mapped : {X : Type 0} (f : X → Line) (xs : List X) → flat_map (λ x. line_text (f x)) xs ≡ text_of (map f xs)
+unfolding text_of
+text_mapped f xs = sym (flat_map-map line_text f xs)
+
+pub text_joined : {X : Type 0} (f : X → List Line) (xs : List X) → flat_map (λ x. text_of (f x)) xs ≡ text_of (flat_map f xs)
+unfolding text_of
+text_joined f [] = refl
+text_joined f (x ∷ xs) = rw (flat_map-cons (λ x. text_of (f x)) x xs, flat_map-cons f x xs, text_joined f xs) (sym (flat_map-append line_text (f x) (flat_map f xs)))
+
+pub text_cons : (l : Line) (ls : List Line) → text_of (l ∷ ls) ≡ line_text l ++ text_of ls
+unfolding text_of
+text_cons l ls = flat_map-cons line_text l ls
+
 -- parts that are written one after another
 pub both_written : (a b : List Line) (out o1 o2 : List ℕ) → o1 ≡ out ++ text_of a → o2 ≡ o1 ++ text_of b → o2 ≡ out ++ text_of (a ++ b)
 both_written a b out o1 o2 w1 w2 = w2 ∙ ap (λ t. t ++ text_of b) w1 ∙ append_assoc out (text_of a) (text_of b) ∙ ap (λ t. out ++ t) (sym (text_append a b))
@@ -67,9 +64,3 @@ pub five_written : (a b c d e : List Line) (out o1 o2 o3 o4 o5 : List ℕ) → o
     → o5 ≡ out ++ text_of (a ++ (b ++ (c ++ (d ++ e))))
 five_written a b c d e out o1 o2 o3 o4 o5 w1 w2 w3 w4 w5 =
     both_written a (b ++ (c ++ (d ++ e))) out o1 o5 w1 (both_written b (c ++ (d ++ e)) o1 o2 o5 w2 (both_written c (d ++ e) o2 o3 o5 w3 (both_written d e o3 o4 o5 w4 w5)))
-
-pub one_line_written : (l : Line) (out new : List ℕ) → new ≡ out ++ line_text l → new ≡ out ++ text_of (l ∷ [])
-one_line_written l out new written = written ∙ ap (λ t. out ++ t) (sym (lines_each l [] ∙ ap (λ t. line_text l ++ t) no_text ∙ append_nil (line_text l)))
-
-pub nothing_written : (out : List ℕ) → out ≡ out ++ text_of []
-nothing_written out = sym (ap (λ t. out ++ t) no_text ∙ append_nil out)

@@ -15,8 +15,6 @@
 mod canonical;
 mod entities;
 mod lines;
-mod word;
-mod words_out;
 
 pub use canonical::write_plan;
 pub use entities::write_entity;

@@ -1,5 +1,4 @@
 use Rattle.std.proofs.lemmas.Result.{err_from_is_err_and}
-use Rattle.plan_grammar.specs.LineShape.{reading}
 use Rattle.plan_rules.proofs.StepLemmas.{fails, goes_on, refuses, gives_broken}
 use Rattle.std.proofs.Common.{◌≡◌, sym, ◌∙◌}
 use Rattle.plan_grammar.specs.Said.{keyword_said, LineInLines}
@@ -17,7 +16,7 @@ returns-in_ok-add-in-Ok-clause-steps c = λ s gives.
 
 pub returns-in-Broken-clause-steps : goal.returns-in-Broken-clause-steps
 returns-in-Broken-clause-steps c = λ s gives.
-    refuses c.args.self.now c.args.n c.args.keyword s c.in-Broken.reason c.refused.result c.requires (gives_broken c.args.line c.in-Err.fault c.in-Broken.reason (reading s) c.in-Err.is c.in-Broken.is gives) c.refused.ensures
+    refuses c.args.self.now c.args.n c.args.keyword s c.in-Broken.reason c.refused.result c.requires (gives_broken c.args.line c.in-Err.fault c.in-Broken.reason s c.in-Err.is c.in-Broken.is gives) c.refused.ensures
 
 pub returns-in_ok-add-in-Ok-clause-kept : goal.returns-in_ok-add-in-Ok-clause-kept
 returns-in_ok-add-in-Ok-clause-kept c = λ in_lines keyword fits.

@@ -1,0 +1,11 @@
+pub mod Reading
+pub mod Writing
+pub mod WordsAgain
+pub mod FieldsAgain
+pub mod TableLemmas
+pub mod RowLemmas
+pub mod TokenLemmas
+pub mod LinesAgain
+pub mod GivenLemmas
+pub mod Elements
+pub mod FrequencyLaws

@@ -1,0 +1,12 @@
+pub mod Keywords
+pub mod Choices
+pub mod Words
+pub mod Frequencies
+pub mod Values
+pub mod Fields
+pub mod Rows
+pub mod Gives
+pub mod Steps
+pub mod Tables
+pub mod Law
+pub mod Fits
