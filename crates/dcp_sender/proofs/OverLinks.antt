@@ -1,17 +1,14 @@
 -- The datagrams of a packet, as its carry calls for them.
-use Rattle.std.proofs.Common.{◌≡◌, ◌≤◌, ℕ, false, List, [], ◌∷◌, length, Option, None, Some, refl, sym, ap, subst, ◌∙◌, arith}
+use Rattle.std.proofs.Common.{◌≡◌, ℕ, List, [], ◌∷◌, length, Option, None, Some, refl, sym, ap, subst, ◌∙◌}
 use Rattle.std.specs.Prelude.{slice_index_or}
 use Rattle.std.proofs.lemmas.List.{append-nil}
-use Rattle.std.proofs.lemmas.Bool.Decides.{nat_tests}
 use Rattle.dcp_pft.specs.declared.carry.Carry.{Carry}
 use Rattle.dcp_pft.specs.declared.carry.Carry.TheVariants.{Plain}
 use Rattle.dcp_pft.specs.declared.shape.Shape.{Shape}
-use Rattle.dcp_pft.specs.Limits.{most_packet}
 use Rattle.dcp_pft.specs.Carrying.{cut_of, datagram_count, CarriesPacket}
 use Rattle.dcp_pft.proofs.Carried.{whole_count, cut_count, carries_whole, carries_cut}
 use Rattle.dcp_sender.specs.CarriesText.{AreOf, CarriesText}
 use Rattle.dcp_sender.specs.Sending.{IsDatagramOf, count_of, AreAll}
-use Rattle.dcp_sender.specs.OverLinks.{is_large}
 use Rattle.dcp_sender.proofs.Lists.{itself}
 
 count_is : (carry : Carry) (len : ℕ) (cut : Option Shape) → cut_of carry len ≡ cut → count_of cut ≡ datagram_count carry len

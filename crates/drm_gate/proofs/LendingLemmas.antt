@@ -1,6 +1,6 @@
 -- One send over links that are lent apart.
-use Rattle.std.proofs.Common.{◌≡◌, ◌⊎◌, inl, inr, ℕ, zero, suc, ◌<◌, nat_eq, Bool, true, false, List, [], ◌∷◌, length, get_or, set, refl, sym, ◌∙◌, ap, subst, arith}
-use Rattle.std.proofs.lemmas.List.{length-map, get_or-set_same, get_or-set_other, get_or-map, map-set, set-get_or}
+use Rattle.std.proofs.Common.{◌≡◌, ◌⊎◌, ℕ, zero, suc, ◌<◌, Bool, true, false, List, [], ◌∷◌, length, set, refl, sym, ◌∙◌, ap, subst, arith}
+use Rattle.std.proofs.lemmas.List.{length-map, get_or-map, map-set, set-get_or}
 use Rattle.std.proofs.lemmas.List.Elements.{All-get_or}
 use Rattle.drm_links.specs.Known.{Known}
 use Rattle.drm_links.specs.Link.{Traffic}
@@ -8,14 +8,11 @@ use Rattle.drm_links.specs.declared.link.Sent.{Sent}
 use Rattle.drm_links.specs.declared.link.Sent.TheVariants as send
 use Rattle.drm_links.specs.declared.member.Member.{Member}
 use Rattle.drm_links.specs.MemoryGroup.{up_by}
-use Rattle.drm_links.specs.History.{SentTo}
 use Rattle.drm_links.specs.Calls.{is_up, up_after}
-use Rattle.drm_links.proofs.AloneLemmas.{another}
-use Rattle.drm_links.proofs.CallLemmas.{match_false}
 use Rattle.drm_links.proofs.Places.{index_of}
 use Rattle.drm_links.specs.Members.{AreUp}
 use Rattle.drm_gate.specs.Gateway.{AllUp}
-use Rattle.drm_gate.specs.Apart.{MemberTells, ups_of}
+use Rattle.drm_gate.specs.Apart.{ups_of}
 
 same_or_not : (j k : ℕ) → (j ≡ k) ⊎ (j ≡ k → ⊥)
 same_or_not j k = grind arith
@@ -36,23 +33,6 @@ all_up to are k within =
     get_or-map (λ m. m.up) to k at.0 false below ∙ All-get_or (λ m. m.up ≡ true) to k at.0 below are
 
 module _ {K : Type 0} (known : K → Known Traffic) (to : List (Member K)) (k : ℕ) (bytes : List ℕ) (answer : Sent) (new : Member K) (within : k < length to) where
-  -- each link tells of a send over one of them
-  pub each_tells : (old : Member K) → MemberTells known k (SentTo k bytes answer ∷ []) (get_or to k old) new
-      → (j : ℕ) (none : Member K) → j < length to → MemberTells known j (SentTo k bytes answer ∷ []) (get_or to j none) (get_or (set to k new) j none)
-  each_tells old tells j none below = by (same_or_not j k)
-    where
-      at : (m : Member K) × ((d : Member K) → get_or to k d ≡ m)
-      at = index_of to k within
-
-      by : (j ≡ k) ⊎ (j ≡ k → ⊥) → MemberTells known j (SentTo k bytes answer ∷ []) (get_or to j none) (get_or (set to k new) j none)
-      by (inl same) =
-          subst (λ (i : ℕ). MemberTells known i (SentTo k bytes answer ∷ []) (get_or to i none) (get_or (set to k new) i none)) (sym same)
-          (subst (λ (m : Member K). MemberTells known k (SentTo k bytes answer ∷ []) (get_or to k none) m) (sym (get_or-set_same to k new none within))
-          (subst (λ (m : Member K). MemberTells known k (SentTo k bytes answer ∷ []) m new) (at.1 old ∙ sym (at.1 none)) tells))
-      by (inr apart) =
-          subst (λ (m : Member K). MemberTells known j (SentTo k bytes answer ∷ []) (get_or to j none) m) (sym (get_or-set_other to k j new none apart))
-          (match_false (nat_eq k j) _ (another k j (λ e. apart (sym e))) (refl, refl))
-
   -- and it isn't up any more where that fails
   pub up_then : is_up (ups_of to) k ≡ true → new.up ≡ up_by true answer → ups_of (set to k new) ≡ up_after (ups_of to) k answer
   up_then up is = map-set (λ (m : Member K). m.up) to k new ∙ (ap (λ (b : Bool). set (ups_of to) k b) is ∙ by answer)

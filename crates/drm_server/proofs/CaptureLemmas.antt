@@ -1,6 +1,6 @@
 -- What is written of a schedule, datagram by datagram and frame by frame, where some of it waits.
-use Rattle.std.proofs.Common.{◌≡◌, ◌<◌, ◌≤◌, ◌+◌, ℕ, zero, suc, List, [], ◌∷◌, ◌++◌, ◌⊎◌, inl, inr, ⊎_elim, refl, sym, ap, ap₂, subst, ◌∙◌, append_assoc, length, take, drop, arith, length-append}
-use Rattle.std.proofs.lemmas.List.{append-nil, take_at, length-take-le}
+use Rattle.std.proofs.Common.{◌≡◌, ◌<◌, ◌≤◌, ◌+◌, ℕ, zero, suc, List, [], ◌∷◌, ◌++◌, ◌⊎◌, inl, inr, ⊎_elim, refl, sym, ap, ap₂, subst, ◌∙◌, append_assoc, arith}
+use Rattle.std.proofs.lemmas.List.{append-nil}
 use Rattle.std.specs.List.{concat}
 use Rattle.std.proofs.lemmas.List.Folds.{concat-append}
 use Rattle.drm_schedule.specs.declared.plan.Plan.{Plan}
@@ -27,12 +27,6 @@ front_of_two (x ∷ xs) ys (y ∷ text) (rest, is) =
       | inl front ↦ inl (front.0, ap₂ (λ (a : ℕ) (l : List ℕ). a ∷ l) first front.1)
       | inr found ↦ inr (found.0, found.1, ap₂ (λ (a : ℕ) (l : List ℕ). a ∷ l) (sym first) found.2)
     ]
-
--- the front of a room in which bytes were put behind those that wait
-pub behind_waiting : (n : ℕ) (old bytes room : List ℕ) → n + length bytes ≤ length old → room ≡ take n old ++ bytes ++ drop (n + length bytes) old → take (n + length bytes) room ≡ take n old ++ bytes
-behind_waiting n old bytes room fits is =
-    let size : length (take n old ++ bytes) ≡ n + length bytes = length-append (take n old) bytes ∙ ap (λ k. k + length bytes) (length-take-le n old (omega (arith, fits))) in
-    ap (take (n + length bytes)) is ∙ take_at (take n old ++ bytes) (drop (n + length bytes) old) (n + length bytes) size
 
 nothing_before : (part rest : List ℕ) → [] ≡ part ++ rest → part ≡ []
 nothing_before [] rest is = refl

@@ -1,16 +1,10 @@
 -- Frames over a group of links.
-use Rattle.std.proofs.Common.{◌≡◌, ◌+◌, ℕ, suc, Bool, true, false, List, [], ◌∷◌, ◌++◌, if◌then◌else◌, refl, subst, arith}
+use Rattle.std.proofs.Common.{◌≡◌, ◌+◌, ℕ, suc, Bool, List, [], ◌++◌, refl, subst, arith}
 use Rattle.drm_links.specs.Known.{Known}
-use Rattle.drm_links.specs.History.{GroupEvent, History}
-use Rattle.drm_links.specs.Calls.{Rest, CallsMake}
+use Rattle.drm_links.specs.History.{History}
 use Rattle.drm_links.proofs.CallLemmas.{Tells-none, Tells-then}
 use Rattle.drm_schedule.specs.declared.plan.Plan.{Plan}
 use Rattle.drm_server.specs.Serving.{IsOneUp, FramesCome, ServesFrame, ServesFrames}
-
--- a rest, where the frame isn't the first
-pub some_pause : (b : Bool) (pace k : ℕ) (u v : List Bool) (P : List GroupEvent → Type 0) → b ≡ false → CallsMake (Rest k pace ∷ []) u v P → CallsMake (if b then [] else Rest k pace ∷ []) u v P
-some_pause true pace k u v P is made = absurd cc
-some_pause false pace k u v P is made = made
 
 module _ (plan : Plan) (first pace : ℕ) where
   -- nothing yet

@@ -1,24 +1,12 @@
-use Rattle.std.proofs.Common.{◌∙◌, inl, inr, [], Bool, List, refl, ap, subst, arith, length, true}
+use Rattle.std.proofs.Common.{◌∙◌, [], Bool, List, ap, subst, length, true}
 use Rattle.std.proofs.lemmas.List.{length-replicate}
 use Rattle.drm_links.specs.History.{GroupTells}
 use Rattle.recv_reading.specs.declared.options.ReceiveOptions.{ReceiveOptions}
 use Rattle.drm_gate.specs.Gateway.{rules_of}
 use Rattle.drm_gate.specs.Run.{GateRun}
 use Rattle.drm_gate.proofs.EachLink.{relays_count}
-use Rattle.cmd_gate.proofs.BetweenLemmas.{rules_same, all_new, ran}
+use Rattle.cmd_gate.proofs.BetweenLemmas.{rules_same, ran}
 use Rattle.cmd_gate.proofs.between.pass_between.Goals as goal
-
-pub pass_over_group-ended-requires-clause-links : goal.pass_over_group-ended-requires-clause-links
-pass_over_group-ended-requires-clause-links g c =
-    let many = ap (λ (l : List Bool). length l) c.in-Group.ensures.fresh.1 ∙ length-replicate (length c.args.to.now) true in
-    let some = c.requires.listed.some in
-    let few = c.requires.listed.few in
-    (omega (arith, many, some), omega (arith, many, few))
-
-pub pass_over_group-ended-requires-clause-up : goal.pass_over_group-ended-requires-clause-up
-pass_over_group-ended-requires-clause-up g c =
-    let fresh = c.in-Group.ensures.fresh.1 in
-    all_new (g.D.G.Group.up c.in-Group.group) (length c.args.to.now) fresh (ap (λ (l : List Bool). length l) fresh ∙ length-replicate (length c.args.to.now) true)
 
 pub disband-requires : goal.disband-requires
 disband-requires g c =
@@ -38,9 +26,3 @@ returns-in-Group-clause-passes_on g c =
     rw c.passed.ensures
     (ran c.args.rules.now c.args.gate.now.carry c.args.from c.args.to.now c.pass_over_group-ended.result u v k k' (g.D.Dock.known c.args.dock.now) (g.D.Dock.known c.gather.new.self) (g.D.Dock.known c.disband.new.self)
     c.in-Group.ensures.fresh.0 c.in-Group.ensures.fresh.1 run c.in-Group.ensures.gathered c.disband.ensures.disbanded)
-
-pub returns-in-Group-clause-cause : goal.returns-in-Group-clause-cause
-returns-in-Group-clause-cause g c = inl (c.disband.ensures.cause ∙ c.in-Group.ensures.cause.same (λ failed. failed))
-
-pub returns-in-Failed-clause-cause : goal.returns-in-Failed-clause-cause
-returns-in-Failed-clause-cause g c = inr (refl, c.in-Failed.ensures.cause.once tt)

@@ -3,21 +3,12 @@ use Rattle.std.proofs.Math.Nat.{mul-add, mul-le-mul_right}
 use Rattle.std.specs.Simd.{first_chunks}
 use Rattle.dcp_pft.specs.Carrying.{fragment_size}
 use Rattle.dcp_sender.specs.Sending.{AreAll}
-use Rattle.dcp_sender.proofs.Layouts.{length-chunks, short_chunks, first_fits, longest_is, stand_so, not_more}
+use Rattle.dcp_sender.proofs.Layouts.{short_chunks, first_fits, longest_is, stand_so, not_more}
 use Rattle.dcp_sender.proofs.Taken.{taken}
 use Rattle.dcp_sender.proofs.layout.write_all_fragments.Goals as goal
 
 first : (c : goal.After-datagram_len) → c.datagram_len.result ≡ fragment_size c.args.shape.now (length c.args.packet.now) 0
 first c = longest_is c.args.shape.now (length c.args.packet.now) c.datagram_len.result c.requires.shaped c.datagram_len.ensures.size
-
-pub chunks-requires : goal.chunks-requires
-chunks-requires c = omega (arith, (taken c.all_taken.ensures (length c.args.packet.now) c.args.shape.now c.requires.shaped).bytes)
-
-pub write_fragments-requires-clause-into : goal.write_fragments-requires-clause-into
-write_fragments-requires-clause-into c =
-    let shape = c.args.shape.now in
-    let limits = taken c.all_taken.ensures (length c.args.packet.now) shape c.requires.shaped in
-    omega (arith, c.requires.room, mul-add shape.count 16 shape.piece, limits.bytes, limits.few)
 
 pub returns-clause-datagrams : goal.returns-clause-datagrams
 returns-clause-datagrams c =
@@ -47,8 +38,3 @@ returns-clause-layout c =
       few = limits.few;
       small = omega (arith, first c, (first_fits shape len c.requires.shaped).0);
     }
-
-pub returns-clause-at_least_one : goal.returns-clause-at_least_one
-returns-clause-at_least_one c =
-    let shape = c.args.shape.now in
-    omega (arith, (taken c.all_taken.ensures (length c.args.packet.now) shape c.requires.shaped).some, length-chunks c.datagram_len.result shape.count (take c.write_fragments.result c.write_fragments.new.into))

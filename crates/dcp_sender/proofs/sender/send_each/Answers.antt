@@ -1,11 +1,8 @@
-use Rattle.std.proofs.Common.{◌∙◌, ℕ, suc, List, [], refl, add-one}
+use Rattle.std.proofs.Common.{◌∙◌, ℕ, suc, List, add-one}
 use Rattle.drm_links.specs.History.{GroupEvent}
 use Rattle.drm_links.specs.Calls.{Call, each, sends, CallsMake}
-use Rattle.drm_links.proofs.CallLemmas.{Make-none, Make-then}
+use Rattle.drm_links.proofs.CallLemmas.{Make-then}
 use Rattle.dcp_sender.proofs.sender.send_each.Goals as goal
-
-pub loop-k-init : goal.loop-k-init
-loop-k-init g c = (refl, Make-none [] (g.O.Outlets.up c.args.outlets.now) (λ events. g.O.Outlets.happened events c.args.outlets.now c.args.outlets.now) (refl, refl) (g.met.O.Outlets.nothing c.args.outlets.now))
 
 pub loop-k-preserved : goal.loop-k-preserved
 loop-k-preserved g c =

@@ -1,10 +1,5 @@
-use Rattle.drm_gate.proofs.LendingLemmas.{is_there, each_tells, up_then}
+use Rattle.drm_gate.proofs.LendingLemmas.{is_there, up_then}
 use Rattle.drm_gate.proofs.apart.send_over.Goals as goal
-
-pub returns-clause-tells : goal.returns-clause-tells
-returns-clause-tells g c =
-    let within = is_there c.args.to.now c.args.k c.requires.up in
-    each_tells g.K.Link.known c.args.to.now c.args.k c.args.bytes.now c.send_by.result c.send_by.new.member within c.index-to-k.result (c.send_by.ensures.tells c.args.k)
 
 pub returns-clause-up : goal.returns-clause-up
 returns-clause-up g c =

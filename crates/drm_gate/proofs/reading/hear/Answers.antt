@@ -1,10 +1,7 @@
-use Rattle.std.proofs.Common.{inl, sym, subst}
+use Rattle.std.proofs.Common.{sym, subst}
 use Rattle.recv_reading.proofs.Common.{ReadingReached, ReadingWaits}
 use Rattle.recv_reading.proofs.Reaching.{broken, drained}
 use Rattle.drm_gate.proofs.reading.hear.Goals as goal
-
-pub returns-then-stops_at_limit-clause-hears : goal.returns-then-stops_at_limit-clause-hears
-returns-then-stops_at_limit-clause-hears g c = λ rules answers taken during more z. inl (g.met.R.Outlets.nothing c.args.relay.now, c.stops_at_limit.ensures.reached rules answers taken during more z c.if-stops_at_limit.true)
 
 pub returns-in-Failed-clause-hears : goal.returns-in-Failed-clause-hears
 returns-in-Failed-clause-hears g c = λ rules answers taken during more z.

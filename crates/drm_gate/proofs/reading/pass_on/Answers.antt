@@ -20,10 +20,6 @@ answers-init g c =
       c.requires.buffer,
     )
 
-pub pass_next-requires-clause-is_ready : goal.pass_next-requires-clause-is_ready
-pass_next-requires-clause-is_ready g c =
-    (gives_so c.gives.result c.answers.reading c.answers.collector c.gives.new.self c.gives.ensures.gives c.if-gives.true).1
-
 pub pass_next-requires-clause-counted : goal.pass_next-requires-clause-counted
 pass_next-requires-clause-counted g c = counted _ _ _ _ _ _ _ _ c.answers.invariant.0
 
@@ -56,9 +52,6 @@ answers-preserved-then-gives g c =
 pub passed_all-requires-clause-sent : goal.passed_all-requires-clause-sent
 passed_all-requires-clause-sent g c = let s = sent_limit _ _ _ _ _ _ _ _ c.answers.invariant.0 in omega (arith, s)
 
-pub passed_all-requires-clause-links : goal.passed_all-requires-clause-links
-passed_all-requires-clause-links g c = omega (arith, c.answers.invariant.0.same_count, c.requires.links.1)
-
 pub returns-then-has_ended : goal.returns-then-has_ended
 returns-then-has_ended g c =
     let rules = rules_of c.args.collector.now c.args.options.now in
@@ -68,10 +61,6 @@ returns-then-has_ended g c =
     (sym (gives_none c.gives.result c.answers.reading c.answers.collector c.gives.new.self c.gives.ensures.gives c.if-gives.false).1) c.answers.invariant.0 in
     loop_over _ _ _ _ _ _ _ _ p c.passed_all.result (sym c.has_ended.ensures ∙ c.if-has_ended.true)
     (rests_over c.gives.result c.answers.reading c.answers.collector c.gives.new.self c.gives.ensures.gives c.if-gives.false) c.passed_all.ensures
-
-pub hear-requires-clause-waits : goal.hear-requires-clause-waits
-hear-requires-clause-waits g c =
-    rests_waiting c.gives.result c.answers.reading c.answers.collector c.gives.new.self c.gives.ensures.gives c.if-gives.false (sym c.has_ended.ensures ∙ c.if-has_ended.false)
 
 pub returns-then-not-hear : goal.returns-then-not-hear
 returns-then-not-hear g c =

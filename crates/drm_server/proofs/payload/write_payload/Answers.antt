@@ -1,9 +1,8 @@
-use Rattle.std.proofs.Common.{◌≡◌, ◌+◌, ◌%◌, ◌==◌, length, sum_by, ap, sym, ◌∙◌, arith}
+use Rattle.std.proofs.Common.{◌≡◌, ◌+◌, ◌%◌, ◌==◌, length, sum_by, ap, ◌∙◌, arith}
 use Rattle.drm_schedule.specs.declared.stream.Stream.{Stream}
 use Rattle.drm_schedule.specs.Sizes.{packet_len, stream_size}
 use Rattle.drm_timeline.proofs.PacketSizes.{size_is}
-use Rattle.live_streams.specs.Live.{size_from}
-use Rattle.drm_server.proofs.PayloadLemmas.{front, piece_is, payload_is}
+use Rattle.drm_server.proofs.PayloadLemmas.{front, payload_is}
 use Rattle.drm_server.proofs.payload.write_payload.Goals as goal
 
 pub returns-clause-written : goal.returns-clause-written
@@ -34,8 +33,3 @@ write_streams-requires-clause-place c =
       order = c.write_block_where.ensures.to;
       room = omega (arith, len, streams, c.packet_len.ensures.in_range, c.packet_len.ensures.within, ap length c.new-writer.ensures.behind, c.told-into, c.write_head.ensures.remaining, c.write_block_where.ensures.remaining);
     }
-
-pub write_streams-requires-clause-piece : goal.write_streams-requires-clause-piece
-write_streams-requires-clause-piece c =
-    let config = c.config_of_frame-config in
-    c.requires.piece ∙ piece_is c.args.live.now c.args.plan.now c.args.t config.result.now config.ensures.config ∙ ap (size_from c.args.live.now 0) (sym c.as_slice.ensures)

@@ -1,14 +1,11 @@
-use Rattle.std.proofs.Common.{◌≡◌, ◌∙◌, ℕ, suc, List, [], refl, subst, arith, add-one, length}
+use Rattle.std.proofs.Common.{◌≡◌, ◌∙◌, ℕ, suc, List, subst, arith, add-one, length}
 use Rattle.drm_links.specs.Calls.{Call, each, CallsMake}
-use Rattle.drm_links.proofs.CallLemmas.{Make-none, Make-then, Tells-none, Tells-then}
+use Rattle.drm_links.proofs.CallLemmas.{Make-then, Tells-then}
 use Rattle.drm_links.specs.History.{GroupTells}
 use Rattle.drm_server.specs.Datagrams.{AreOfFrame}
 use Rattle.drm_server.specs.Serving.{turn}
 use Rattle.drm_server.specs.ServerState.{ServerState}
 use Rattle.drm_server.proofs.send.serve_frame.Goals as goal
-
-pub loop-k-init : goal.loop-k-init
-loop-k-init g c = (refl, Make-none [] (g.G.Group.up c.args.group.now) (λ events. GroupTells events (g.G.Group.known c.args.group.now) (g.G.Group.known c.args.group.now)) (refl, refl) (Tells-none (g.G.Group.known c.args.group.now)))
 
 pub loop-k-preserved : goal.loop-k-preserved
 loop-k-preserved g c =

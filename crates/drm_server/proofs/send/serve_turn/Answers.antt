@@ -1,4 +1,3 @@
-use Rattle.std.proofs.Common.{◌∙◌, List, Bool, ap, length}
 use Rattle.drm_links.specs.Calls.{sends}
 use Rattle.drm_links.specs.History.{GroupTells}
 use Rattle.drm_links.proofs.CallLemmas.{Make-then, Tells-then}
@@ -12,6 +11,3 @@ returns-clause-made g c =
     let b = g.G.Group.known c.send.new.outlets in
     Make-then (pause c.args.pace c.args.n c.args.k) (sends c.args.k c.args.datagrams.now) (g.G.Group.up c.args.group.now) (g.G.Group.up c.rest_before.new.group) (g.G.Group.up c.send.new.outlets)
     (λ events. GroupTells events a m) (λ events. GroupTells events m b) (λ events. GroupTells events a b) (λ x y first second. Tells-then x y a m b first second) c.rest_before.ensures.made c.send.ensures.made
-
-pub returns-clause-same_count : goal.returns-clause-same_count
-returns-clause-same_count g c = c.send.ensures.same_count ∙ ap (λ (l : List Bool). length l) c.rest_before.ensures.same

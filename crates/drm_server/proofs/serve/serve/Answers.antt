@@ -69,14 +69,3 @@ returns-clause-count g c =
     let plan : Plan = c.args.loaded.now.base in
     let all : c.loop-n.n ≡ frames_in c.args.stretch plan = omega (arith, c.loop-n-test.false, c.loop-n.auto.n-end, c.frames_in-n-end.ensures.frames) in
     (i.0, subst (λ k. AreOfFrames plan (first_in c.args.stretch) k i.0) all i.1, i.8)
-
-pub returns-in_err-waiting-clause-begun : goal.returns-in_err-waiting-clause-begun
-returns-in_err-waiting-clause-begun g c =
-    let p = err_from_is_err_and c.from_residual.result c.from_residual.ensures.1 in
-    rw p.1 (omega (arith, c.loop-n-test.true, c.frames_in-n-end.ensures.frames))
-
-pub returns-in_err-write_all-clause-begun : goal.returns-in_err-write_all-clause-begun
-returns-in_err-write_all-clause-begun g c =
-    let p = err_from_is_err_and c.from_residual-in_err-write_all.result c.from_residual-in_err-write_all.ensures.1 in
-    let some = c.loop-n.invariant.3 (omega arith) in
-    rw p.1 (omega (arith, some.2.within))

@@ -1,7 +1,6 @@
 use Rattle.std.proofs.Common.{◌≡◌, ◌<◌, ◌+◌, ◌∙◌, ℕ, inl, inr, Err, refl, sym, ap, subst, arith}
 use Rattle.std.proofs.lemmas.Result.{err_from_is_err_and}
 use Rattle.drm_schedule.specs.declared.plan.Plan.{Plan}
-use Rattle.drm_timeline.specs.Numbers.{frame_count}
 use Rattle.drm_server.specs.Stretch.{first_in, frames_in}
 use Rattle.drm_server.proofs.StretchLemmas.{as_many}
 use Rattle.drm_links.specs.Sink.{OutputsText}
@@ -25,13 +24,6 @@ loop-n-init g c = (
   refl,
   refl,
 )
-
-pub load-requires-clause-frame : goal.load-requires-clause-frame
-load-requires-clause-frame g c =
-    let same = ap frame_count c.loop-n.invariant.3 in
-    let less = c.frames_in-n-end.ensures.within c.loop-n.n c.loop-n-test.true in
-    let at = c.frame.ensures in
-    omega (arith, same, less, at)
 
 pub returns-in_err-load-clause-wrote : goal.returns-in_err-load-clause-wrote
 returns-in_err-load-clause-wrote g c =

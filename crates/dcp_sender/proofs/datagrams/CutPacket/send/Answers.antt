@@ -1,16 +1,10 @@
-use Rattle.std.proofs.Common.{◌≡◌, ◌∙◌, ◌+◌, ℕ, List, [], ◌∷◌, ◌++◌, refl, sym, subst, ap, take, arith}
+use Rattle.std.proofs.Common.{◌≡◌, ◌∙◌, ◌+◌, ℕ, List, [], ◌∷◌, ◌++◌, sym, subst, ap, take, arith}
 use Rattle.std.proofs.lemmas.Grind.{take_at_read}
-use Rattle.std.proofs.lemmas.List.{map-append, take_all}
+use Rattle.std.proofs.lemmas.List.{map-append}
 use Rattle.drm_links.specs.History.{GroupEvent}
 use Rattle.drm_links.specs.Calls.{Call, Send, sends, CallsMake}
-use Rattle.drm_links.proofs.CallLemmas.{Make-none, Make-then}
+use Rattle.drm_links.proofs.CallLemmas.{Make-then}
 use Rattle.dcp_sender.proofs.datagrams.CutPacket.send.Goals as goal
-
-pub loop-i-init : goal.loop-i-init
-loop-i-init g c = (refl, Make-none [] (g.O.Outlets.up c.args.outlets.now) (λ events. g.O.Outlets.happened events c.args.outlets.now c.args.outlets.now) (refl, refl) (g.met.O.Outlets.nothing c.args.outlets.now))
-
-pub get-requires : goal.get-requires
-get-requires g c = omega (arith, c.count-i-end.ensures.number, c.loop-i-test.true, c.loop-i.auto.i-end)
 
 pub loop-i-preserved : goal.loop-i-preserved
 loop-i-preserved g c =
@@ -34,9 +28,3 @@ loop-i-preserved g c =
     let calls : sends k (take (i + 1) datagrams) ≡ sends k (take i datagrams) ++ Send k one ∷ [] =
     ap (sends k) more ∙ map-append (λ (bytes : List ℕ). Send k bytes) (take i datagrams) (one ∷ []) in
     (c.send_datagram.ensures.same_count ∙ c.loop-i.invariant.0, subst (λ (l : List Call). CallsMake l u w now) (sym calls) all)
-
-pub returns-clause-made : goal.returns-clause-made
-returns-clause-made g c =
-    let all : take c.loop-i.i c.args.self.now ≡ c.args.self.now = take_all c.loop-i.i c.args.self.now (omega (arith, c.count-i-end.ensures.number, c.loop-i-test.false, c.loop-i.auto.i-end)) in
-    let now : List GroupEvent → Type 0 = λ events. g.O.Outlets.happened events c.args.outlets.now c.loop-i.outlets in
-    subst (λ (ds : List (List ℕ)). CallsMake (sends c.args.k ds) (g.O.Outlets.up c.args.outlets.now) (g.O.Outlets.up c.loop-i.outlets) now) all c.loop-i.invariant.1
